@@ -1,0 +1,5 @@
+-- Laws that the proofs of every layer share.
+pub mod Tests
+pub mod Chain
+pub mod Ranged
+pub mod Parts

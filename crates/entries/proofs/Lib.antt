@@ -1,0 +1,3 @@
+-- Laws of the dispatch table.
+pub mod Sums
+pub mod Cases

@@ -1,0 +1,15 @@
+-- `entries::larger_of` meets its contract: the larger of the two. Assumes nothing.
+use borrow.Author.Tests.{lt-ltb, le-ltb}
+use Rattle.entries.proofs.larger_of.Statement.{statement}
+use Rattle.entries.proofs.larger_of.Tie as tie
+use Rattle.entries.proofs.larger_of.Reads as reads
+use Rattle.entries.proofs.larger_of.Lts as lts
+
+returns : tie.Need-returns
+returns c = rw (lt-ltb _ _ (c .if1 .taken))
+
+returns-2 : tie.Need-returns-2
+returns-2 c = rw (le-ltb _ _ (c .if1 .left))
+
+pub larger-of-spec : {M : Type 1} → statement M
+larger-of-spec = tie.close (tie.spec returns returns-2)

@@ -1,0 +1,2 @@
+-- The dispatch table of a vfont2 file.
+pub mod Entries

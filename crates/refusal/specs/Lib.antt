@@ -1,0 +1,2 @@
+-- The refusals' numbers and places.
+pub mod Refusals
