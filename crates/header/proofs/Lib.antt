@@ -1,0 +1,2 @@
+-- Laws of the headers.
+pub mod Cases

@@ -1,0 +1,14 @@
+-- `header::Psf1::table_of` meets its contract: bit 1 of the mode decides. Assumes nothing.
+use Rattle.header.specs.Headers.{psf1Table}
+use mathlib.Core.Path.{refl}
+use Rattle.header.proofs.Psf1.table_of.Statement.{statement}
+use Rattle.header.proofs.Psf1.table_of.Tie as tie
+use Rattle.header.proofs.Psf1.table_of.Reads as reads
+use Rattle.header.proofs.Psf1.table_of.Lts as lts
+
+returns : tie.Need-returns
+unfolding psf1Table
+returns c = refl
+
+pub table-of-spec : {M : Type 1} → statement M
+table-of-spec = tie.close (tie.spec returns)

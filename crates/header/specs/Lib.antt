@@ -1,0 +1,2 @@
+-- What the three files' headers say.
+pub mod Headers
