@@ -1,2 +1,3 @@
 -- Laws of the headers.
 pub mod Cases
+pub mod Inverse

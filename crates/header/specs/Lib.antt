@@ -1,2 +1,3 @@
 -- What the three files' headers say.
 pub mod Headers
+pub mod Placed
