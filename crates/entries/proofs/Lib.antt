@@ -1,3 +1,4 @@
 -- Laws of the dispatch table.
 pub mod Sums
 pub mod Cases
+pub mod Inverse

@@ -88,7 +88,7 @@ module _ (s : List ℕ) (f : Font) (short : length s ≤ limit) where
     entries-placed h w l e = go (scanOf s (k .size) (k .count) (k .header) 0 0) refl e
       where
         go : (x : Scan) → scanOf s (k .size) (k .count) (k .header) 0 0 ≡ x →
-            elim x [ | Bad at ↦ Refused (Rattle.refusal.specs.declared.Refusal.the-variants.Entry at) | Greatest h w ↦ greatestOf k h w ] ≡ Sound f → Placed s f
+            elim x [ Bad at ↦ Refused (Rattle.refusal.specs.declared.Refusal.the-variants.Entry at) | Greatest h w ↦ greatestOf k h w ] ≡ Sound f → Placed s f
         go (Bad at) q e = absurd (never _ f e)
         go (Greatest x y) q e =
             let a = passes _ _ _ f e in

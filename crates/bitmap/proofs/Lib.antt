@@ -1,0 +1,2 @@
+-- Laws of bitmaps.
+pub mod Places

@@ -1,0 +1,107 @@
+-- A bitmap that is found stands in the file, and so does each of its rows and the byte of each of its pixels.
+use mathlib.Core.Path.{_≡_, refl, sym, _∙_, ap}
+use mathlib.Core.List.{List}
+use mathlib.Core.Bool.{Bool, true, false}
+use Prim.Native.Nat.{ℕ, suc, _+_, _*_, _/_, _%_, _≤_, _<_}
+use native.Mathlib.Omega.{arith}
+use native.Mathlib.Nat.{mul-le-mul-right}
+use lib.Dec.{ltb}
+use lib.ListN.{length, getD}
+use borrow.Author.Tests.{lt-ltb, le-ltb, ltb-true}
+use Rattle.base.specs.Choice.{when}
+use Rattle.base.proofs.Chain.{chain}
+use Rattle.refusal.specs.declared.Refusal.the-variants.{Ask}
+use Rattle.entries.specs.Entries.{addressAt, sizeAt, rowsAt, colsAt, rowBytes, glyphBytes, entryOf}
+use Rattle.entries.specs.declared.Entry.{Entry}
+use Rattle.entries.specs.declared.Entry.the-variants.{Empty, Glyph, Broken}
+use Rattle.entries.proofs.Inverse.{keeps}
+use Rattle.header.specs.declared.Kind.{Kind}
+use Rattle.header.specs.declared.Kind.the-variants.{Psf1, Psf2, Vfont2}
+use Rattle.header.specs.declared.Font.{Font}
+use Rattle.header.specs.Placed.{Placed, KindPlaced, Even, Dispatched}
+use Rattle.bitmap.specs.declared.Bitmap.{Bitmap}
+use Rattle.bitmap.specs.declared.Located.{Located}
+use Rattle.bitmap.specs.declared.Located.the-variants.{Found, Missing}
+use Rattle.bitmap.specs.declared.Part.the-variants.{At, Refused}
+use Rattle.bitmap.specs.declared.Pixel.the-variants.{Bit, NoPixel}
+use Rattle.bitmap.specs.Bitmaps.{evenBitmap, entryBitmap, kindBitmap, bitmapOf, Inside, LocatedInside, PartInside, rowOf, bitOf, pixelOf}
+
+module _ (s : List ℕ) (f : Font) (g : ℕ) (p : Placed s f) (h : g < f .count) where
+  pub even-inside : Even f → Inside s (evenBitmap f g)
+  even-inside e = (omega (arith, p .7, e .0, mul-le-mul-right {m = suc g} {n = f .count} (f .size) h), e .1, p .3, p .4)
+
+  by-entry : (at : ℕ) → f .end ≡ f .bitmaps + f .size → (x : Entry) → entryOf s (f .size) at ≡ x → LocatedInside s (entryBitmap s f at x)
+  by-entry at e Empty q = tt
+  by-entry at e (Glyph r c) q =
+      let k = keeps s (f .size) at r c q in
+      let i = k .0 .inside in
+      let z = k .0 .size in
+      let rh = k .0 .rows-high in
+      let ch = k .0 .cols-high in
+      (omega (arith, p .7, i), z ∙ rw (k .1, k .2), rw (k .1) rh, rw (k .2) ch)
+  by-entry at e Broken q = tt
+
+  by-kind : (k : Kind) → KindPlaced f k → LocatedInside s (kindBitmap s f g k)
+  by-kind Psf1 e = even-inside e
+  by-kind Psf2 e = even-inside e
+  by-kind Vfont2 e = by-entry (f .entries + g * 18) (e .1) (entryOf s (f .size) (f .entries + g * 18)) refl
+
+  pub known : (k : Kind) → f .kind ≡ k → kindBitmap s f g k ≡ bitmapOf s f g
+  unfolding bitmapOf when
+  known k e = rw (lt-ltb g (f .count) h, e)
+
+  pub located-inside : LocatedInside s (bitmapOf s f g)
+  located-inside = rw (← (known (f .kind) refl)) (by-kind (f .kind) (p .8))
+
+  -- the entry of glyph g stands before the bitmaps
+  pub entry-inside : Dispatched f → f .entries + g * 18 + 18 ≤ length s
+  entry-inside e = omega (arith, p .6, p .7, e .0, mul-le-mul-right {m = suc g} {n = f .count} 18 h)
+
+  -- glyph g begins no later than the bitmaps end
+  pub even-start : Even f → f .bitmaps + g * f .size ≤ 1048576
+  even-start e = let i = even-inside e in omega (arith, p .0, i .0)
+
+pub too-high : (s : List ℕ) (f : Font) (g : ℕ) → f .count ≤ g → Missing Ask ≡ bitmapOf s f g
+unfolding bitmapOf when
+too-high s f g h = rw (le-ltb g (f .count) h)
+
+-- rows
+module _ (s : List ℕ) (b : Bitmap) (i : Inside s b) (y : ℕ) (h : y < b .height) where
+  pub row-inside : b .start + y * rowBytes (b .width) + rowBytes (b .width) ≤ length s
+  unfolding glyphBytes
+  row-inside =
+      let e : b .len ≡ b .height * rowBytes (b .width) = i .1 in
+      omega (arith, i .0, e, mul-le-mul-right {m = suc y} {n = b .height} (rowBytes (b .width)) h)
+
+  -- the same, with the bytes of a row as they were read
+  module _ (k : ℕ) (e : k ≡ rowBytes (b .width)) where
+    pub row-fits : b .start + y * k + k ≤ length s
+    row-fits = rw e row-inside
+
+    pub row-read : At (b .start + y * k) k ≡ rowOf (Found b) y
+    unfolding when
+    row-read = rw (e, lt-ltb y (b .height) h)
+
+    module _ (x : ℕ) (w : x < b .width) where
+      pub pixel-inside : b .start + y * k + x / 8 < length s
+      pixel-inside = let z : x / 8 < (b .width + 7) / 8 = omega arith in omega (arith, row-fits, e)
+
+      pub pixel-read : (v : ℕ) → v ≡ bitOf (getD s (b .start + y * k + x / 8) 0) (x % 8) → Bit v ≡ pixelOf s (Found b) y x
+      unfolding when
+      pixel-read v q = rw (q, e, lt-ltb y (b .height) h, lt-ltb x (b .width) w)
+
+  pub pixel-beside : (x : ℕ) → b .width ≤ x → NoPixel Ask ≡ pixelOf s (Found b) y x
+  unfolding when
+  pixel-beside x w = rw (lt-ltb y (b .height) h, le-ltb x (b .width) w)
+
+pub row-below : (b : Bitmap) (y : ℕ) → b .height ≤ y → Refused Ask ≡ rowOf (Found b) y
+unfolding when
+row-below b y h = rw (le-ltb y (b .height) h)
+
+pub pixel-below : (s : List ℕ) (b : Bitmap) (y x : ℕ) → b .height ≤ y → NoPixel Ask ≡ pixelOf s (Found b) y x
+unfolding when
+pixel-below s b y x h = rw (le-ltb y (b .height) h)
+
+-- a byte's last bit
+pub last-bit : (b : ℕ) → b % 2 ≡ bitOf b 7
+last-bit b = let z : b / 1 ≡ b = omega arith in rw z

@@ -1,0 +1,52 @@
+-- `bitmap::pixel_of` meets its contract: the pixel's byte stands in its row. Assumes nothing.
+use Rattle.bitmap.proofs.Places.{row-fits, pixel-inside, pixel-read, pixel-beside, pixel-below}
+use mathlib.Core.Path.{_≡_, sym, _∙_, ap}
+use native.Mathlib.Omega.{arith}
+use borrow.Author.Needs.{needs}
+use Rattle.bitmap.proofs.pixel_of.Statement.{statement}
+use Rattle.bitmap.proofs.pixel_of.Tie as tie
+use Rattle.bitmap.proofs.pixel_of.Reads as reads
+use Rattle.bitmap.proofs.pixel_of.Lts as lts
+use Rattle.bitmap.proofs.bit_of.Reads as bit-of-reads
+use Rattle.entries.proofs.row_bytes.Reads as row-bytes-reads
+
+row-bytes-requires : tie.Need-row-bytes-requires
+row-bytes-requires c κs = search needs
+
+mul-at : tie.Need-mul-at
+mul-at c = omega (arith, c .before .before .before .before .before .before .pre .0, row-fits (c .before .before .before .before .before .before .args .file .now) (c .before .before .before .before .before .before .args .b) (c .before .before .before .before .before .before .pre .1) (c .before .before .before .before .before .before .args .y) (c .before .before .before .if1 .taken) _ (c .row-bytes .ensures .0))
+
+add-at : tie.Need-add-at
+add-at c = omega (arith, c .before .before .before .before .before .before .before .pre .0, row-fits (c .before .before .before .before .before .before .before .args .file .now) (c .before .before .before .before .before .before .before .args .b) (c .before .before .before .before .before .before .before .pre .1) (c .before .before .before .before .before .before .before .args .y) (c .before .before .before .before .if1 .taken) _ (c .before .row-bytes .ensures .0))
+
+add-at-2 : tie.Need-add-at-2
+add-at-2 c = omega (arith, c .before .before .before .before .before .before .before .pre .0, pixel-inside (c .before .before .before .before .before .before .before .args .file .now) (c .before .before .before .before .before .before .before .args .b) (c .before .before .before .before .before .before .before .pre .1) (c .before .before .before .before .before .before .before .args .y) (c .before .before .before .before .if1 .taken) _ (c .before .row-bytes .ensures .0) (c .before .before .before .before .before .before .before .args .x) (c .before .before .if2 .taken))
+
+shared-slice-read-bit-of : tie.Need-shared-slice-read-bit-of
+shared-slice-read-bit-of c = pixel-inside (c .before .before .before .before .before .before .before .before .args .file .now) (c .before .before .before .before .before .before .before .before .args .b) (c .before .before .before .before .before .before .before .before .pre .1) (c .before .before .before .before .before .before .before .before .args .y) (c .before .before .before .before .before .if1 .taken) _ (c .before .before .row-bytes .ensures .0) (c .before .before .before .before .before .before .before .before .args .x) (c .before .before .before .if2 .taken)
+
+bit-of-requires : tie.Need-bit-of-requires
+bit-of-requires c κs = search needs
+
+returns : tie.Need-returns
+returns c = pixel-read (c .before .before .before .before .before .before .before .before .before .args .file .now) (c .before .before .before .before .before .before .before .before .before .args .b) (c .before .before .before .before .before .before .before .before .before .pre .1) (c .before .before .before .before .before .before .before .before .before .args .y) (c .before .before .before .before .before .before .if1 .taken) _ (c .before .before .before .row-bytes .ensures .0) (c .before .before .before .before .before .before .before .before .before .args .x) (c .before .before .before .before .if2 .taken) _ (c .bit-of .ensures)
+
+returns-2 : tie.Need-returns-2
+returns-2 c = pixel-beside (c .before .before .before .before .before .args .file .now) (c .before .before .before .before .before .args .b) (c .before .before .before .before .before .pre .1) (c .before .before .before .before .before .args .y) (c .before .before .if1 .taken) (c .before .before .before .before .before .args .x) (c .if2 .left)
+
+returns-3 : tie.Need-returns-3
+returns-3 c = pixel-below (c .before .before .before .args .file .now) (c .before .before .before .args .b) (c .before .before .before .args .y) (c .before .before .before .args .x) (c .if1 .left)
+
+pub pixel-of-spec : {M : Type 1} → statement M
+pixel-of-spec =
+    tie.close
+    (tie.spec
+    row-bytes-requires
+    mul-at
+    add-at
+    add-at-2
+    shared-slice-read-bit-of
+    bit-of-requires
+    returns
+    returns-2
+    returns-3)

@@ -1,0 +1,2 @@
+-- A glyph's bitmap, its rows and its pixels.
+pub mod Bitmaps
