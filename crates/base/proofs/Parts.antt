@@ -1,6 +1,6 @@
 -- Parts of a slice as lists, and that a slice's elements are bytes.
 use mathlib.Core.Path.{_≡_}
-use mathlib.Core.List.{List, [], _∷_}
+use mathlib.Core.List.{List, [], _∷_, _++_}
 use Prim.Native.Nat.{ℕ, zero, suc, _-_, _≤_, _<_}
 use native.Mathlib.Omega.{arith}
 use lib.ListN.{length, getD, take, drop, length-drop}
@@ -24,3 +24,11 @@ pub bytes-take : (k : ℕ) (s : List ℕ) → Bytes s → Bytes (take k s)
 bytes-take zero s y = tt
 bytes-take (suc k) [] y = tt
 bytes-take (suc k) (b ∷ s) y = (y .0, bytes-take k s (y .1))
+
+pub bytes-append : (s t : List ℕ) → Bytes s → Bytes t → Bytes (s ++ t)
+bytes-append [] t y z = z
+bytes-append (b ∷ s) t y z = (y .0, bytes-append s t (y .1) z)
+
+pub bytes-right : (s t : List ℕ) → Bytes (s ++ t) → Bytes t
+bytes-right [] t y = y
+bytes-right (b ∷ s) t y = bytes-right s t (y .1)

@@ -1,0 +1,2 @@
+-- Both codings keep the laws of a coding.
+pub mod Codings

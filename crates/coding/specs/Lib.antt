@@ -1,0 +1,2 @@
+-- The two codings as one.
+pub mod Coding

@@ -1,0 +1,2 @@
+-- Laws of the whole check.
+pub mod Cases

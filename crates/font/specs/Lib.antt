@@ -1,0 +1,2 @@
+-- The check of a whole font.
+pub mod Check

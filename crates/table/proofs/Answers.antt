@@ -1,0 +1,292 @@
+-- What each answer says of the bytes that the check is given, from any phase on: the items that they are, or how far
+-- they could still be completed. One induction over the tokens, for both codings at once.
+use mathlib.Core.Path.{_≡_, refl, sym, _∙_, ap, subst}
+use mathlib.Core.Bool.{Bool, true, false}
+use mathlib.Core.List.{List, [], _∷_, _++_, append-assoc}
+use Prim.Native.Nat.{ℕ, zero, suc, _+_, _-_, _≤_, _<_}
+use native.Mathlib.Omega.{arith}
+use lib.ListN.{length, take, drop, length-append, length-drop}
+use lib.Seq.{take-append-add, take-append-le, take-at, length-take-le}
+use Rattle.base.specs.Bytes.{Bytes}
+use Rattle.base.proofs.Parts.{bytes-drop, bytes-take}
+use Rattle.token.specs.declared.Token.{Token}
+use Rattle.token.specs.declared.Token.the-variants.{Value as TokenValue, Start as TokenStart, End as TokenEnd, Cut as TokenCut, Bad as TokenBad}
+use Rattle.token.proofs.Stopping.{Begun}
+use Rattle.coding.specs.declared.Coding.{Coding}
+use Rattle.coding.specs.Coding.{readToken, markLen, valueOf, valueBytes, startBytes, endBytes}
+use Rattle.coding.proofs.Codings.{coded, stopping, mark-small}
+use Rattle.table.specs.declared.Item.{Item}
+use Rattle.table.specs.declared.Item.the-variants.{Single, Start, Value, End}
+use Rattle.table.specs.declared.Step.{Step}
+use Rattle.table.specs.declared.Step.the-variants.{Start as StepStart, End as StepEnd, Cut as StepCut, Bad as StepBad}
+use Rattle.table.specs.declared.TableAnswer.{TableAnswer}
+use Rattle.table.specs.declared.TableAnswer.the-variants.{Complete, Cut as TableCut, Bad as TableBad, Trailing}
+use Rattle.table.specs.Grammar.{itemBytes, bytes, OfCoding}
+use Rattle.table.specs.Steps.{stepOf, stepsFrom}
+use Rattle.table.specs.Check.{checkSteps}
+use Rattle.table.proofs.Accepts.{Phase, singles, opened, filled, Accepts}
+use Rattle.table.proofs.Stepping.{first, stepFor, item-front}
+
+-- all that the check keeps of a phase
+abbrev pub isOpened : Phase → Bool
+isOpened singles = false
+isOpened opened = true
+isOpened filled = false
+
+-- as many end marks as descriptions are left
+abbrev ends : ℕ → List Item
+ends zero = []
+ends (suc n) = End ∷ ends n
+
+ends-accepted : (n : ℕ) → Accepts n singles (ends n)
+ends-accepted zero = tt
+ends-accepted (suc n) = ends-accepted n
+
+module _ (c : Coding) where
+  -- the check of bytes that stand at a place, from a phase on
+  abbrev pub walk : ℕ → Phase → ℕ → List ℕ → TableAnswer
+  walk n p at s = checkSteps (at + length s) n (isOpened p) at (stepsFrom c at 0 s)
+
+  -- the items that bytes are, from a phase on
+  pub record Read (n : ℕ) (p : Phase) (s : List ℕ) : Type 0 where
+    pub found : List Item
+    pub of : OfCoding c found
+    pub accepted : Accepts n p found
+    pub same : s ≡ bytes c found
+
+  -- further bytes that complete some
+  pub record More (n : ℕ) (p : Phase) (s : List ℕ) : Type 0 where
+    pub more : List ℕ
+    pub read : Read n p (s ++ more)
+
+  -- the check stops at a place with an answer, whatever follows: the start before it is Q, with one byte more it is not
+  pub record Stops (n : ℕ) (p : Phase) (at : ℕ) (s : List ℕ) (a : TableAnswer) (j : ℕ) (Q : List ℕ → Type 0) : Type 0 where
+    pub good : ℕ
+    pub place : j ≡ at + good
+    pub within : good < length s
+    pub start : Q (take good s)
+    pub never : (y : List ℕ) → walk n p at (take (suc good) s ++ y) ≡ a
+
+  abbrev pub Says : ℕ → Phase → ℕ → List ℕ → TableAnswer → Type 0
+  Says n p at s Complete = Read n p s
+  Says n p at s (TableCut j) = (j ≡ at + length s) × More n p s
+  Says n p at s (TableBad j) = Stops n p at s (TableBad j) j (More n p)
+  Says n p at s (Trailing j) = Stops n p at s (Trailing j) j (Read n p)
+
+  abbrev pub Told : ℕ → Phase → ℕ → List ℕ → Type 0
+  Told n p at s = Says n p at s (walk n p at s)
+
+  heads : (i : Item) (is : List Item) → OfCoding c (i ∷ []) → OfCoding c is → OfCoding c (i ∷ is)
+  heads (Single v) is o q = (o .0, q)
+  heads (Value v) is o q = (o .0, q)
+  heads Start is o q = q
+  heads End is o q = q
+
+  ends-of : (n : ℕ) → OfCoding c (ends n)
+  ends-of zero = tt
+  ends-of (suc n) = ends-of n
+
+  -- an item in front leads from one phase to another
+  module _ (n : ℕ) (p : Phase) (n' : ℕ) (p' : Phase) (i : Item) (o : OfCoding c (i ∷ []))
+      (g : (e at next : ℕ) (xs : List Step) → checkSteps e n (isOpened p) at (stepFor c next i ∷ xs) ≡ checkSteps e n' (isOpened p') next xs)
+      (f : (is : List Item) → Accepts n' p' is → Accepts n p (i ∷ is)) where
+    on : (at : ℕ) (y : List ℕ) → walk n p at (itemBytes c i ++ y) ≡ walk n' p' (at + length (itemBytes c i)) y
+    on at y =
+        let l : at + length (itemBytes c i ++ y) ≡ at + length (itemBytes c i) + length y = omega (arith, length-append (itemBytes c i) y) in
+        ap (checkSteps (at + length (itemBytes c i ++ y)) n (isOpened p) at) (item-front c i at y o)
+        ∙ g (at + length (itemBytes c i ++ y)) at (at + length (itemBytes c i)) (stepsFrom c (at + length (itemBytes c i)) 0 y)
+        ∙ ap (λ (e : ℕ). checkSteps e n' (isOpened p') (at + length (itemBytes c i)) (stepsFrom c (at + length (itemBytes c i)) 0 y)) l
+
+    read-on : (s : List ℕ) → Read n' p' s → Read n p (itemBytes c i ++ s)
+    read-on s r =
+        record { found = i ∷ r .found; of = heads i (r .found) o (r .of); accepted = f (r .found) (r .accepted); same = ap (λ (y : List ℕ). itemBytes c i ++ y) (r .same) }
+
+    more-on : (s : List ℕ) → More n' p' s → More n p (itemBytes c i ++ s)
+    more-on s m = record { more = m .more; read = rw (append-assoc (itemBytes c i) s (m .more)) (read-on (s ++ m .more) (m .read)) }
+
+    stops-on : (at : ℕ) (s : List ℕ) (a : TableAnswer) (j : ℕ) (Q Q' : List ℕ → Type 0) → ((t : List ℕ) → Q' t → Q (itemBytes c i ++ t)) →
+        Stops n' p' (at + length (itemBytes c i)) s a j Q' → Stops n p at (itemBytes c i ++ s) a j Q
+    stops-on at s a j Q Q' h r =
+        let x = itemBytes c i in
+        let q : suc (length x + r .good) ≡ length x + suc (r .good) = omega arith in
+        record {
+          good = length x + r .good;
+          place = omega (arith, r .place);
+          within = omega (arith, r .within, length-append x s);
+          start = rw (take-append-add x s (r .good)) (h (take (r .good) s) (r .start));
+          never = λ y. rw (q, take-append-add x s (suc (r .good)), append-assoc) (on at (take (suc (r .good)) s ++ y) ∙ r .never y);
+        }
+
+    lift : (at : ℕ) (s : List ℕ) (a : TableAnswer) → Says n' p' (at + length (itemBytes c i)) s a → Says n p at (itemBytes c i ++ s) a
+    lift at s Complete r = read-on s r
+    lift at s (TableCut j) r = (omega (arith, r .0, length-append (itemBytes c i) s), more-on s (r .1))
+    lift at s (TableBad j) r = stops-on at s (TableBad j) j (More n p) (More n' p') more-on r
+    lift at s (Trailing j) r = stops-on at s (Trailing j) j (Read n p) (Read n' p') read-on r
+
+    -- the item, and what is told of the rest
+    go-on : (s : List ℕ) (l at : ℕ) → s ≡ itemBytes c i ++ drop l s → Told n' p' (at + length (itemBytes c i)) (drop l s) → Told n p at s
+    go-on s l at d r =
+        subst (λ (z : List ℕ). Told n p at z) (sym d)
+        (subst (λ (a : TableAnswer). Says n p at (itemBytes c i ++ drop l s) a) (sym (on at (drop l s)))
+        (lift at (drop l s) (walk n' p' (at + length (itemBytes c i)) (drop l s)) r))
+
+  -- a value that is begun, and as many end marks as descriptions are left, complete the table from any phase
+  begun : (n : ℕ) (s : List ℕ) (b : Begun (valueOf c) (valueBytes c) s) → s ++ (b .more ++ bytes c (ends (suc n))) ≡ valueBytes c (b .value) ++ bytes c (ends (suc n))
+  begun n s b = sym (append-assoc s (b .more) (bytes c (ends (suc n)))) ∙ ap (λ (x : List ℕ). x ++ bytes c (ends (suc n))) (b .same)
+
+  begun-more : (n : ℕ) (p : Phase) (s : List ℕ) → Begun (valueOf c) (valueBytes c) s → More (suc n) p s
+  begun-more n singles s b =
+      record { more = b .more ++ bytes c (ends (suc n)); read = record { found = Single (b .value) ∷ ends (suc n); of = (b .of, ends-of n); accepted = ends-accepted n; same = begun n s b } }
+  begun-more n opened s b =
+      record { more = b .more ++ bytes c (ends (suc n)); read = record { found = Value (b .value) ∷ ends (suc n); of = (b .of, ends-of n); accepted = ends-accepted n; same = begun n s b } }
+  begun-more n filled s b =
+      record { more = b .more ++ bytes c (ends (suc n)); read = record { found = Value (b .value) ∷ ends (suc n); of = (b .of, ends-of n); accepted = ends-accepted n; same = begun n s b } }
+
+  -- a step that ends the check at once
+  at-once : (n : ℕ) (p : Phase) (at : ℕ) (z : List ℕ) (w : Step) (a : TableAnswer) → 1 ≤ length z → stepOf (markLen c) at (readToken c z) ≡ w →
+      ((xs : List Step) → checkSteps (at + length z) (suc n) (isOpened p) at (w ∷ xs) ≡ a) → walk (suc n) p at z ≡ a
+  at-once n p at [] w a h e f = absurd (omega arith)
+  at-once n p at (b ∷ t) w a h e f = ap (checkSteps (at + length (b ∷ t)) (suc n) (isOpened p) at) (first c at b t w e) ∙ f _
+
+  -- a mark where a value has to stand
+  marked : (n at : ℕ) (x s : List ℕ) → length x ≡ markLen c → ((y : List ℕ) → walk (suc n) opened at (x ++ y) ≡ TableBad (at + (markLen c - 1))) →
+      Begun (valueOf c) (valueBytes c) (take (markLen c - 1) x) → s ≡ x ++ drop (markLen c) s → Told (suc n) opened at s
+  marked n at x s lx e b d =
+      let m = mark-small c .0 in
+      subst (λ (z : List ℕ). Told (suc n) opened at z) (sym d)
+      (subst (λ (a : TableAnswer). Says (suc n) opened at (x ++ drop (markLen c) s) a) (sym (e (drop (markLen c) s)))
+      (record {
+        good = markLen c - 1;
+        place = refl;
+        within = omega (arith, length-append x (drop (markLen c) s));
+        start = begun-more n opened (take (markLen c - 1) (x ++ drop (markLen c) s)) (rw (take-append-le (markLen c - 1) x (drop (markLen c) s) (omega arith)) b);
+        never = λ y. let q : suc (markLen c - 1) ≡ markLen c = omega arith in rw (q, take-at x (drop (markLen c) s) (markLen c) lx) (e y);
+      }))
+
+  -- a start or end mark, read where a value has to stand
+  bad-mark : (n at : ℕ) (x y : List ℕ) (t : Token) (w : Step) → length x ≡ markLen c → readToken c (x ++ y) ≡ t → stepOf (markLen c) at t ≡ w →
+      ((e : ℕ) (xs : List Step) → checkSteps e (suc n) true at (w ∷ xs) ≡ TableBad (at + markLen c - 1)) → walk (suc n) opened at (x ++ y) ≡ TableBad (at + (markLen c - 1))
+  bad-mark n at x y t w lx e q f =
+      let m = mark-small c .0 in
+      let l : at + markLen c - 1 ≡ at + (markLen c - 1) = omega arith in
+      at-once n opened at (x ++ y) w (TableBad (at + (markLen c - 1))) (omega (arith, length-append x y)) (ap (stepOf (markLen c) at) e ∙ q) (λ xs. f (at + length (x ++ y)) xs ∙ ap TableBad l)
+
+  module _ (s : List ℕ) (h : 1 ≤ length s) (y : Bytes s) (ih : (t : List ℕ) → length t < length s → Bytes t → (n : ℕ) (p : Phase) (at : ℕ) → Told n p at t) (n at : ℕ) where
+    rest : (l : ℕ) → 1 ≤ l → (n : ℕ) (p : Phase) (at : ℕ) → Told n p at (drop l s)
+    rest l g n p at = ih (drop l s) (omega (arith, length-drop l s)) (bytes-drop l s y) n p at
+
+    by-value : (p p' : Phase) (i : Item) (v l : ℕ) → OfCoding c (i ∷ []) → itemBytes c i ≡ valueBytes c v →
+        ((e at next : ℕ) (xs : List Step) → checkSteps e (suc n) (isOpened p) at (stepFor c next i ∷ xs) ≡ checkSteps e (suc n) (isOpened p') next xs) →
+        ((is : List Item) → Accepts (suc n) p' is → Accepts (suc n) p (i ∷ is)) → valueOf c v → l ≡ length (valueBytes c v) → s ≡ valueBytes c v ++ drop l s → Told (suc n) p at s
+    by-value p p' i v l o b g f u q d =
+        go-on (suc n) p (suc n) p' i o g f s l at (d ∙ ap (λ (x : List ℕ). x ++ drop l s) (sym b))
+        (rest l (omega (arith, q, coded c .value-some v u)) (suc n) p' (at + length (itemBytes c i)))
+
+    told : (p : Phase) (t : Token) → readToken c s ≡ t → Told (suc n) p at s
+    unfolding checkSteps
+    told singles (TokenValue v l) q =
+        let w = coded c .read-value s y v l q in
+        by-value singles singles (Single v) v l (w .0, tt) refl (λ e at next xs. refl) (λ is a. a) (w .0) (w .1) (w .2)
+    told opened (TokenValue v l) q =
+        let w = coded c .read-value s y v l q in
+        by-value opened filled (Value v) v l (w .0, tt) refl (λ e at next xs. refl) (λ is a. a) (w .0) (w .1) (w .2)
+    told filled (TokenValue v l) q =
+        let w = coded c .read-value s y v l q in
+        by-value filled filled (Value v) v l (w .0, tt) refl (λ e at next xs. refl) (λ is a. a) (w .0) (w .1) (w .2)
+    told singles TokenStart q =
+        go-on (suc n) singles (suc n) opened Start tt (λ e at next xs. refl) (λ is a. a) s (markLen c) at (coded c .read-start s y q) (rest (markLen c) (mark-small c .0) (suc n) opened (at + length (startBytes c)))
+    told opened TokenStart q =
+        marked n at (startBytes c) s (coded c .start-long) (λ z. bad-mark n at (startBytes c) z TokenStart (StepStart (at + markLen c)) (coded c .start-long) (coded c .start-read z) refl (λ e xs. refl))
+        (stopping c .start-begun) (coded c .read-start s y q)
+    told filled TokenStart q =
+        go-on (suc n) filled (suc n) opened Start tt (λ e at next xs. refl) (λ is a. a) s (markLen c) at (coded c .read-start s y q) (rest (markLen c) (mark-small c .0) (suc n) opened (at + length (startBytes c)))
+    told singles TokenEnd q =
+        go-on (suc n) singles n singles End tt (λ e at next xs. refl) (λ is a. a) s (markLen c) at (coded c .read-end s y q) (rest (markLen c) (mark-small c .0) n singles (at + length (endBytes c)))
+    told opened TokenEnd q =
+        marked n at (endBytes c) s (coded c .end-long) (λ z. bad-mark n at (endBytes c) z TokenEnd (StepEnd (at + markLen c)) (coded c .end-long) (coded c .end-read z) refl (λ e xs. refl))
+        (stopping c .end-begun) (coded c .read-end s y q)
+    told filled TokenEnd q =
+        go-on (suc n) filled n singles End tt (λ e at next xs. refl) (λ is a. a) s (markLen c) at (coded c .read-end s y q) (rest (markLen c) (mark-small c .0) n singles (at + length (endBytes c)))
+    told p TokenCut q =
+        subst (λ (a : TableAnswer). Says (suc n) p at s a) (sym (at-once n p at s StepCut (TableCut (at + length s)) h (ap (stepOf (markLen c) at) q) (λ xs. refl)))
+        (refl, begun-more n p s (stopping c .cut-begun s y q))
+    told p (TokenBad k) q =
+        let d = stopping c in
+        let g : (z : List ℕ) → 1 ≤ length z → readToken c z ≡ TokenBad k → walk (suc n) p at z ≡ TableBad (at + k) =
+        λ z l e. at-once n p at z (StepBad (at + k)) (TableBad (at + k)) l (ap (stepOf (markLen c) at) e) (λ xs. refl) in
+        subst (λ (a : TableAnswer). Says (suc n) p at s a) (sym (g s h q))
+        (record {
+          good = k;
+          place = refl;
+          within = d .bad-within s k q;
+          start = begun-more n p (take k s) (d .cut-begun (take k s) (bytes-take k s y) (d .bad-cut s k q));
+          never = λ z. g (take (suc k) s ++ z) (omega (arith, length-append (take (suc k) s) z, length-take-le (suc k) s (d .bad-within s k q))) (d .bad-never s k z q);
+        })
+
+  told-nil : (n : ℕ) (p : Phase) (at : ℕ) → Told n p at []
+  unfolding checkSteps stepsFrom
+  told-nil zero p at = record { found = []; of = tt; accepted = tt; same = refl }
+  told-nil (suc n) p at = (omega arith, begun-more n p [] (stopping c .cut-begun [] tt (stopping c .nil-cut)))
+
+  told-over : (p : Phase) (at b : ℕ) (t : List ℕ) → Told zero p at (b ∷ t)
+  unfolding checkSteps stepsFrom
+  told-over p at b t =
+      record { good = 0; place = omega arith; within = omega arith; start = record { found = []; of = tt; accepted = tt; same = refl }; never = λ y. refl }
+
+  told-all : (f : ℕ) (s : List ℕ) → length s < f → Bytes s → (n : ℕ) (p : Phase) (at : ℕ) → Told n p at s
+  told-all zero s h y n p at = absurd (omega arith)
+  told-all (suc f) [] h y n p at = told-nil n p at
+  told-all (suc f) (b ∷ t) h y zero p at = told-over p at b t
+  told-all (suc f) (b ∷ t) h y (suc n) p at = told (b ∷ t) (omega arith) y (λ z g. told-all f z (omega arith)) n at p (readToken c (b ∷ t)) refl
+
+  -- what the answer on a whole tail says of it
+  pub answer-told : (n : ℕ) (s : List ℕ) → Bytes s → Told n singles 0 s
+  answer-told n s y = told-all (suc (length s)) s (omega arith) y n singles 0
+
+  -- with no description left: all is read, or something stands behind
+  abbrev pub atOver : ℕ → List ℕ → TableAnswer
+  atOver at [] = Complete
+  atOver at (b ∷ y) = Trailing at
+
+  over : (p : Phase) (at : ℕ) (y : List ℕ) → walk zero p at y ≡ atOver at y
+  unfolding checkSteps stepsFrom
+  over p at [] = refl
+  over p at (b ∷ y) = refl
+
+  -- accepted items, written, are accepted, whatever stands behind
+  abbrev Passed : ℕ → Phase → ℕ → List Item → List ℕ → Type 0
+  Passed n p at is y = walk n p at (bytes c is ++ y) ≡ atOver (at + length (bytes c is)) y
+
+  module _ (n : ℕ) (p : Phase) (n' : ℕ) (p' : Phase) (i : Item) (o : OfCoding c (i ∷ []))
+      (g : (e at next : ℕ) (xs : List Step) → checkSteps e n (isOpened p) at (stepFor c next i ∷ xs) ≡ checkSteps e n' (isOpened p') next xs)
+      (f : (is : List Item) → Accepts n' p' is → Accepts n p (i ∷ is)) where
+    pass : (at : ℕ) (is : List Item) (y : List ℕ) → Passed n' p' (at + length (itemBytes c i)) is y → Passed n p at (i ∷ is) y
+    pass at is y r =
+        let x = itemBytes c i in
+        let l : at + length x + length (bytes c is) ≡ at + length (x ++ bytes c is) = omega (arith, length-append x (bytes c is)) in
+        ap (walk n p at) (append-assoc x (bytes c is) y) ∙ on n p n' p' i o g f at (bytes c is ++ y) ∙ r ∙ ap (λ (k : ℕ). atOver k y) l
+
+  pub passes : (is : List Item) (n : ℕ) (p : Phase) (at : ℕ) (y : List ℕ) → OfCoding c is → Accepts n p is → Passed n p at is y
+  unfolding checkSteps
+  passes [] zero p at y o a = let e : at + 0 ≡ at = omega arith in over p at y ∙ ap (λ (k : ℕ). atOver k y) (sym e)
+  passes (i ∷ is) zero p at y o a = absurd a
+  passes [] (suc n) p at y o a = absurd a
+  passes (Single v ∷ is) (suc n) singles at y o a =
+      pass (suc n) singles (suc n) singles (Single v) (o .0, tt) (λ e at next xs. refl) (λ is a. a) at is y (passes is (suc n) singles _ y (o .1) a)
+  passes (Single v ∷ is) (suc n) opened at y o a = absurd a
+  passes (Single v ∷ is) (suc n) filled at y o a = absurd a
+  passes (Value v ∷ is) (suc n) singles at y o a = absurd a
+  passes (Value v ∷ is) (suc n) opened at y o a =
+      pass (suc n) opened (suc n) filled (Value v) (o .0, tt) (λ e at next xs. refl) (λ is a. a) at is y (passes is (suc n) filled _ y (o .1) a)
+  passes (Value v ∷ is) (suc n) filled at y o a =
+      pass (suc n) filled (suc n) filled (Value v) (o .0, tt) (λ e at next xs. refl) (λ is a. a) at is y (passes is (suc n) filled _ y (o .1) a)
+  passes (Start ∷ is) (suc n) singles at y o a =
+      pass (suc n) singles (suc n) opened Start tt (λ e at next xs. refl) (λ is a. a) at is y (passes is (suc n) opened _ y o a)
+  passes (Start ∷ is) (suc n) opened at y o a = absurd a
+  passes (Start ∷ is) (suc n) filled at y o a =
+      pass (suc n) filled (suc n) opened Start tt (λ e at next xs. refl) (λ is a. a) at is y (passes is (suc n) opened _ y o a)
+  passes (End ∷ is) (suc n) singles at y o a =
+      pass (suc n) singles n singles End tt (λ e at next xs. refl) (λ is a. a) at is y (passes is n singles _ y o a)
+  passes (End ∷ is) (suc n) opened at y o a = absurd a
+  passes (End ∷ is) (suc n) filled at y o a =
+      pass (suc n) filled n singles End tt (λ e at next xs. refl) (λ is a. a) at is y (passes is n singles _ y o a)

@@ -1,0 +1,10 @@
+-- The laws of the table; those to read first are in Meaning.
+pub mod Meaning
+pub mod Vectors
+pub mod Stepping
+pub mod Telling
+pub mod Checking
+pub mod Accepts
+pub mod Answers
+pub mod Reading
+pub mod Places

@@ -1,0 +1,42 @@
+-- What the table's calls mean: `check_table` answers `tableOf`, and here is what `tableOf` says of the bytes, in both codings.
+use mathlib.Core.Path.{_≡_}
+use mathlib.Core.Logic.{_↔_}
+use mathlib.Core.List.{List}
+use Prim.Native.Nat.{ℕ, _<_}
+use lib.ListN.{length, take}
+use Rattle.base.specs.Bytes.{Bytes}
+use Rattle.coding.specs.declared.Coding.{Coding}
+use Rattle.table.specs.declared.TableAnswer.the-variants.{Complete, Cut, Bad, Trailing}
+use Rattle.table.specs.Grammar.{Desc, items, encode, Readable}
+use Rattle.table.specs.Steps.{itemsIn}
+use Rattle.table.specs.Check.{tableOf}
+use Rattle.table.specs.Table.{IsTable, Completable, LongestStart}
+use Rattle.table.proofs.Reading.{unique, items-back}
+use Rattle.table.proofs.Places.{complete-table, table-complete, cut-short, short-cut, bad-broken, broken-bad, trailing-over, over-trailing}
+
+-- exactly the bytes of n descriptions, nothing over, are accepted
+pub complete-exactly : (c : Coding) (n : ℕ) (s : List ℕ) → Bytes s → (tableOf c n s ≡ Complete) ↔ IsTable c n s
+complete-exactly c n s y = (complete-table c n s y, table-complete c n s)
+
+-- a table has one reading: other descriptions have other bytes
+pub one-reading : (c : Coding) (ds es : List Desc) → Readable c ds → Readable c es → encode c ds ≡ encode c es → ds ≡ es
+one-reading = unique
+
+-- the items that a table's bytes are, are those of its descriptions
+pub items-read : (c : Coding) (ds : List Desc) → Readable c ds → itemsIn c (encode c ds) ≡ items ds
+items-read = items-back
+
+-- TABLE CUT is given exactly when the whole tail could still be completed, but isn't complete; its place is the end
+pub cut-exactly : (c : Coding) (n : ℕ) (s : List ℕ) (k : ℕ) → Bytes s →
+    (tableOf c n s ≡ Cut k) ↔ ((k ≡ length s) × Completable c n s × (IsTable c n s → ⊥))
+cut-exactly c n s k y = (cut-short c n s k y, short-cut c n s k y)
+
+-- TABLE BAD is given exactly when the longest completable start is shorter than the tail and not a complete table; its place is that start's end
+pub bad-exactly : (c : Coding) (n : ℕ) (s : List ℕ) (k : ℕ) → Bytes s →
+    (tableOf c n s ≡ Bad k) ↔ (LongestStart c n s k × (k < length s) × (IsTable c n (take k s) → ⊥))
+bad-exactly c n s k y = (bad-broken c n s k y, broken-bad c n s k y)
+
+-- TRAILING is given exactly when the longest completable start is a complete table and shorter than the tail; its place is the first byte after it
+pub trailing-exactly : (c : Coding) (n : ℕ) (s : List ℕ) (k : ℕ) → Bytes s →
+    (tableOf c n s ≡ Trailing k) ↔ (LongestStart c n s k × (k < length s) × IsTable c n (take k s))
+trailing-exactly c n s k y = (trailing-over c n s k y, λ h. over-trailing c n s k (h .1) (h .2))

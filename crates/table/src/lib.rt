@@ -1,0 +1,93 @@
+// Inner layer: the table, n descriptions end to end, in either coding. Definitions: specs/Grammar.antt (what a table is),
+// specs/Steps.antt (its items one by one), specs/Check.antt (what the check answers).
+ghost use mathlib.Core.Path.{_≡_};
+ghost use Rattle.table.specs.Steps.{stepAt, StepSays};
+ghost use Rattle.table.specs.Check.{tableOf};
+use coding::Coding;
+use token::Token;
+
+// What stands in a description, one after the other: a single value, a start mark, a value in a sequence, the end mark.
+pub enum Item {
+    Single(u32),
+    Start,
+    Value(u32),
+    End,
+}
+
+// What stands at a place of a tail, and the place after it; Cut where it is not all there, Bad with the first wrong place.
+pub enum Step {
+    Value(u32, usize),
+    Start(usize),
+    End(usize),
+    Cut,
+    Bad(usize),
+}
+
+// The step from a place on; Cut from the end on. The place after it is past `at` and within the bytes.
+pub fn step_at(c: Coding, s: &[u8], at: usize) -> Step
+    ensures { λ r. ⌜ (r ≡ stepAt c (now (s .entry)) at) × StepSays c (now (s .entry)) at r ⌝ }
+{
+    if s.len() <= at {
+        return Step::Cut;
+    }
+    let mark = coding::mark_len(c);
+    let t = coding::read_token(c, &s[at..]);
+    match t {
+        Token::Value(v, l) => Step::Value(v, at + l),
+        Token::Start => Step::Start(at + mark),
+        Token::End => Step::End(at + mark),
+        Token::Cut => Step::Cut,
+        Token::Bad(k) => Step::Bad(at + k),
+    }
+}
+
+// What the check of a table says. Places are counted from the table's first byte.
+pub enum TableAnswer {
+    Complete,
+    Cut(usize),
+    Bad(usize),
+    Trailing(usize),
+}
+
+// Whether the tail is n descriptions, nothing over. Cut: it could still be completed, the place is its end.
+// Bad: the place is the end of the longest start that could be completed, and that start is no table.
+// Trailing: that start is a table, and the place is the first byte after it.
+pub fn check_table(c: Coding, tail: &[u8], n: usize) -> TableAnswer
+    ensures { λ r. ⌜ r ≡ tableOf c n (now (tail .entry)) ⌝ }
+{
+    let mut left = n;
+    let mut opened = false;
+    let mut at: usize = 0;
+    while at < tail.len() {
+        if left == 0 {
+            return TableAnswer::Trailing(at);
+        }
+        let t = step_at(c, tail, at);
+        match t {
+            Step::Value(_, next) => {
+                opened = false;
+                at = next;
+            }
+            Step::Start(next) => {
+                if opened {
+                    return TableAnswer::Bad(next - 1);
+                }
+                opened = true;
+                at = next;
+            }
+            Step::End(next) => {
+                if opened {
+                    return TableAnswer::Bad(next - 1);
+                }
+                left -= 1;
+                at = next;
+            }
+            Step::Cut => return TableAnswer::Cut(tail.len()),
+            Step::Bad(k) => return TableAnswer::Bad(k),
+        }
+    }
+    if left == 0 {
+        return TableAnswer::Complete;
+    }
+    TableAnswer::Cut(at)
+}

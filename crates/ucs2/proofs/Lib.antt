@@ -1,0 +1,5 @@
+-- The laws of the reader, and PSF1's two bytes as an instance of a coding's laws.
+pub mod Pairs
+pub mod Sizes
+pub mod Coding
+pub mod Stops

@@ -1,0 +1,33 @@
+-- `readUcs2` by the length of the list and its first two elements.
+use mathlib.Core.Path.{_≡_, refl}
+use mathlib.Core.List.{List, [], _∷_}
+use Prim.Native.Nat.{ℕ, _≤_, _<_}
+use native.Mathlib.Omega.{arith}
+use lib.ListN.{length}
+use Rattle.base.specs.Numbers.{le16}
+use borrow.Author.Tests.{eq-eqb, ne-eqb}
+use Rattle.ucs2.specs.Ucs2.{readUcs2, word}
+use Rattle.token.specs.declared.Token.the-variants.{Value, Start, End, Cut}
+
+pub short : (s : List ℕ) → length s < 2 → Cut ≡ readUcs2 s
+unfolding readUcs2
+short [] h = refl
+short (a ∷ []) h = refl
+short (a ∷ (b ∷ s)) h = absurd (omega arith)
+
+pair : (s : List ℕ) → 2 ≤ length s → readUcs2 s ≡ word (le16 s 0)
+unfolding readUcs2 le16
+pair [] h = absurd (omega arith)
+pair (a ∷ []) h = absurd (omega arith)
+pair (a ∷ (b ∷ s)) h = refl
+
+-- with the two bytes' number as the code has it
+module _ (s : List ℕ) (h : 2 ≤ length s) (v : ℕ) (e : v ≡ le16 s 0) where
+  pub as-start : v ≡ 65534 → Start ≡ readUcs2 s
+  as-start a = rw (pair s h, ← e, eq-eqb v 65534 a)
+
+  pub as-end : (v ≡ 65534 → ⊥) → v ≡ 65535 → End ≡ readUcs2 s
+  as-end a b = rw (pair s h, ← e, ne-eqb v 65534 a, eq-eqb v 65535 b)
+
+  pub as-value : (v ≡ 65534 → ⊥) → (v ≡ 65535 → ⊥) → Value v 2 ≡ readUcs2 s
+  as-value a b = rw (pair s h, ← e, ne-eqb v 65534 a, ne-eqb v 65535 b)

@@ -1,0 +1,11 @@
+-- The values of PSF1's coding and their bytes, the low one first.
+use Prim.Native.Nat.{ℕ, _/_, _%_, _<_}
+use mathlib.Core.List.{List, [], _∷_}
+
+-- a value is 0000 to FFFD, surrogates included
+abbrev pub Word : ℕ → Type 0
+Word v = v < 0xFFFE
+
+-- the bytes of a value
+abbrev pub wordBytes : ℕ → List ℕ
+wordBytes v = v % 256 ∷ v / 256 ∷ []

@@ -1,0 +1,42 @@
+-- `readUtf8` by the length of the list and its first element.
+use mathlib.Core.Path.{_≡_, refl}
+use mathlib.Core.List.{List, [], _∷_}
+use Prim.Native.Nat.{ℕ, _-_, _%_, _<_}
+use native.Mathlib.Omega.{arith}
+use lib.ListN.{length, getD, drop}
+use lib.Dec.{eqb}
+use borrow.Author.Tests.{eq-eqb, ne-eqb}
+use Rattle.utf8.specs.declared.Lead.{Lead}
+use Rattle.base.specs.Choice.{pick}
+use Rattle.utf8.specs.Utf8.{conts, leadOf, readUtf8}
+use Rattle.token.specs.declared.Token.the-variants.{Start, End, Cut, Bad}
+
+pub empty : (s : List ℕ) → length s ≡ 0 → Cut ≡ readUtf8 s
+unfolding readUtf8
+empty [] h = refl
+empty (b ∷ s) h = absurd (omega arith)
+
+pub first : (s : List ℕ) → 0 < length s →
+    readUtf8 s ≡
+    pick (eqb (getD s 0 0) 0xFE) Start
+    (pick (eqb (getD s 0 0) 0xFF) End
+    (pick (eqb (leadOf (getD s 0 0) .len) 0) (Bad 0)
+    (conts (leadOf (getD s 0 0) .len - 1) (leadOf (getD s 0 0) .lo) (leadOf (getD s 0 0) .hi) (getD s 0 0 % leadOf (getD s 0 0) .modulus) 1 (drop 1 s))))
+unfolding readUtf8
+first [] h = absurd (omega arith)
+first (b ∷ s) h = refl
+
+module _ (s : List ℕ) (h : 0 < length s) where
+  pub as-start : getD s 0 0 ≡ 254 → Start ≡ readUtf8 s
+  as-start a = rw (first s h, eq-eqb (getD s 0 0) 254 a)
+
+  module _ (a : getD s 0 0 ≡ 254 → ⊥) where
+    pub as-end : getD s 0 0 ≡ 255 → End ≡ readUtf8 s
+    as-end b = rw (first s h, ne-eqb (getD s 0 0) 254 a, eq-eqb (getD s 0 0) 255 b)
+
+    module _ (b : getD s 0 0 ≡ 255 → ⊥) (l : Lead) (e : l ≡ leadOf (getD s 0 0)) where
+      pub as-bad : l .len ≡ 0 → Bad 0 ≡ readUtf8 s
+      as-bad z = rw (first s h, ne-eqb (getD s 0 0) 254 a, ne-eqb (getD s 0 0) 255 b, ← e, eq-eqb (l .len) 0 z)
+
+      pub as-value : (l .len ≡ 0 → ⊥) → conts (l .len - 1) (l .lo) (l .hi) (getD s 0 0 % l .modulus) 1 (drop 1 s) ≡ readUtf8 s
+      as-value z = rw (first s h, ne-eqb (getD s 0 0) 254 a, ne-eqb (getD s 0 0) 255 b, ← e, ne-eqb (l .len) 0 z)

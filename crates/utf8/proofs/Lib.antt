@@ -1,0 +1,7 @@
+-- The laws of the reader, and UTF-8 as an instance of a coding's laws.
+pub mod Rows
+pub mod Conts
+pub mod First
+pub mod Sizes
+pub mod Coding
+pub mod Stops

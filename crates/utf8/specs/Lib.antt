@@ -1,0 +1,3 @@
+-- Reading and writing one value in UTF-8.
+pub mod Utf8
+pub mod Scalar

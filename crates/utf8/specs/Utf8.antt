@@ -1,0 +1,41 @@
+-- One token at the front of a list of bytes: well-formed UTF-8 (Unicode, Table 3-7); FE starts a sequence, FF ends a description.
+use Prim.Native.Nat.{ℕ, zero, suc, _+_, _-_, _*_, _%_}
+use mathlib.Core.List.{List, [], _∷_}
+use lib.Dec.{eqb}
+use Rattle.base.specs.Choice.{pick, within}
+use Rattle.token.specs.declared.Token.{Token}
+use Rattle.token.specs.declared.Token.the-variants.{Value, Start, End, Cut, Bad}
+use Rattle.utf8.specs.declared.Lead.{Lead}
+
+-- a row of Table 3-7: the value's length, the modulus that leaves the first byte's bits, the bounds of the second byte
+abbrev pub row : ℕ → ℕ → ℕ → ℕ → Lead
+row n m l h = record { len = n; modulus = m; lo = l; hi = h }
+
+-- what the first byte says: Table 3-7 row by row, and last the bytes that begin no value
+unfoldable pub leadOf : ℕ → Lead
+leadOf b =
+    pick (within 0x00 0x7F b) (row 1 128 0x80 0xBF)
+    (pick (within 0xC2 0xDF b) (row 2 32 0x80 0xBF)
+    (pick (within 0xE0 0xE0 b) (row 3 16 0xA0 0xBF)
+    (pick (within 0xE1 0xEC b) (row 3 16 0x80 0xBF)
+    (pick (within 0xED 0xED b) (row 3 16 0x80 0x9F)
+    (pick (within 0xEE 0xEF b) (row 3 16 0x80 0xBF)
+    (pick (within 0xF0 0xF0 b) (row 4 8 0x90 0xBF)
+    (pick (within 0xF1 0xF3 b) (row 4 8 0x80 0xBF)
+    (pick (within 0xF4 0xF4 b) (row 4 8 0x80 0x8F)
+    (row 0 1 0x80 0xBF)))))))))
+
+-- the bytes after the first: n more, the next within lo and hi; v so far, k bytes taken
+unfoldable pub conts : ℕ → ℕ → ℕ → ℕ → ℕ → List ℕ → Token
+conts zero lo hi v k s = Value v k
+conts (suc n) lo hi v k [] = Cut
+conts (suc n) lo hi v k (b ∷ s) = pick (within lo hi b) (conts n 0x80 0xBF (v * 64 + (b - 0x80)) (k + 1) s) (Bad k)
+
+-- the token in front
+unfoldable pub readUtf8 : List ℕ → Token
+readUtf8 [] = Cut
+readUtf8 (b ∷ s) =
+    pick (eqb b 0xFE) Start
+    (pick (eqb b 0xFF) End
+    (pick (eqb (leadOf b .len) 0) (Bad 0)
+    (conts (leadOf b .len - 1) (leadOf b .lo) (leadOf b .hi) (b % leadOf b .modulus) 1 s)))

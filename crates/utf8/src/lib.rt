@@ -1,0 +1,146 @@
+// Inner layer: one token at the front of some bytes, in UTF-8 with FE and FF as marks. Definitions: specs/Utf8.antt.
+ghost use mathlib.Core.Path.{_≡_};
+ghost use Prim.Native.Nat.{_+_, _-_, _≤_, _<_};
+ghost use lib.ListN.{length, drop};
+ghost use Rattle.utf8.specs.Utf8.{leadOf, readUtf8, conts};
+use base::wide;
+use token::Token;
+
+// What the first byte of a value says: the value's length (0: no value begins so), the modulus that
+// leaves the first byte's bits, and the bounds of the second byte.
+pub struct Lead {
+    pub len: usize,
+    pub modulus: u8,
+    pub lo: u8,
+    pub hi: u8,
+}
+
+// Unicode, Table 3-7, "Well-Formed UTF-8 Byte Sequences":
+//   code points         first    second   third    fourth
+//   U+0000..U+007F      00..7F
+//   U+0080..U+07FF      C2..DF   80..BF
+//   U+0800..U+0FFF      E0       A0..BF   80..BF
+//   U+1000..U+CFFF      E1..EC   80..BF   80..BF
+//   U+D000..U+D7FF      ED       80..9F   80..BF
+//   U+E000..U+FFFF      EE..EF   80..BF   80..BF
+//   U+10000..U+3FFFF    F0       90..BF   80..BF   80..BF
+//   U+40000..U+FFFFF    F1..F3   80..BF   80..BF   80..BF
+//   U+100000..U+10FFFF  F4       80..8F   80..BF   80..BF
+fn lead_of(b: u8) -> Lead
+    ensures { λ r. ⌜ r ≡ leadOf b ⌝ }
+{
+    match b {
+        0x00..=0x7F => Lead {
+            len: 1,
+            modulus: 128,
+            lo: 0x80,
+            hi: 0xBF,
+        },
+        0xC2..=0xDF => Lead {
+            len: 2,
+            modulus: 32,
+            lo: 0x80,
+            hi: 0xBF,
+        },
+        0xE0..=0xE0 => Lead {
+            len: 3,
+            modulus: 16,
+            lo: 0xA0,
+            hi: 0xBF,
+        },
+        0xE1..=0xEC => Lead {
+            len: 3,
+            modulus: 16,
+            lo: 0x80,
+            hi: 0xBF,
+        },
+        0xED..=0xED => Lead {
+            len: 3,
+            modulus: 16,
+            lo: 0x80,
+            hi: 0x9F,
+        },
+        0xEE..=0xEF => Lead {
+            len: 3,
+            modulus: 16,
+            lo: 0x80,
+            hi: 0xBF,
+        },
+        0xF0..=0xF0 => Lead {
+            len: 4,
+            modulus: 8,
+            lo: 0x90,
+            hi: 0xBF,
+        },
+        0xF1..=0xF3 => Lead {
+            len: 4,
+            modulus: 8,
+            lo: 0x80,
+            hi: 0xBF,
+        },
+        0xF4..=0xF4 => Lead {
+            len: 4,
+            modulus: 8,
+            lo: 0x80,
+            hi: 0x8F,
+        },
+        _ => Lead {
+            len: 0,
+            modulus: 1,
+            lo: 0x80,
+            hi: 0xBF,
+        },
+    }
+}
+
+// The rest of a value of n bytes whose first byte gave v: each further byte has its bounds.
+fn rest_of(s: &[u8], n: usize, v: u32, lo: u8, hi: u8) -> Token
+    requires { ⌜ (1 ≤ n) × (n ≤ 4) × (v < 128) × (128 ≤ lo) × (hi ≤ 191) ⌝ }
+    ensures { λ r. ⌜ r ≡ conts (n - 1) lo hi v 1 (drop 1 (now (s .entry))) ⌝ }
+{
+    let mut v = v;
+    let mut lo = lo;
+    let mut hi = hi;
+    let mut k: usize = 1;
+    while k < n {
+        if s.len() <= k {
+            return Token::Cut;
+        }
+        let x = s[k];
+        if x < lo {
+            return Token::Bad(k);
+        }
+        if hi < x {
+            return Token::Bad(k);
+        }
+        v = v * 64 + wide(x - 0x80);
+        lo = 0x80;
+        hi = 0xBF;
+        k += 1;
+    }
+    Token::Value(v, k)
+}
+
+// The token at the front of some bytes: a value and its length, a mark, Cut where the bytes end too soon,
+// Bad with the place of the first byte that no well-formed value has there.
+pub fn read_utf8(s: &[u8]) -> Token
+    ensures { λ r. ⌜ r ≡ readUtf8 (now (s .entry)) ⌝ }
+{
+    if s.len() == 0 {
+        return Token::Cut;
+    }
+    let b = s[0];
+    if b == 0xFE {
+        return Token::Start;
+    }
+    if b == 0xFF {
+        return Token::End;
+    }
+    let l = lead_of(b);
+    let n = l.len;
+    if n == 0 {
+        return Token::Bad(0);
+    }
+    let m = l.modulus;
+    rest_of(s, n, wide(b % m), l.lo, l.hi)
+}
