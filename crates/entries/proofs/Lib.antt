@@ -2,3 +2,4 @@
 pub mod Sums
 pub mod Cases
 pub mod Inverse
+pub mod Meaning

@@ -11,7 +11,7 @@ use Rattle.base.proofs.Chain.{chain}
 use Rattle.refusal.specs.declared.Refusal.the-variants.{TooLong, Kind, HeaderCut, Version, HeaderSize, Count, Shape, BodyCut, Entry}
 use Rattle.entries.specs.Entries.{glyphBytes, scanOf}
 use Rattle.entries.specs.declared.Scan.the-variants.{Bad, Greatest}
-use Rattle.header.specs.Headers.{limit, kindOf, psf1Count, psf1Table, psf1Font, psf1Of, headOf, psf2Font, psf2Body, vfont2Font, greatestOf, entriesOf, vfont2Body, namedOf, headerOf}
+use Rattle.header.specs.Headers.{limit, kindOf, psf1Count, psf1Table, psf1Font, psf1Of, fieldsOf, headOf, psf2Font, psf2Body, vfont2Font, greatestOf, entriesOf, vfont2Body, namedOf, headerOf}
 use Rattle.header.specs.declared.Kind.the-variants.{Psf1, Psf2, Vfont2}
 use Rattle.header.specs.declared.Named.{Named}
 use Rattle.header.specs.declared.Named.the-variants.{Is, Unknown}
@@ -130,11 +130,7 @@ module _ (s : List ℕ) where
   unfolding headOf
   head-many h = search chain depth 30
 
-  -- the fields
-  abbrev pub fieldsOf : Fields
-  fieldsOf = record { header = le32 s 8; count = le32 s 16; size = le32 s 20; height = le32 s 24; width = le32 s 28; table = eqb (le32 s 12) 1 }
-
-  head-sound : Whole → Read fieldsOf ≡ headOf s
+  pub head-sound : Whole → Read (fieldsOf s) ≡ headOf s
   unfolding headOf
   head-sound h = search chain depth 30
 

@@ -25,7 +25,6 @@ use Rattle.header.specs.declared.Head.{Head}
 use Rattle.header.specs.declared.Head.the-variants.{Read, Stop}
 use Rattle.header.specs.declared.Checked.{Checked}
 use Rattle.header.specs.declared.Checked.the-variants.{Sound, Refused}
-use Rattle.header.proofs.Cases.{fieldsOf}
 
 pub never : (r : Refusal) (f : Font) → Refused r ≡ Sound f → ⊥
 never r f e = let z : _≡_ {A = ℕ} 0 1 = cc in omega arith

@@ -66,6 +66,10 @@ psf1Of s =
     (when (ltb (length s) (4 + psf1Count (getD s 2 0) * getD s 3 0)) (Refused (BodyCut (length s)))
     (Sound (psf1Font (psf1Count (getD s 2 0)) (getD s 3 0) (psf1Table (getD s 2 0)))))))
 
+-- the fields of a header of 32 bytes
+abbrev pub fieldsOf : List ℕ → Fields
+fieldsOf s = record { header = le32 s 8; count = le32 s 16; size = le32 s 20; height = le32 s 24; width = le32 s 28; table = eqb (le32 s 12) 1 }
+
 -- the fields that PSF2 and vfont2 have at the same places: "at 4 version, 8 header size, 12 flags, 16 glyph count n", then at 20 bytes
 -- per glyph or of all bitmaps, at 24 height, at 28 width; checks 3 to 6. "Flag bit 0 says that a table follows the bitmaps."
 unfoldable pub headOf : List ℕ → Head
@@ -77,7 +81,7 @@ headOf s =
     (when (ltb 4096 (le32 s 8)) (Stop HeaderSize)
     (when (eqb (le32 s 16) 0) (Stop Count)
     (when (ltb 4096 (le32 s 16)) (Stop Count)
-    (Read (record { header = le32 s 8; count = le32 s 16; size = le32 s 20; height = le32 s 24; width = le32 s 28; table = eqb (le32 s 12) 1 }))))))))
+    (Read (fieldsOf s))))))))
 
 -- the bounds of what was read
 abbrev pub HeadWithin : Head → Type 0
