@@ -12,7 +12,7 @@ use Rattle.coding.proofs.Codings.{coded}
 use Rattle.table.specs.declared.Item.{Item}
 use Rattle.table.specs.declared.Item.the-variants.{Single, Start, Value, End}
 use Rattle.table.specs.Grammar.{Desc, items, bytes, OfCoding, encode, Readable}
-use Rattle.table.specs.Steps.{stepsFrom, told, itemsIn}
+use Rattle.table.specs.Steps.{stepsFrom, toldAs, told, itemsIn}
 use Rattle.table.proofs.Accepts.{Phase, singles, opened, filled, Accepts, accepts-items, items-inj}
 use Rattle.table.proofs.Stepping.{item-front}
 
@@ -29,7 +29,7 @@ module _ (c : Coding) where
 
   -- accepted items, written, are read again
   read-back : (is : List Item) (n : ℕ) (p : Phase) (at : ℕ) → OfCoding c is → Accepts n p is → told (inside p) (stepsFrom c at 0 (bytes c is)) ≡ is
-  unfolding told
+  unfolding told toldAs
   read-back [] n p at o a = nothing-left p at
   read-back (i ∷ is) zero p at o a = absurd a
   read-back (Single v ∷ is) (suc n) singles at o a =

@@ -46,7 +46,7 @@ abbrev pub stepsAt : Coding → List ℕ → ℕ → List Step
 stepsAt c s at = stepsFrom c at 0 (drop at s)
 
 -- a value as an item: a single before the first start mark of its description, inside a sequence after it
-abbrev pub toldAs : Bool → ℕ → Item
+unfoldable pub toldAs : Bool → ℕ → Item
 toldAs false v = Single v
 toldAs true v = Value v
 

@@ -1,6 +1,8 @@
 // Inner layer: the table, n descriptions end to end, in either coding. Definitions: specs/Grammar.antt (what a table is),
 // specs/Steps.antt (its items one by one), specs/Check.antt (what the check answers).
 ghost use mathlib.Core.Path.{_≡_};
+ghost use Prim.Native.Nat.{_-_, _≤_};
+ghost use Rattle.table.specs.declared.TableAnswer.the-variants.{Bad as TableBad};
 ghost use Rattle.table.specs.Steps.{stepAt, StepSays};
 ghost use Rattle.table.specs.Check.{tableOf};
 use coding::Coding;
@@ -49,6 +51,14 @@ pub enum TableAnswer {
     Trailing(usize),
 }
 
+// A mark that ends at `next` where a value must stand: bad at its last byte, since the bytes before that could begin a value.
+fn misplaced(next: usize) -> TableAnswer
+    requires { ⌜ 1 ≤ next ⌝ }
+    ensures { λ r. ⌜ r ≡ TableBad (next - 1) ⌝ }
+{
+    TableAnswer::Bad(next - 1)
+}
+
 // Whether the tail is n descriptions, nothing over. Cut: it could still be completed, the place is its end.
 // Bad: the place is the end of the longest start that could be completed, and that start is no table.
 // Trailing: that start is a table, and the place is the first byte after it.
@@ -70,14 +80,14 @@ pub fn check_table(c: Coding, tail: &[u8], n: usize) -> TableAnswer
             }
             Step::Start(next) => {
                 if opened {
-                    return TableAnswer::Bad(next - 1);
+                    return misplaced(next);
                 }
                 opened = true;
                 at = next;
             }
             Step::End(next) => {
                 if opened {
-                    return TableAnswer::Bad(next - 1);
+                    return misplaced(next);
                 }
                 left -= 1;
                 at = next;

@@ -45,19 +45,25 @@ enum-known-t : tie.Need-enum-known-t
 enum-known-t c = search needs
 
 add-t15 : tie.Need-add-t15
-add-t15 c = let w = rw (c .before .t .given .1) at (said (c .before .before .before)) in omega (arith, w .1 .1)
+add-t15 c =
+    let w = rw (c .before .t .given .1) at (said (c .before .before .before)) in
+    omega (arith, w .1 .1)
 
 enum-told : tie.Need-enum-told
 enum-told c = search needs
 
 add-t16 : tie.Need-add-t16
-add-t16 c = let w = rw (c .enum-told .given .1) at (said (c .before .before)) in omega (arith, w .1 .1)
+add-t16 c =
+    let w = rw (c .enum-told .given .1) at (said (c .before .before)) in
+    omega (arith, w .1 .1)
 
 enum-told-2 : tie.Need-enum-told-2
 enum-told-2 c = search needs
 
 add-t17 : tie.Need-add-t17
-add-t17 c = let w = rw (c .enum-told2 .given .1) at (said (c .before .before)) in omega (arith, w .1 .1)
+add-t17 c =
+    let w = rw (c .enum-told2 .given .1) at (said (c .before .before)) in
+    omega (arith, w .1 .1)
 
 enum-told-3 : tie.Need-enum-told-3
 enum-told-3 c = search needs
@@ -66,7 +72,9 @@ enum-known-t-2 : tie.Need-enum-known-t-2
 enum-known-t-2 c = search needs
 
 add-t18 : tie.Need-add-t18
-add-t18 c = let w = rw (c .before .t2 .given .1) at (said (c .before .before .before)) in omega (arith, w .1 .1)
+add-t18 c =
+    let w = rw (c .before .t2 .given .1) at (said (c .before .before .before)) in
+    omega (arith, w .1 .1)
 
 returns-2 : tie.Need-returns-2
 returns-2 c = rw (c .before .t .given .1) at (said (c .before .before .before))

@@ -21,13 +21,17 @@ loop-holds : tie.Need-loop-holds Inv-loop μ-loop
 loop-holds c = search needs
 
 returns : tie.Need-returns Inv-loop μ-loop
-returns c = let l = c .before .before .loop in sym (cut _ _ _ _ _ _ (omega arith) (omega arith)) ∙ l .inv .5
+returns c =
+    let l = c .before .before .loop in
+    sym (cut _ _ _ _ _ _ (omega arith) (omega arith)) ∙ l .inv .5
 
 shared-slice-read-x : tie.Need-shared-slice-read-x Inv-loop μ-loop
 shared-slice-read-x c = search needs
 
 returns-2 : tie.Need-returns-2 Inv-loop μ-loop
-returns-2 c = let l = c .before .before .before .before .loop in sym (low _ _ _ _ _ _ (omega arith) (omega arith) (c .if2 .taken)) ∙ l .inv .5
+returns-2 c =
+    let l = c .before .before .before .before .loop in
+    sym (low _ _ _ _ _ _ (omega arith) (omega arith) (c .if2 .taken)) ∙ l .inv .5
 
 returns-3 : tie.Need-returns-3 Inv-loop μ-loop
 returns-3 c =
