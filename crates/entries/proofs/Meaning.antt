@@ -161,14 +161,15 @@ past s total k at h w h' w' fine f g (Greatest y z) b = (none, f y (b .1), g z (
 
 scan-says : (s : List ℕ) (total k at h w : ℕ) → ScanSays s total k at h w (scanOf s total k at h w)
 unfolding scanOf
-scan-says s total zero at h w =
-    (λ i l p. absurd (omega arith),
-    record { above = omega arith; bound = λ i l p. absurd (omega arith); met = inl refl },
-    record { above = omega arith; bound = λ i l p. absurd (omega arith); met = inl refl })
+scan-says s total zero at h w = (
+  λ i l p. absurd (omega arith),
+  record { above = omega arith; bound = λ i l p. absurd (omega arith); met = inl refl },
+  record { above = omega arith; bound = λ i l p. absurd (omega arith); met = inl refl },
+)
 scan-says s total (suc k) at h w = go (λ a b. scan-says s total k (at + 18) a b) (entryOf s total at) (entry-meaning s total at)
   where
     go : ((a b : ℕ) → ScanSays s total k (at + 18) a b (scanOf s total k (at + 18) a b)) → (x : Entry) → EntrySays s total at x →
-        ScanSays s total (suc k) at h w (elim x [ | Empty ↦ scanOf s total k (at + 18) h w | Glyph r c ↦ scanOf s total k (at + 18) (larger h r) (larger w c) | Broken ↦ Bad at ])
+        ScanSays s total (suc k) at h w (elim x [ Empty ↦ scanOf s total k (at + 18) h w | Glyph r c ↦ scanOf s total k (at + 18) (larger h r) (larger w c) | Broken ↦ Bad at ])
     go ih Empty e =
         past s total k at h w h w (λ b. e (b .0)) (λ z. skip s k at (rowsAt s) h z e) (λ z. skip s k at (colsAt s) w z e) (scanOf s total k (at + 18) h w) (ih h w)
     go ih (Glyph r c) e =
@@ -203,10 +204,11 @@ scan-broken s total n start at e = rw e at (scan-says s total n start 0 0)
 pub scan-greatest : (s : List ℕ) (total n start h w : ℕ) → scanOf s total n start 0 0 ≡ Greatest h w →
     ((i : ℕ) → i < n → Breaks s total (entryAt start i) → ⊥) × IsGreatest s n start (rowsAt s) h × IsGreatest s n start (colsAt s) w
 scan-greatest s total n start h w e =
-    let g = rw e at (scan-says s total n start 0 0) in
-    (g .0,
-    greatest s n start (rowsAt s) h (g .1) (λ i l p. keeps-rules s total (entryAt start i) (g .0 i l) p .0 .0),
-    greatest s n start (colsAt s) w (g .2) (λ i l p. keeps-rules s total (entryAt start i) (g .0 i l) p .1 .0))
+    let g = rw e at (scan-says s total n start 0 0) in (
+      g .0,
+      greatest s n start (rowsAt s) h (g .1) (λ i l p. keeps-rules s total (entryAt start i) (g .0 i l) p .0 .0),
+      greatest s n start (colsAt s) w (g .2) (λ i l p. keeps-rules s total (entryAt start i) (g .0 i l) p .1 .0),
+    )
 
 -- there is one greatest number
 pub one-greatest : (s : List ℕ) (n start : ℕ) (m : ℕ → ℕ) (x y : ℕ) → IsGreatest s n start m x → IsGreatest s n start m y → x ≡ y

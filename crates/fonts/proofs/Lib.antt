@@ -1,2 +1,3 @@
 -- Laws of the public calls.
 pub mod Views
+pub mod Answers

@@ -3,10 +3,29 @@
 use bitmap::Part;
 use bitmap::Pixel;
 use header::Checked;
+use header::Font;
+use lookup::Found;
+use lookup::Walked;
+use refusal::Refusal;
+use table::Item;
 ghost use mathlib.Core.Path.{_≡_};
+ghost use Rattle.header.specs.Placed.{Placed};
 ghost use Rattle.font.specs.Check.{checkOf};
 ghost use Rattle.bitmap.specs.Bitmaps.{viewOf, PartInside};
-ghost use Rattle.fonts.specs.Questions.{glyphPartOf, rowPartOf, pixelAt};
+ghost use Rattle.fonts.specs.Questions.{glyphPartOf, rowPartOf, pixelAt, fontItems, itemOn, itemOf, valueOn, valueGlyph, anyHigh, askable, sequenceOn, sequenceGlyph};
+ghost use Rattle.lookup.specs.Lookup.{itemAt, findValue, findSequence};
+
+// An item of a glyph's description; or the refusal.
+pub enum Walk {
+    Is(Item),
+    NoWalk(Refusal),
+}
+
+// The glyph found; or the refusal.
+pub enum Lookup {
+    Glyph(usize),
+    NoLookup(Refusal),
+}
 
 // The check of a font. Refusals: 1 to 12, in their order.
 pub fn check(file: &[u8]) -> Checked
@@ -70,5 +89,122 @@ pub fn pixel(file: &[u8], g: usize, y: usize, x: usize) -> Pixel
     match a {
         Checked::Sound(f) => bitmap::pixel_at(file, f, g, y, x),
         Checked::Refused(r) => Pixel::NoPixel(r),
+    }
+}
+
+// Item k of glyph g of a font whose header passed (`Placed`).
+fn item_on(file: &[u8], f: Font, g: usize, k: usize) -> Walk
+    requires { ⌜ Placed (now file) f ⌝ }
+    ensures { λ r. ⌜ r ≡ itemOn (now (file .entry)) g k f ⌝ }
+{
+    if f.table {
+        let end = f.end;
+        let kind = f.kind;
+        let w = lookup::item_at(font::coding_of(kind), &file[end..], g, k);
+        return match w {
+            Walked::Found(i) => Walk::Is(i),
+            Walked::Nothing => Walk::NoWalk(Refusal::Ask),
+        };
+    }
+    Walk::NoWalk(Refusal::NoTable)
+}
+
+// Item k of glyph g's description, counted from 0 in the order of the file: single, start mark, value in a sequence, end mark.
+// Refusals: the font's own (1 to 12), NO TABLE, ASK.
+pub fn item(file: &[u8], g: usize, k: usize) -> Walk
+    ensures { λ r. ⌜ r ≡ itemOf (now (file .entry)) g k ⌝ }
+{
+    let a = font::check(file);
+    match a {
+        Checked::Sound(f) => item_on(file, f, g, k),
+        Checked::Refused(r) => Walk::NoWalk(r),
+    }
+}
+
+// The lowest glyph that lists v as a single, in a font whose header passed (`Placed`).
+fn value_on(file: &[u8], f: Font, v: u32) -> Lookup
+    requires { ⌜ Placed (now file) f ⌝ }
+    ensures { λ r. ⌜ r ≡ valueOn (now (file .entry)) v f ⌝ }
+{
+    if f.table {
+        if 0x10FFFF < v {
+            return Lookup::NoLookup(Refusal::Ask);
+        }
+        let end = f.end;
+        let kind = f.kind;
+        let w = lookup::find_value(font::coding_of(kind), &file[end..], v);
+        return match w {
+            Found::At(g) => Lookup::Glyph(g),
+            Found::Nothing => Lookup::NoLookup(Refusal::Unmapped),
+        };
+    }
+    Lookup::NoLookup(Refusal::NoTable)
+}
+
+// The lowest glyph that lists the value v as a single.
+// Refusals: the font's own (1 to 12), NO TABLE, ASK for a value above 10FFFF, UNMAPPED.
+pub fn find_value(file: &[u8], v: u32) -> Lookup
+    ensures { λ r. ⌜ r ≡ valueGlyph (now (file .entry)) v ⌝ }
+{
+    let a = font::check(file);
+    match a {
+        Checked::Sound(f) => value_on(file, f, v),
+        Checked::Refused(r) => Lookup::NoLookup(r),
+    }
+}
+
+// Whether some value is above 10FFFF.
+fn any_high(vs: &[u32]) -> bool
+    ensures { λ r. ⌜ r ≡ anyHigh (now (vs .entry)) ⌝ }
+{
+    let mut i = 0;
+    while i < vs.len() {
+        if 0x10FFFF < vs[i] {
+            return true;
+        }
+        i += 1;
+    }
+    false
+}
+
+// Whether a sequence may be asked.
+fn may_ask(vs: &[u32]) -> bool
+    ensures { λ r. ⌜ r ≡ askable (now (vs .entry)) ⌝ }
+{
+    if vs.len() == 0 {
+        return false;
+    }
+    !any_high(vs)
+}
+
+// The lowest glyph that lists the sequence vs, in a font whose header passed (`Placed`).
+fn sequence_on(file: &[u8], f: Font, vs: &[u32]) -> Lookup
+    requires { ⌜ Placed (now file) f ⌝ }
+    ensures { λ r. ⌜ r ≡ sequenceOn (now (file .entry)) (now (vs .entry)) f ⌝ }
+{
+    if f.table {
+        if may_ask(vs) {
+            let end = f.end;
+            let kind = f.kind;
+            let w = lookup::find_sequence(font::coding_of(kind), &file[end..], vs);
+            return match w {
+                Found::At(g) => Lookup::Glyph(g),
+                Found::Nothing => Lookup::NoLookup(Refusal::Unmapped),
+            };
+        }
+        return Lookup::NoLookup(Refusal::Ask);
+    }
+    Lookup::NoLookup(Refusal::NoTable)
+}
+
+// The lowest glyph that lists the sequence vs: after some start mark, exactly these values up to the next mark.
+// Refusals: the font's own (1 to 12), NO TABLE, ASK for an empty sequence or a value above 10FFFF, UNMAPPED.
+pub fn find_sequence(file: &[u8], vs: &[u32]) -> Lookup
+    ensures { λ r. ⌜ r ≡ sequenceGlyph (now (file .entry)) (now (vs .entry)) ⌝ }
+{
+    let a = font::check(file);
+    match a {
+        Checked::Sound(f) => sequence_on(file, f, vs),
+        Checked::Refused(r) => Lookup::NoLookup(r),
     }
 }

@@ -1,0 +1,35 @@
+-- `fonts::find_value` meets its contract: the font's own refusal, or the lookup's answer. Assumes nothing.
+use Rattle.fonts.specs.Questions.{valueGlyph}
+use mathlib.Core.Path.{_≡_, sym, _∙_, ap}
+use borrow.Author.Needs.{needs}
+use Rattle.fonts.proofs.find_value.Statement.{statement}
+use Rattle.fonts.proofs.find_value.Tie as tie
+use Rattle.fonts.proofs.find_value.Reads as reads
+use Rattle.fonts.proofs.find_value.Lts as lts
+use Rattle.font.proofs.check.Reads as check-reads
+use Rattle.fonts.proofs.value_on.Reads as value-on-reads
+
+check-requires : tie.Need-check-requires
+check-requires c κs = search needs
+
+enum-known-a : tie.Need-enum-known-a
+enum-known-a c = search needs
+
+value-on-requires : tie.Need-value-on-requires
+value-on-requires c κs = rw (c .before .a .given .1) at (c .before .before .before .check .ensures .1)
+
+enum-known-a-2 : tie.Need-enum-known-a-2
+enum-known-a-2 c = search needs
+
+returns : tie.Need-returns
+unfolding valueGlyph
+returns c = c .value-on .ensures ∙ rw (sym (c .before .before .before .before .check .ensures .0) ∙ c .before .before .a .given .1)
+
+returns-2 : tie.Need-returns-2
+unfolding valueGlyph
+returns-2 c = rw (sym (c .before .before .before .check .ensures .0) ∙ c .before .a2 .given .1)
+
+pub find-value-spec : {M : Type 1} → statement M
+find-value-spec =
+    tie.close
+    (tie.spec check-requires enum-known-a value-on-requires enum-known-a-2 returns returns-2)

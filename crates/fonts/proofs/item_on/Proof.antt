@@ -1,0 +1,55 @@
+-- `fonts::item_on` meets its contract: the walk's answer on the tail. Assumes nothing.
+use Rattle.fonts.proofs.Answers.{item-told, item-bare}
+use mathlib.Core.Path.{_≡_, sym, _∙_}
+use borrow.Author.Needs.{needs}
+use Rattle.fonts.proofs.item_on.Statement.{statement}
+use Rattle.fonts.proofs.item_on.Tie as tie
+use Rattle.fonts.proofs.item_on.Reads as reads
+use Rattle.fonts.proofs.item_on.Lts as lts
+use Rattle.font.proofs.coding_of.Reads as coding-of-reads
+use Rattle.lookup.proofs.item_at.Reads as item-at-reads
+
+coding-of-requires : tie.Need-coding-of-requires
+coding-of-requires c κs = search needs
+
+sub-item-at : tie.Need-sub-item-at
+sub-item-at c = search needs
+
+part-item-at-start : tie.Need-part-item-at-start
+part-item-at-start c = search needs
+
+part-item-at-end : tie.Need-part-item-at-end
+part-item-at-end c = search needs
+
+item-at-requires : tie.Need-item-at-requires
+item-at-requires c κs = search needs
+
+enum-known-w : tie.Need-enum-known-w
+enum-known-w c = search needs
+
+enum-told : tie.Need-enum-told
+enum-told c = search needs
+
+returns : tie.Need-returns
+returns c = rw (c .before .w .given .1) at (item-told (c .before .before .before .before .before .before .before .before .args .file .now) (c .before .before .before .before .before .before .before .before .args .f) (c .before .before .before .before .before .before .before .before .args .g) (c .before .before .before .before .before .before .before .before .args .k) (c .before .before .before .before .before .before .if1 .taken) _ (c .before .before .before .before .before .coding-of .ensures) _ (c .before .before .before .item-at .ensures))
+
+returns-2 : tie.Need-returns-2
+returns-2 c = rw (c .enum-told .given .1) at (item-told (c .before .before .before .before .before .before .before .args .file .now) (c .before .before .before .before .before .before .before .args .f) (c .before .before .before .before .before .before .before .args .g) (c .before .before .before .before .before .before .before .args .k) (c .before .before .before .before .before .if1 .taken) _ (c .before .before .before .before .coding-of .ensures) _ (c .before .before .item-at .ensures))
+
+returns-3 : tie.Need-returns-3
+returns-3 c = item-bare (c .before .before .args .file .now) (c .before .before .args .f) (c .before .before .args .g) (c .before .before .args .k) (c .if1 .left)
+
+pub item-on-spec : {M : Type 1} → statement M
+item-on-spec =
+    tie.close
+    (tie.spec
+    coding-of-requires
+    sub-item-at
+    part-item-at-start
+    part-item-at-end
+    item-at-requires
+    enum-known-w
+    enum-told
+    returns
+    returns-2
+    returns-3)

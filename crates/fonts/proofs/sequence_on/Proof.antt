@@ -1,0 +1,64 @@
+-- `fonts::sequence_on` meets its contract: the lookup's answer on the tail. Assumes nothing.
+use Rattle.fonts.proofs.Answers.{sequence-told, sequence-ask, sequence-bare}
+use mathlib.Core.Path.{_≡_, sym, _∙_}
+use borrow.Author.Needs.{needs}
+use Rattle.fonts.proofs.sequence_on.Statement.{statement}
+use Rattle.fonts.proofs.sequence_on.Tie as tie
+use Rattle.fonts.proofs.sequence_on.Reads as reads
+use Rattle.fonts.proofs.sequence_on.Lts as lts
+use Rattle.font.proofs.coding_of.Reads as coding-of-reads
+use Rattle.fonts.proofs.may_ask.Reads as may-ask-reads
+use Rattle.lookup.proofs.find_sequence.Reads as find-sequence-reads
+
+may-ask-requires : tie.Need-may-ask-requires
+may-ask-requires c κs = search needs
+
+coding-of-requires : tie.Need-coding-of-requires
+coding-of-requires c κs = search needs
+
+sub-find-sequence : tie.Need-sub-find-sequence
+sub-find-sequence c = search needs
+
+part-find-sequence-start : tie.Need-part-find-sequence-start
+part-find-sequence-start c = search needs
+
+part-find-sequence-end : tie.Need-part-find-sequence-end
+part-find-sequence-end c = search needs
+
+find-sequence-requires : tie.Need-find-sequence-requires
+find-sequence-requires c κs = search needs
+
+enum-known-w : tie.Need-enum-known-w
+enum-known-w c = search needs
+
+enum-told : tie.Need-enum-told
+enum-told c = search needs
+
+returns : tie.Need-returns
+returns c = rw (c .before .w .given .1) at (sequence-told (c .before .before .before .before .before .before .before .before .before .before .before .args .file .now) (c .before .before .before .before .before .before .before .before .before .before .before .args .f) (c .before .before .before .before .before .before .before .before .before .before .before .args .vs .now) (c .before .before .before .before .before .before .before .before .if1 .taken) _ (c .before .before .before .before .before .before .before .may-ask .ensures) (c .before .before .before .before .before .before .if2 .taken) _ (c .before .before .before .before .before .coding-of .ensures) _ (c .before .before .before .find-sequence .ensures))
+
+returns-2 : tie.Need-returns-2
+returns-2 c = rw (c .enum-told .given .1) at (sequence-told (c .before .before .before .before .before .before .before .before .before .before .args .file .now) (c .before .before .before .before .before .before .before .before .before .before .args .f) (c .before .before .before .before .before .before .before .before .before .before .args .vs .now) (c .before .before .before .before .before .before .before .if1 .taken) _ (c .before .before .before .before .before .before .may-ask .ensures) (c .before .before .before .before .before .if2 .taken) _ (c .before .before .before .before .coding-of .ensures) _ (c .before .before .find-sequence .ensures))
+
+returns-3 : tie.Need-returns-3
+returns-3 c = sequence-ask (c .before .before .before .before .before .args .file .now) (c .before .before .before .before .before .args .f) (c .before .before .before .before .before .args .vs .now) (c .before .before .if1 .taken) _ (c .before .may-ask .ensures) (c .if2 .left)
+
+returns-4 : tie.Need-returns-4
+returns-4 c = sequence-bare (c .before .before .before .args .file .now) (c .before .before .before .args .f) (c .before .before .before .args .vs .now) (c .if1 .left)
+
+pub sequence-on-spec : {M : Type 1} → statement M
+sequence-on-spec =
+    tie.close
+    (tie.spec
+    may-ask-requires
+    coding-of-requires
+    sub-find-sequence
+    part-find-sequence-start
+    part-find-sequence-end
+    find-sequence-requires
+    enum-known-w
+    enum-told
+    returns
+    returns-2
+    returns-3
+    returns-4)

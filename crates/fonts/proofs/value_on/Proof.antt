@@ -1,0 +1,59 @@
+-- `fonts::value_on` meets its contract: the lookup's answer on the tail. Assumes nothing.
+use Rattle.fonts.proofs.Answers.{value-told, value-high, value-bare}
+use mathlib.Core.Path.{_≡_, sym, _∙_}
+use borrow.Author.Needs.{needs}
+use Rattle.fonts.proofs.value_on.Statement.{statement}
+use Rattle.fonts.proofs.value_on.Tie as tie
+use Rattle.fonts.proofs.value_on.Reads as reads
+use Rattle.fonts.proofs.value_on.Lts as lts
+use Rattle.font.proofs.coding_of.Reads as coding-of-reads
+use Rattle.lookup.proofs.find_value.Reads as find-value-reads
+
+returns : tie.Need-returns
+returns c = value-high (c .before .before .before .args .file .now) (c .before .before .before .args .f) (c .before .before .before .args .v) (c .before .if1 .taken) (c .if2 .taken)
+
+coding-of-requires : tie.Need-coding-of-requires
+coding-of-requires c κs = search needs
+
+sub-find-value : tie.Need-sub-find-value
+sub-find-value c = search needs
+
+part-find-value-start : tie.Need-part-find-value-start
+part-find-value-start c = search needs
+
+part-find-value-end : tie.Need-part-find-value-end
+part-find-value-end c = search needs
+
+find-value-requires : tie.Need-find-value-requires
+find-value-requires c κs = search needs
+
+enum-known-w : tie.Need-enum-known-w
+enum-known-w c = search needs
+
+enum-told : tie.Need-enum-told
+enum-told c = search needs
+
+returns-2 : tie.Need-returns-2
+returns-2 c = rw (c .before .w .given .1) at (value-told (c .before .before .before .before .before .before .before .before .before .args .file .now) (c .before .before .before .before .before .before .before .before .before .args .f) (c .before .before .before .before .before .before .before .before .before .args .v) (c .before .before .before .before .before .before .before .if1 .taken) (c .before .before .before .before .before .before .if2 .left) _ (c .before .before .before .before .before .coding-of .ensures) _ (c .before .before .before .find-value .ensures))
+
+returns-3 : tie.Need-returns-3
+returns-3 c = rw (c .enum-told .given .1) at (value-told (c .before .before .before .before .before .before .before .before .args .file .now) (c .before .before .before .before .before .before .before .before .args .f) (c .before .before .before .before .before .before .before .before .args .v) (c .before .before .before .before .before .before .if1 .taken) (c .before .before .before .before .before .if2 .left) _ (c .before .before .before .before .coding-of .ensures) _ (c .before .before .find-value .ensures))
+
+returns-4 : tie.Need-returns-4
+returns-4 c = value-bare (c .before .before .args .file .now) (c .before .before .args .f) (c .before .before .args .v) (c .if1 .left)
+
+pub value-on-spec : {M : Type 1} → statement M
+value-on-spec =
+    tie.close
+    (tie.spec
+    returns
+    coding-of-requires
+    sub-find-value
+    part-find-value-start
+    part-find-value-end
+    find-value-requires
+    enum-known-w
+    enum-told
+    returns-2
+    returns-3
+    returns-4)
