@@ -1,6 +1,6 @@
 -- What each coding has: how a token is read, its values, their bytes, and the marks.
-use Prim.Native.Nat.{ℕ}
 use mathlib.Core.List.{List, [], _∷_}
+use Prim.Native.Nat.{ℕ}
 use Rattle.token.specs.declared.Token.{Token}
 use Rattle.utf8.specs.Utf8.{readUtf8}
 use Rattle.utf8.specs.Scalar.{Scalar, utf8Bytes}

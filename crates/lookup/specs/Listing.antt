@@ -1,8 +1,8 @@
 -- What descriptions list: the meaning that the walk and the lookups are held to.
-use Prim.Native.Nat.{ℕ, zero, suc, _<_}
 use mathlib.Core.Path.{_≡_}
 use mathlib.Core.Logic.{_⊎_}
 use mathlib.Core.List.{List, [], _∷_}
+use Prim.Native.Nat.{ℕ, zero, suc, _<_}
 use Rattle.table.specs.declared.Item.{Item}
 use Rattle.table.specs.Grammar.{Seq, Desc, itemsOf}
 

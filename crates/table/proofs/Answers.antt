@@ -1,7 +1,7 @@
 -- What each answer says of the bytes that the check is given, from any phase on: the items that they are, or how far
 -- they could still be completed. One induction over the tokens, for both codings at once.
 use mathlib.Core.Path.{_≡_, refl, sym, _∙_, ap, subst}
-use mathlib.Core.Bool.{Bool, true, false}
+use mathlib.Core.Bool.{true}
 use mathlib.Core.List.{List, [], _∷_, _++_, append-assoc}
 use Prim.Native.Nat.{ℕ, zero, suc, _+_, _-_, _≤_, _<_}
 use native.Mathlib.Omega.{arith}
@@ -25,13 +25,8 @@ use Rattle.table.specs.Grammar.{itemBytes, bytes, OfCoding}
 use Rattle.table.specs.Steps.{stepOf, stepsFrom}
 use Rattle.table.specs.Check.{checkSteps}
 use Rattle.table.proofs.Accepts.{Phase, singles, opened, filled, Accepts}
-use Rattle.table.proofs.Stepping.{first, stepFor, item-front}
-
--- all that the check keeps of a phase
-abbrev pub isOpened : Phase → Bool
-isOpened singles = false
-isOpened opened = true
-isOpened filled = false
+use Rattle.table.proofs.Stepping.{first, item-front}
+use Rattle.table.proofs.Moves.{isOpened, Move, single, first-value, other-value, first-start, other-start, end-singles, end-sequences, moved}
 
 -- as many end marks as descriptions are left
 abbrev ends : ℕ → List Item
@@ -86,23 +81,21 @@ module _ (c : Coding) where
   ends-of zero = tt
   ends-of (suc n) = ends-of n
 
-  -- an item in front leads from one phase to another
-  module _ (n : ℕ) (p : Phase) (n' : ℕ) (p' : Phase) (i : Item) (o : OfCoding c (i ∷ []))
-      (g : (e at next : ℕ) (xs : List Step) → checkSteps e n (isOpened p) at (stepFor c next i ∷ xs) ≡ checkSteps e n' (isOpened p') next xs)
-      (f : (is : List Item) → Accepts n' p' is → Accepts n p (i ∷ is)) where
+  -- an item in front
+  module _ (n : ℕ) (p : Phase) (n' : ℕ) (p' : Phase) (i : Item) (m : Move c n p n' p' i) where
     on : (at : ℕ) (y : List ℕ) → walk n p at (itemBytes c i ++ y) ≡ walk n' p' (at + length (itemBytes c i)) y
     on at y =
         let l : at + length (itemBytes c i ++ y) ≡ at + length (itemBytes c i) + length y = omega (arith, length-append (itemBytes c i) y) in
-        ap (checkSteps (at + length (itemBytes c i ++ y)) n (isOpened p) at) (item-front c i at y o)
-        ∙ g (at + length (itemBytes c i ++ y)) at (at + length (itemBytes c i)) (stepsFrom c (at + length (itemBytes c i)) 0 y)
+        ap (checkSteps (at + length (itemBytes c i ++ y)) n (isOpened p) at) (item-front c i at y (m .of))
+        ∙ m .checked (at + length (itemBytes c i ++ y)) at (at + length (itemBytes c i)) (stepsFrom c (at + length (itemBytes c i)) 0 y)
         ∙ ap (λ (e : ℕ). checkSteps e n' (isOpened p') (at + length (itemBytes c i)) (stepsFrom c (at + length (itemBytes c i)) 0 y)) l
 
     read-on : (s : List ℕ) → Read n' p' s → Read n p (itemBytes c i ++ s)
     read-on s r =
-        record { found = i ∷ r .found; of = heads i (r .found) o (r .of); accepted = f (r .found) (r .accepted); same = ap (λ (y : List ℕ). itemBytes c i ++ y) (r .same) }
+        record { found = i ∷ r .found; of = heads i (r .found) (m .of) (r .of); accepted = m .accepts (r .found) (r .accepted); same = ap (λ (y : List ℕ). itemBytes c i ++ y) (r .same) }
 
     more-on : (s : List ℕ) → More n' p' s → More n p (itemBytes c i ++ s)
-    more-on s m = record { more = m .more; read = rw (append-assoc (itemBytes c i) s (m .more)) (read-on (s ++ m .more) (m .read)) }
+    more-on s x = record { more = x .more; read = rw (append-assoc (itemBytes c i) s (x .more)) (read-on (s ++ x .more) (x .read)) }
 
     stops-on : (at : ℕ) (s : List ℕ) (a : TableAnswer) (j : ℕ) (Q Q' : List ℕ → Type 0) → ((t : List ℕ) → Q' t → Q (itemBytes c i ++ t)) →
         Stops n' p' (at + length (itemBytes c i)) s a j Q' → Stops n p at (itemBytes c i ++ s) a j Q
@@ -131,16 +124,20 @@ module _ (c : Coding) where
         (lift at (drop l s) (walk n' p' (at + length (itemBytes c i)) (drop l s)) r))
 
   -- a value that is begun, and as many end marks as descriptions are left, complete the table from any phase
-  begun : (n : ℕ) (s : List ℕ) (b : Begun (valueOf c) (valueBytes c) s) → s ++ (b .more ++ bytes c (ends (suc n))) ≡ valueBytes c (b .value) ++ bytes c (ends (suc n))
-  begun n s b = sym (append-assoc s (b .more) (bytes c (ends (suc n)))) ∙ ap (λ (x : List ℕ). x ++ bytes c (ends (suc n))) (b .same)
+  begun-by : (n : ℕ) (p p' : Phase) (i : Item) (s : List ℕ) (b : Begun (valueOf c) (valueBytes c) s) → itemBytes c i ≡ valueBytes c (b .value) →
+      Move c (suc n) p (suc n) p' i → Accepts (suc n) p' (ends (suc n)) → More (suc n) p s
+  begun-by n p p' i s b q m a =
+      let z = bytes c (ends (suc n)) in
+      record {
+        more = b .more ++ z;
+        read = subst (Read (suc n) p) (ap (λ (x : List ℕ). x ++ z) (q ∙ sym (b .same)) ∙ append-assoc s (b .more) z)
+            (read-on (suc n) p (suc n) p' i m z (record { found = ends (suc n); of = ends-of n; accepted = a; same = refl }));
+      }
 
   begun-more : (n : ℕ) (p : Phase) (s : List ℕ) → Begun (valueOf c) (valueBytes c) s → More (suc n) p s
-  begun-more n singles s b =
-      record { more = b .more ++ bytes c (ends (suc n)); read = record { found = Single (b .value) ∷ ends (suc n); of = (b .of, ends-of n); accepted = ends-accepted n; same = begun n s b } }
-  begun-more n opened s b =
-      record { more = b .more ++ bytes c (ends (suc n)); read = record { found = Value (b .value) ∷ ends (suc n); of = (b .of, ends-of n); accepted = ends-accepted n; same = begun n s b } }
-  begun-more n filled s b =
-      record { more = b .more ++ bytes c (ends (suc n)); read = record { found = Value (b .value) ∷ ends (suc n); of = (b .of, ends-of n); accepted = ends-accepted n; same = begun n s b } }
+  begun-more n singles s b = begun-by n singles singles (Single (b .value)) s b refl (single c n (b .value) (b .of)) (ends-accepted n)
+  begun-more n opened s b = begun-by n opened filled (Value (b .value)) s b refl (first-value c n (b .value) (b .of)) (ends-accepted n)
+  begun-more n filled s b = begun-by n filled filled (Value (b .value)) s b refl (other-value c n (b .value) (b .of)) (ends-accepted n)
 
   -- a step that ends the check at once
   at-once : (n : ℕ) (p : Phase) (at : ℕ) (z : List ℕ) (w : Step) (a : TableAnswer) → 1 ≤ length z → stepOf (markLen c) at (readToken c z) ≡ w →
@@ -175,38 +172,35 @@ module _ (c : Coding) where
     rest : (l : ℕ) → 1 ≤ l → (n : ℕ) (p : Phase) (at : ℕ) → Told n p at (drop l s)
     rest l g n p at = ih (drop l s) (omega (arith, length-drop l s)) (bytes-drop l s y) n p at
 
-    by-value : (p p' : Phase) (i : Item) (v l : ℕ) → OfCoding c (i ∷ []) → itemBytes c i ≡ valueBytes c v →
-        ((e at next : ℕ) (xs : List Step) → checkSteps e (suc n) (isOpened p) at (stepFor c next i ∷ xs) ≡ checkSteps e (suc n) (isOpened p') next xs) →
-        ((is : List Item) → Accepts (suc n) p' is → Accepts (suc n) p (i ∷ is)) → valueOf c v → l ≡ length (valueBytes c v) → s ≡ valueBytes c v ++ drop l s → Told (suc n) p at s
-    by-value p p' i v l o b g f u q d =
-        go-on (suc n) p (suc n) p' i o g f s l at (d ∙ ap (λ (x : List ℕ). x ++ drop l s) (sym b))
-        (rest l (omega (arith, q, coded c .value-some v u)) (suc n) p' (at + length (itemBytes c i)))
+    by-value : (p p' : Phase) (i : Item) (v l : ℕ) → Move c (suc n) p (suc n) p' i → itemBytes c i ≡ valueBytes c v → readToken c s ≡ TokenValue v l → Told (suc n) p at s
+    by-value p p' i v l m b q =
+        let w = coded c .read-value s y v l q in
+        go-on (suc n) p (suc n) p' i m s l at (w .2 ∙ ap (λ (x : List ℕ). x ++ drop l s) (sym b))
+        (rest l (omega (arith, w .1, coded c .value-some v (w .0))) (suc n) p' (at + length (itemBytes c i)))
+
+    by-start : (p : Phase) → Move c (suc n) p (suc n) opened Start → readToken c s ≡ TokenStart → Told (suc n) p at s
+    by-start p m q =
+        go-on (suc n) p (suc n) opened Start m s (markLen c) at (coded c .read-start s y q) (rest (markLen c) (mark-small c .0) (suc n) opened (at + length (startBytes c)))
+
+    by-end : (p : Phase) → Move c (suc n) p n singles End → readToken c s ≡ TokenEnd → Told (suc n) p at s
+    by-end p m q =
+        go-on (suc n) p n singles End m s (markLen c) at (coded c .read-end s y q) (rest (markLen c) (mark-small c .0) n singles (at + length (endBytes c)))
 
     told : (p : Phase) (t : Token) → readToken c s ≡ t → Told (suc n) p at s
     unfolding checkSteps
-    told singles (TokenValue v l) q =
-        let w = coded c .read-value s y v l q in
-        by-value singles singles (Single v) v l (w .0, tt) refl (λ e at next xs. refl) (λ is a. a) (w .0) (w .1) (w .2)
-    told opened (TokenValue v l) q =
-        let w = coded c .read-value s y v l q in
-        by-value opened filled (Value v) v l (w .0, tt) refl (λ e at next xs. refl) (λ is a. a) (w .0) (w .1) (w .2)
-    told filled (TokenValue v l) q =
-        let w = coded c .read-value s y v l q in
-        by-value filled filled (Value v) v l (w .0, tt) refl (λ e at next xs. refl) (λ is a. a) (w .0) (w .1) (w .2)
-    told singles TokenStart q =
-        go-on (suc n) singles (suc n) opened Start tt (λ e at next xs. refl) (λ is a. a) s (markLen c) at (coded c .read-start s y q) (rest (markLen c) (mark-small c .0) (suc n) opened (at + length (startBytes c)))
+    told singles (TokenValue v l) q = by-value singles singles (Single v) v l (single c n v (coded c .read-value s y v l q .0)) refl q
+    told opened (TokenValue v l) q = by-value opened filled (Value v) v l (first-value c n v (coded c .read-value s y v l q .0)) refl q
+    told filled (TokenValue v l) q = by-value filled filled (Value v) v l (other-value c n v (coded c .read-value s y v l q .0)) refl q
+    told singles TokenStart q = by-start singles (first-start c n) q
+    told filled TokenStart q = by-start filled (other-start c n) q
+    told singles TokenEnd q = by-end singles (end-singles c n) q
+    told filled TokenEnd q = by-end filled (end-sequences c n) q
     told opened TokenStart q =
         marked n at (startBytes c) s (coded c .start-long) (λ z. bad-mark n at (startBytes c) z TokenStart (StepStart (at + markLen c)) (coded c .start-long) (coded c .start-read z) refl (λ e xs. refl))
         (stopping c .start-begun) (coded c .read-start s y q)
-    told filled TokenStart q =
-        go-on (suc n) filled (suc n) opened Start tt (λ e at next xs. refl) (λ is a. a) s (markLen c) at (coded c .read-start s y q) (rest (markLen c) (mark-small c .0) (suc n) opened (at + length (startBytes c)))
-    told singles TokenEnd q =
-        go-on (suc n) singles n singles End tt (λ e at next xs. refl) (λ is a. a) s (markLen c) at (coded c .read-end s y q) (rest (markLen c) (mark-small c .0) n singles (at + length (endBytes c)))
     told opened TokenEnd q =
         marked n at (endBytes c) s (coded c .end-long) (λ z. bad-mark n at (endBytes c) z TokenEnd (StepEnd (at + markLen c)) (coded c .end-long) (coded c .end-read z) refl (λ e xs. refl))
         (stopping c .end-begun) (coded c .read-end s y q)
-    told filled TokenEnd q =
-        go-on (suc n) filled n singles End tt (λ e at next xs. refl) (λ is a. a) s (markLen c) at (coded c .read-end s y q) (rest (markLen c) (mark-small c .0) n singles (at + length (endBytes c)))
     told p TokenCut q =
         subst (λ (a : TableAnswer). Says (suc n) p at s a) (sym (at-once n p at s StepCut (TableCut (at + length s)) h (ap (stepOf (markLen c) at) q) (λ xs. refl)))
         (refl, begun-more n p s (stopping c .cut-begun s y q))
@@ -257,36 +251,14 @@ module _ (c : Coding) where
   abbrev Passed : ℕ → Phase → ℕ → List Item → List ℕ → Type 0
   Passed n p at is y = walk n p at (bytes c is ++ y) ≡ atOver (at + length (bytes c is)) y
 
-  module _ (n : ℕ) (p : Phase) (n' : ℕ) (p' : Phase) (i : Item) (o : OfCoding c (i ∷ []))
-      (g : (e at next : ℕ) (xs : List Step) → checkSteps e n (isOpened p) at (stepFor c next i ∷ xs) ≡ checkSteps e n' (isOpened p') next xs)
-      (f : (is : List Item) → Accepts n' p' is → Accepts n p (i ∷ is)) where
-    pass : (at : ℕ) (is : List Item) (y : List ℕ) → Passed n' p' (at + length (itemBytes c i)) is y → Passed n p at (i ∷ is) y
-    pass at is y r =
-        let x = itemBytes c i in
-        let l : at + length x + length (bytes c is) ≡ at + length (x ++ bytes c is) = omega (arith, length-append x (bytes c is)) in
-        ap (walk n p at) (append-assoc x (bytes c is) y) ∙ on n p n' p' i o g f at (bytes c is ++ y) ∙ r ∙ ap (λ (k : ℕ). atOver k y) l
-
   pub passes : (is : List Item) (n : ℕ) (p : Phase) (at : ℕ) (y : List ℕ) → OfCoding c is → Accepts n p is → Passed n p at is y
-  unfolding checkSteps
   passes [] zero p at y o a = let e : at + 0 ≡ at = omega arith in over p at y ∙ ap (λ (k : ℕ). atOver k y) (sym e)
-  passes (i ∷ is) zero p at y o a = absurd a
   passes [] (suc n) p at y o a = absurd a
-  passes (Single v ∷ is) (suc n) singles at y o a =
-      pass (suc n) singles (suc n) singles (Single v) (o .0, tt) (λ e at next xs. refl) (λ is a. a) at is y (passes is (suc n) singles _ y (o .1) a)
-  passes (Single v ∷ is) (suc n) opened at y o a = absurd a
-  passes (Single v ∷ is) (suc n) filled at y o a = absurd a
-  passes (Value v ∷ is) (suc n) singles at y o a = absurd a
-  passes (Value v ∷ is) (suc n) opened at y o a =
-      pass (suc n) opened (suc n) filled (Value v) (o .0, tt) (λ e at next xs. refl) (λ is a. a) at is y (passes is (suc n) filled _ y (o .1) a)
-  passes (Value v ∷ is) (suc n) filled at y o a =
-      pass (suc n) filled (suc n) filled (Value v) (o .0, tt) (λ e at next xs. refl) (λ is a. a) at is y (passes is (suc n) filled _ y (o .1) a)
-  passes (Start ∷ is) (suc n) singles at y o a =
-      pass (suc n) singles (suc n) opened Start tt (λ e at next xs. refl) (λ is a. a) at is y (passes is (suc n) opened _ y o a)
-  passes (Start ∷ is) (suc n) opened at y o a = absurd a
-  passes (Start ∷ is) (suc n) filled at y o a =
-      pass (suc n) filled (suc n) opened Start tt (λ e at next xs. refl) (λ is a. a) at is y (passes is (suc n) opened _ y o a)
-  passes (End ∷ is) (suc n) singles at y o a =
-      pass (suc n) singles n singles End tt (λ e at next xs. refl) (λ is a. a) at is y (passes is n singles _ y o a)
-  passes (End ∷ is) (suc n) opened at y o a = absurd a
-  passes (End ∷ is) (suc n) filled at y o a =
-      pass (suc n) filled n singles End tt (λ e at next xs. refl) (λ is a. a) at is y (passes is n singles _ y o a)
+  passes (i ∷ is) n p at y o a =
+      let m = moved c n p i is o a in
+      let x = itemBytes c i in
+      let l : at + length x + length (bytes c is) ≡ at + length (x ++ bytes c is) = omega (arith, length-append x (bytes c is)) in
+      ap (walk n p at) (append-assoc x (bytes c is) y)
+      ∙ on n p (m .left) (m .phase) i (m .move) at (bytes c is ++ y)
+      ∙ passes is (m .left) (m .phase) (at + length x) y (m .rest-of) (m .rest)
+      ∙ ap (λ (k : ℕ). atOver k y) l

@@ -5,6 +5,8 @@ pub mod Stepping
 pub mod Telling
 pub mod Checking
 pub mod Accepts
+pub mod Moves
 pub mod Answers
 pub mod Reading
+pub mod EndToEnd
 pub mod Places

@@ -1,18 +1,19 @@
 -- What the table's calls mean: `check_table` answers `tableOf`, and here is what `tableOf` says of the bytes, in both codings.
 use mathlib.Core.Path.{_≡_}
 use mathlib.Core.Logic.{_↔_}
-use mathlib.Core.List.{List}
-use Prim.Native.Nat.{ℕ, _<_}
+use mathlib.Core.List.{List, _∷_, _++_}
+use Prim.Native.Nat.{ℕ, _≤_, _<_}
 use lib.ListN.{length, take}
 use Rattle.base.specs.Bytes.{Bytes}
 use Rattle.coding.specs.declared.Coding.{Coding}
 use Rattle.table.specs.declared.TableAnswer.the-variants.{Complete, Cut, Bad, Trailing}
-use Rattle.table.specs.Grammar.{Desc, items, encode, Readable}
+use Rattle.table.specs.Grammar.{Desc, itemsOf, items, bytes, encode, Readable}
 use Rattle.table.specs.Steps.{itemsIn}
-use Rattle.table.specs.Check.{tableOf}
+use Rattle.table.specs.Check.{tableOf, placeOf}
 use Rattle.table.specs.Table.{IsTable, Completable, LongestStart}
 use Rattle.table.proofs.Reading.{unique, items-back}
-use Rattle.table.proofs.Places.{complete-table, table-complete, cut-short, short-cut, bad-broken, broken-bad, trailing-over, over-trailing}
+use Rattle.table.proofs.EndToEnd.{described-append, encode-cons}
+use Rattle.table.proofs.Places.{complete-table, table-complete, cut-short, short-cut, bad-broken, broken-bad, trailing-over, over-trailing, within-tail}
 
 -- exactly the bytes of n descriptions, nothing over, are accepted
 pub complete-exactly : (c : Coding) (n : ℕ) (s : List ℕ) → Bytes s → (tableOf c n s ≡ Complete) ↔ IsTable c n s
@@ -25,6 +26,13 @@ one-reading = unique
 -- the items that a table's bytes are, are those of its descriptions
 pub items-read : (c : Coding) (ds : List Desc) → Readable c ds → itemsIn c (encode c ds) ≡ items ds
 items-read = items-back
+
+-- descriptions stand end to end: the first one's items, and then those of the others; and their bytes likewise
+pub items-end-to-end : (d : Desc) (ds : List Desc) → items (d ∷ ds) ≡ itemsOf d ++ items ds
+items-end-to-end d ds = described-append d (items ds)
+
+pub bytes-end-to-end : (c : Coding) (d : Desc) (ds : List Desc) → encode c (d ∷ ds) ≡ bytes c (itemsOf d) ++ encode c ds
+bytes-end-to-end = encode-cons
 
 -- TABLE CUT is given exactly when the whole tail could still be completed, but isn't complete; its place is the end
 pub cut-exactly : (c : Coding) (n : ℕ) (s : List ℕ) (k : ℕ) → Bytes s →
@@ -40,3 +48,7 @@ bad-exactly c n s k y = (bad-broken c n s k y, broken-bad c n s k y)
 pub trailing-exactly : (c : Coding) (n : ℕ) (s : List ℕ) (k : ℕ) → Bytes s →
     (tableOf c n s ≡ Trailing k) ↔ (LongestStart c n s k × (k < length s) × IsTable c n (take k s))
 trailing-exactly c n s k y = (trailing-over c n s k y, λ h. over-trailing c n s k (h .1) (h .2))
+
+-- no place is past the tail's end
+pub place-within : (c : Coding) (n : ℕ) (s : List ℕ) → Bytes s → placeOf (tableOf c n s) ≤ length s
+place-within = within-tail

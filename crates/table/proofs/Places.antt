@@ -15,7 +15,7 @@ use Rattle.table.specs.declared.TableAnswer.{TableAnswer}
 use Rattle.table.specs.declared.TableAnswer.the-variants.{Complete, Cut as TableCut, Bad as TableBad, Trailing}
 use Rattle.table.specs.Grammar.{items, bytes, OfCoding, encode}
 use Rattle.table.specs.Steps.{stepsFrom}
-use Rattle.table.specs.Check.{checkSteps, tableOf}
+use Rattle.table.specs.Check.{checkSteps, tableOf, placeOf}
 use Rattle.table.specs.Table.{IsTable, Completable, LongestStart}
 use Rattle.table.proofs.Accepts.{singles, accepts-items, accepted-items}
 use Rattle.table.proofs.Answers.{walk, Read, More, Stops, Says, answer-told, atOver, passes}
@@ -150,3 +150,12 @@ module _ (c : Coding) (n : ℕ) where
         go (TableCut j) e = absurd (longer k l h (cut-short j y e .1))
         go (TableBad j) e = e ∙ ap TableBad (one-longest j k (bad-broken j y e .0) l)
         go (Trailing j) e = let r = trailing-over j y e in absurd (f (subst (λ (x : ℕ). IsTable c n (take x s)) (one-longest j k (r .0) l) (r .2)))
+
+    pub within-tail : Bytes s → placeOf (tableOf c n s) ≤ length s
+    within-tail y = go (tableOf c n s) refl
+      where
+        go : (a : TableAnswer) → tableOf c n s ≡ a → placeOf a ≤ length s
+        go Complete e = omega arith
+        go (TableCut k) e = let r = cut-short k y e .0 in omega arith
+        go (TableBad k) e = let r = bad-broken k y e .1 in omega arith
+        go (Trailing k) e = let r = trailing-over k y e .1 in omega arith

@@ -1,8 +1,7 @@
 -- Descriptions that are written are read again as the same items; so no other descriptions have their bytes.
 use mathlib.Core.Path.{_≡_, refl, sym, _∙_, ap}
-use mathlib.Core.Bool.{Bool, true, false}
 use mathlib.Core.List.{List, [], _∷_}
-use Prim.Native.Nat.{ℕ, zero, suc}
+use Prim.Native.Nat.{ℕ, _+_}
 use lib.ListN.{length}
 use Rattle.base.specs.Bytes.{Bytes}
 use Rattle.base.proofs.Parts.{bytes-append}
@@ -11,46 +10,25 @@ use Rattle.coding.specs.Coding.{valueBytes, startBytes, endBytes}
 use Rattle.coding.proofs.Codings.{coded}
 use Rattle.table.specs.declared.Item.{Item}
 use Rattle.table.specs.declared.Item.the-variants.{Single, Start, Value, End}
-use Rattle.table.specs.Grammar.{Desc, items, bytes, OfCoding, encode, Readable}
-use Rattle.table.specs.Steps.{stepsFrom, toldAs, told, itemsIn}
-use Rattle.table.proofs.Accepts.{Phase, singles, opened, filled, Accepts, accepts-items, items-inj}
+use Rattle.table.specs.Grammar.{Desc, items, itemBytes, bytes, OfCoding, encode, Readable}
+use Rattle.table.specs.Steps.{stepsFrom, told, itemsIn}
+use Rattle.table.proofs.Accepts.{Phase, singles, Accepts, accepts-items, items-inj}
+use Rattle.table.proofs.Moves.{isInside, moved}
 use Rattle.table.proofs.Stepping.{item-front}
 
--- whether a value there stands in a sequence
-abbrev inside : Phase → Bool
-inside singles = false
-inside opened = true
-inside filled = true
-
 module _ (c : Coding) where
-  nothing-left : (p : Phase) (at : ℕ) → told (inside p) (stepsFrom c at 0 []) ≡ []
+  nothing-left : (p : Phase) (at : ℕ) → told (isInside p) (stepsFrom c at 0 []) ≡ []
   unfolding told stepsFrom
   nothing-left p at = refl
 
   -- accepted items, written, are read again
-  read-back : (is : List Item) (n : ℕ) (p : Phase) (at : ℕ) → OfCoding c is → Accepts n p is → told (inside p) (stepsFrom c at 0 (bytes c is)) ≡ is
-  unfolding told toldAs
+  read-back : (is : List Item) (n : ℕ) (p : Phase) (at : ℕ) → OfCoding c is → Accepts n p is → told (isInside p) (stepsFrom c at 0 (bytes c is)) ≡ is
   read-back [] n p at o a = nothing-left p at
-  read-back (i ∷ is) zero p at o a = absurd a
-  read-back (Single v ∷ is) (suc n) singles at o a =
-      ap (told false) (item-front c (Single v) at (bytes c is) (o .0, tt)) ∙ ap (λ (x : List Item). Single v ∷ x) (read-back is (suc n) singles _ (o .1) a)
-  read-back (Single v ∷ is) (suc n) opened at o a = absurd a
-  read-back (Single v ∷ is) (suc n) filled at o a = absurd a
-  read-back (Value v ∷ is) (suc n) singles at o a = absurd a
-  read-back (Value v ∷ is) (suc n) opened at o a =
-      ap (told true) (item-front c (Value v) at (bytes c is) (o .0, tt)) ∙ ap (λ (x : List Item). Value v ∷ x) (read-back is (suc n) filled _ (o .1) a)
-  read-back (Value v ∷ is) (suc n) filled at o a =
-      ap (told true) (item-front c (Value v) at (bytes c is) (o .0, tt)) ∙ ap (λ (x : List Item). Value v ∷ x) (read-back is (suc n) filled _ (o .1) a)
-  read-back (Start ∷ is) (suc n) singles at o a =
-      ap (told false) (item-front c Start at (bytes c is) tt) ∙ ap (λ (x : List Item). Start ∷ x) (read-back is (suc n) opened _ o a)
-  read-back (Start ∷ is) (suc n) opened at o a = absurd a
-  read-back (Start ∷ is) (suc n) filled at o a =
-      ap (told true) (item-front c Start at (bytes c is) tt) ∙ ap (λ (x : List Item). Start ∷ x) (read-back is (suc n) opened _ o a)
-  read-back (End ∷ is) (suc n) singles at o a =
-      ap (told false) (item-front c End at (bytes c is) tt) ∙ ap (λ (x : List Item). End ∷ x) (read-back is n singles _ o a)
-  read-back (End ∷ is) (suc n) opened at o a = absurd a
-  read-back (End ∷ is) (suc n) filled at o a =
-      ap (told true) (item-front c End at (bytes c is) tt) ∙ ap (λ (x : List Item). End ∷ x) (read-back is n singles _ o a)
+  read-back (i ∷ is) n p at o a =
+      let m = moved c n p i is o a in
+      ap (told (isInside p)) (item-front c i at (bytes c is) (m .move .of))
+      ∙ m .move .tells (at + length (itemBytes c i)) (stepsFrom c (at + length (itemBytes c i)) 0 (bytes c is))
+      ∙ ap (λ (x : List Item). i ∷ x) (read-back is (m .left) (m .phase) (at + length (itemBytes c i)) (m .rest-of) (m .rest))
 
   pub items-back : (ds : List Desc) → Readable c ds → itemsIn c (encode c ds) ≡ items ds
   items-back ds o = read-back (items ds) (length ds) singles 0 o (accepts-items ds)

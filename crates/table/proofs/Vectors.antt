@@ -6,12 +6,12 @@ use mathlib.Core.Logic.{inl, inr}
 use Prim.Native.Nat.{ℕ}
 use native.Mathlib.Omega.{arith}
 use lib.ListN.{length}
-use Rattle.coding.specs.declared.Coding.{Coding}
-use Rattle.coding.specs.declared.Coding.the-variants.{Utf8, Ucs2}
-use Rattle.coding.specs.Coding.{readToken, markLen, valueOf, valueBytes, startBytes, endBytes}
 use Rattle.utf8.specs.Utf8.{readUtf8, leadOf, conts}
 use Rattle.utf8.specs.Scalar.{utf8Bytes}
 use Rattle.ucs2.specs.Ucs2.{readUcs2}
+use Rattle.coding.specs.declared.Coding.{Coding}
+use Rattle.coding.specs.declared.Coding.the-variants.{Utf8, Ucs2}
+use Rattle.coding.specs.Coding.{readToken, markLen, valueOf, valueBytes, startBytes, endBytes}
 use Rattle.table.specs.declared.TableAnswer.the-variants.{Complete}
 use Rattle.table.specs.Grammar.{Seq, Desc, encode, Readable}
 use Rattle.table.specs.Steps.{stepsFrom}

@@ -1,8 +1,8 @@
 -- What the check of a table answers: the grammar followed step by step. A start or end mark just after a start mark is
 -- bad at its last byte, since the bytes before that could still begin a value.
-use Prim.Native.Nat.{ℕ, zero, suc, _-_}
 use mathlib.Core.Bool.{Bool, true, false}
 use mathlib.Core.List.{List, [], _∷_}
+use Prim.Native.Nat.{ℕ, zero, suc, _-_}
 use lib.ListN.{length}
 use Rattle.coding.specs.declared.Coding.{Coding}
 use Rattle.table.specs.declared.Step.{Step}

@@ -1,8 +1,8 @@
 -- The table as data, after the published grammar, and its bytes in a coding:
 --   <unicodedescription> := <uc>*<seq>*<term>
 --   <seq> := <ss><uc><uc>*
-use Prim.Native.Nat.{ℕ}
 use mathlib.Core.List.{List, [], _∷_, _++_}
+use Prim.Native.Nat.{ℕ}
 use Rattle.coding.specs.declared.Coding.{Coding}
 use Rattle.coding.specs.Coding.{valueOf, valueBytes, startBytes, endBytes}
 use Rattle.table.specs.declared.Item.{Item}

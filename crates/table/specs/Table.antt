@@ -1,7 +1,7 @@
 -- What a table is, and how far bytes are the start of one: the meaning that the check's answers are held to.
-use Prim.Native.Nat.{ℕ, _≤_, _<_}
 use mathlib.Core.Path.{_≡_}
 use mathlib.Core.List.{List, _++_}
+use Prim.Native.Nat.{ℕ, _≤_, _<_}
 use lib.ListN.{length, take}
 use Rattle.base.specs.Bytes.{Bytes}
 use Rattle.coding.specs.declared.Coding.{Coding}

@@ -8,11 +8,11 @@ use lib.ListN.{drop}
 use lib.Dec.{eqb}
 use borrow.Author.Tests.{eqb-true, eqb-false, ne-eqb}
 use Rattle.base.specs.Choice.{pick}
-use Rattle.token.specs.declared.Token.the-variants.{Value, Start, End}
-use Rattle.ucs2.specs.Ucs2.{readUcs2}
 use Rattle.base.specs.Bytes.{Bytes}
-use Rattle.ucs2.specs.Word.{wordBytes, Word}
+use Rattle.token.specs.declared.Token.the-variants.{Value, Start, End}
 use Rattle.token.proofs.Coded.{Coded}
+use Rattle.ucs2.specs.Ucs2.{readUcs2}
+use Rattle.ucs2.specs.Word.{wordBytes, Word}
 
 -- what a word is read as, taken back
 record WordIs (w v l : ℕ) : Type 0 where

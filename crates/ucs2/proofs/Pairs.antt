@@ -4,10 +4,10 @@ use mathlib.Core.List.{List, [], _∷_}
 use Prim.Native.Nat.{ℕ, _≤_, _<_}
 use native.Mathlib.Omega.{arith}
 use lib.ListN.{length}
-use Rattle.base.specs.Numbers.{le16}
 use borrow.Author.Tests.{eq-eqb, ne-eqb}
-use Rattle.ucs2.specs.Ucs2.{readUcs2, word}
+use Rattle.base.specs.Numbers.{le16}
 use Rattle.token.specs.declared.Token.the-variants.{Value, Start, End, Cut}
+use Rattle.ucs2.specs.Ucs2.{readUcs2, word}
 
 pub short : (s : List ℕ) → length s < 2 → Cut ≡ readUcs2 s
 unfolding readUcs2

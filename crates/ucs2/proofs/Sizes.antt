@@ -5,8 +5,8 @@ use native.Mathlib.Omega.{arith}
 use lib.ListN.{length}
 use lib.Dec.{eqb}
 use Rattle.base.proofs.Tests.{by-test}
-use Rattle.token.proofs.Sized.{Sized}
 use Rattle.token.specs.declared.Token.{Token}
+use Rattle.token.proofs.Sized.{Sized}
 use Rattle.ucs2.specs.Ucs2.{readUcs2}
 
 pub read-sized : (s : List ℕ) → Sized 2 (length s) (readUcs2 s)

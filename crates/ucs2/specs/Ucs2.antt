@@ -1,6 +1,6 @@
 -- One token at the front of a list of bytes: two bytes, little endian; FFFE starts a sequence, FFFF ends a description.
-use Prim.Native.Nat.{ℕ, _+_, _*_}
 use mathlib.Core.List.{List, [], _∷_}
+use Prim.Native.Nat.{ℕ, _+_, _*_}
 use lib.Dec.{eqb}
 use Rattle.base.specs.Choice.{pick}
 use Rattle.token.specs.declared.Token.{Token}

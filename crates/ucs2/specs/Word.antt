@@ -1,6 +1,6 @@
 -- The values of PSF1's coding and their bytes, the low one first.
-use Prim.Native.Nat.{ℕ, _/_, _%_, _<_}
 use mathlib.Core.List.{List, [], _∷_}
+use Prim.Native.Nat.{ℕ, _/_, _%_, _<_}
 
 -- a value is 0000 to FFFD, surrogates included
 abbrev pub Word : ℕ → Type 0

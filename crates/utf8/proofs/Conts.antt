@@ -9,8 +9,8 @@ use lib.ListN.{length, getD, drop, drop-of-length-le}
 use lib.Seq.{drop-cons}
 use borrow.Author.Tests.{le-leb, lt-leb}
 use Rattle.base.specs.Choice.{pick, within}
-use Rattle.utf8.specs.Utf8.{conts}
 use Rattle.token.specs.declared.Token.the-variants.{Value, Cut, Bad}
+use Rattle.utf8.specs.Utf8.{conts}
 
 module _ (s : List ℕ) (n k lo hi v : ℕ) (h : k < n) where
   pub cut : length s ≤ k → conts (n - k) lo hi v k (drop k s) ≡ Cut

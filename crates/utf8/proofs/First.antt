@@ -6,10 +6,10 @@ use native.Mathlib.Omega.{arith}
 use lib.ListN.{length, getD, drop}
 use lib.Dec.{eqb}
 use borrow.Author.Tests.{eq-eqb, ne-eqb}
-use Rattle.utf8.specs.declared.Lead.{Lead}
 use Rattle.base.specs.Choice.{pick}
-use Rattle.utf8.specs.Utf8.{conts, leadOf, readUtf8}
 use Rattle.token.specs.declared.Token.the-variants.{Start, End, Cut, Bad}
+use Rattle.utf8.specs.declared.Lead.{Lead}
+use Rattle.utf8.specs.Utf8.{conts, leadOf, readUtf8}
 
 pub empty : (s : List ℕ) → length s ≡ 0 → Cut ≡ readUtf8 s
 unfolding readUtf8

@@ -3,5 +3,7 @@ pub mod Rows
 pub mod Conts
 pub mod First
 pub mod Sizes
+pub mod Writing
+pub mod Reading
 pub mod Coding
 pub mod Stops

@@ -6,8 +6,8 @@ use native.Mathlib.Omega.{arith}
 use lib.Dec.{T, eqb, leb, ltb, eqb→eq, leb→le, ltb→lt}
 use Rattle.base.proofs.Tests.{and-left, and-right}
 use Rattle.base.proofs.Ranged.{every, ranged}
-use Rattle.utf8.specs.Utf8.{row, leadOf}
 use Rattle.utf8.specs.declared.Lead.{Lead}
+use Rattle.utf8.specs.Utf8.{row, leadOf}
 
 abbrev sameLead : Lead → Lead → Bool
 sameLead a b = eqb (a .len) (b .len) && (eqb (a .modulus) (b .modulus) && (eqb (a .lo) (b .lo) && eqb (a .hi) (b .hi)))

@@ -4,11 +4,11 @@ use Prim.Native.Nat.{ℕ, zero, suc, _+_, _-_, _*_, _%_, _≤_}
 use native.Mathlib.Omega.{arith}
 use lib.ListN.{length}
 use lib.Dec.{eqb}
-use Rattle.base.proofs.Tests.{by-test}
-use Rattle.token.proofs.Sized.{Sized}
 use Rattle.base.specs.Choice.{within}
-use Rattle.utf8.specs.Utf8.{conts, leadOf, readUtf8}
+use Rattle.base.proofs.Tests.{by-test}
 use Rattle.token.specs.declared.Token.{Token}
+use Rattle.token.proofs.Sized.{Sized}
+use Rattle.utf8.specs.Utf8.{conts, leadOf, readUtf8}
 
 conts-sized : (n lo hi v k : ℕ) (s : List ℕ) (m : ℕ) → 1 ≤ k → k + length s ≤ m → Sized 1 m (conts n lo hi v k s)
 unfolding conts

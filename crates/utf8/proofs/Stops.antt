@@ -2,23 +2,25 @@
 use mathlib.Core.Path.{_≡_, refl, sym, _∙_, ap}
 use mathlib.Core.List.{List, [], _∷_, _++_, append-nil}
 use mathlib.Core.Bool.{Bool, true, false, _&&_}
+use mathlib.Core.Logic.{inl}
 use Prim.Native.Nat.{ℕ, zero, suc, _+_, _-_, _*_, _%_, _≤_, _<_}
 use native.Mathlib.Omega.{arith}
 use lib.ListN.{length, take}
 use lib.Seq.{drop-length}
 use lib.Dec.{leb, eqb, leb→le}
 use borrow.Author.Tests.{eqb-false, leb-true}
-use mathlib.Core.Logic.{inl}
 use Rattle.base.specs.Choice.{pick, within}
-use Rattle.utf8.specs.Utf8.{leadOf, conts, readUtf8}
+use Rattle.base.specs.Bytes.{Bytes}
+use Rattle.base.proofs.Ranged.{ranged}
 use Rattle.token.specs.declared.Token.{Token}
 use Rattle.token.specs.declared.Token.the-variants.{Value, Start, End, Cut, Bad}
-use Rattle.base.proofs.Ranged.{ranged}
-use Rattle.utf8.proofs.First.{as-value}
-use Rattle.base.specs.Bytes.{Bytes}
-use Rattle.utf8.specs.Scalar.{utf8Bytes, Scalar}
 use Rattle.token.proofs.Stopping.{Begun, Stopping}
-use Rattle.utf8.proofs.Coding.{further, reached, value-of, read-nil}
+use Rattle.utf8.specs.Utf8.{leadOf, conts, readUtf8}
+use Rattle.utf8.specs.Scalar.{utf8Bytes, Scalar}
+use Rattle.utf8.proofs.First.{as-value}
+use Rattle.utf8.proofs.Writing.{further, reached}
+use Rattle.utf8.proofs.Reading.{value-of}
+use Rattle.utf8.proofs.Coding.{read-nil}
 
 -- the bounds of every row are some
 some-bounds : (b : ℕ) → b < 256 → leadOf b .lo ≤ leadOf b .hi

@@ -1,7 +1,7 @@
 -- The values of UTF-8 and their bytes (Unicode, Table 3-6, "UTF-8 Bit Distribution").
-use Prim.Native.Nat.{ℕ, _+_, _/_, _%_, _<_, _≤_}
 use mathlib.Core.List.{List, [], _∷_}
 use mathlib.Core.Logic.{_⊎_}
+use Prim.Native.Nat.{ℕ, _+_, _/_, _%_, _<_, _≤_}
 use lib.Dec.{ltb}
 use Rattle.base.specs.Choice.{pick}
 

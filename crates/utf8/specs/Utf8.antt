@@ -1,6 +1,6 @@
 -- One token at the front of a list of bytes: well-formed UTF-8 (Unicode, Table 3-7); FE starts a sequence, FF ends a description.
-use Prim.Native.Nat.{ℕ, zero, suc, _+_, _-_, _*_, _%_}
 use mathlib.Core.List.{List, [], _∷_}
+use Prim.Native.Nat.{ℕ, zero, suc, _+_, _-_, _*_, _%_}
 use lib.Dec.{eqb}
 use Rattle.base.specs.Choice.{pick, within}
 use Rattle.token.specs.declared.Token.{Token}

@@ -2,9 +2,9 @@
 use mathlib.Core.Path.{_≡_, sym, _∙_, ap}
 use Prim.Native.Nat.{_-_, _≤_}
 use native.Mathlib.Omega.{arith}
+use lib.ListN.{length, drop}
 use borrow.Author.Needs.{needs}
 use denote.Ref.{now}
-use lib.ListN.{length, drop}
 use Rattle.table.specs.Steps.{stepsAt, told, itemsIn}
 use Rattle.table.proofs.Telling.{told-value, told-start, told-end, told-cut, told-bad, told-past}
 use Rattle.lookup.specs.Lookup.{seek, findSequence}
@@ -42,8 +42,13 @@ loop-again : tie.Need-loop-again Inv-loop μ-loop
 loop-again c =
     let w = rw (c .before .before .before .t .given .1) at (c .before .before .before .before .before .step-at .ensures .1) in
     let l = c .before .before .before .before .before .before .before .loop in
-    let s = c .before .before .before .before .before .before .before .before .before .before .args .vs .now in
-    (w .1, omega (arith, w .0), omega (arith, w .0), sym (ap (seek _ _ _ _) (told-value _ _ _ _ _ (w .2)) ∙ seek-value s _ _ (l .m) _ _ _ _ (c .before .if1 .taken) (c .goes-on .ensures)) ∙ l .inv .3)
+    let s = c .before .before .before .before .before .before .before .before .before .before .args .vs .now in (
+      w .1,
+      omega (arith, w .0),
+      omega (arith, w .0),
+      sym (ap (seek _ _ _ _) (told-value _ _ _ _ _ (w .2)) ∙ seek-value s _ _ (l .m) _ _ _ _ (c .before .if1 .taken) (c .goes-on .ensures))
+          ∙ l .inv .3,
+    )
 
 loop-less-2 : tie.Need-loop-less-2 Inv-loop μ-loop
 loop-less-2 c =
@@ -53,8 +58,13 @@ loop-again-2 : tie.Need-loop-again-2 Inv-loop μ-loop
 loop-again-2 c =
     let w = rw (c .before .before .t .given .1) at (c .before .before .before .before .step-at .ensures .1) in
     let l = c .before .before .before .before .before .before .loop in
-    let s = c .before .before .before .before .before .before .before .before .before .args .vs .now in
-    (w .1, omega (arith, w .0), omega (arith, w .0), sym (ap (seek _ _ _ _) (told-value _ _ _ _ _ (w .2)) ∙ seek-single s _ _ (l .m) _ _ _ (c .if1 .left)) ∙ l .inv .3)
+    let s = c .before .before .before .before .before .before .before .before .before .args .vs .now in (
+      w .1,
+      omega (arith, w .0),
+      omega (arith, w .0),
+      sym (ap (seek _ _ _ _) (told-value _ _ _ _ _ (w .2)) ∙ seek-single s _ _ (l .m) _ _ _ (c .if1 .left))
+          ∙ l .inv .3,
+    )
 
 enum-known-t-2 : tie.Need-enum-known-t-2 Inv-loop μ-loop
 enum-known-t-2 c = search needs
@@ -67,7 +77,8 @@ returns c =
     let w = rw (c .before .before .before .t2 .given .1) at (c .before .before .before .before .before .step-at .ensures .1) in
     let l = c .before .before .before .before .before .before .before .loop in
     let s = c .before .before .before .before .before .before .before .before .before .before .args .vs .now in
-    sym (ap (seek _ _ _ _) (told-start _ _ _ _ (w .2)) ∙ whole-start s _ _ (l .m) _ _ (c .before .is-whole .ensures) (c .if2 .taken)) ∙ l .inv .3
+    sym (ap (seek _ _ _ _) (told-start _ _ _ _ (w .2)) ∙ whole-start s _ _ (l .m) _ _ (c .before .is-whole .ensures) (c .if2 .taken))
+    ∙ l .inv .3
 
 loop-less-3 : tie.Need-loop-less-3 Inv-loop μ-loop
 loop-less-3 c =
@@ -77,8 +88,13 @@ loop-again-3 : tie.Need-loop-again-3 Inv-loop μ-loop
 loop-again-3 c =
     let w = rw (c .before .before .before .t2 .given .1) at (c .before .before .before .before .before .step-at .ensures .1) in
     let l = c .before .before .before .before .before .before .before .loop in
-    let s = c .before .before .before .before .before .before .before .before .before .before .args .vs .now in
-    (w .1, omega (arith, w .0), omega arith, sym (ap (seek _ _ _ _) (told-start _ _ _ _ (w .2)) ∙ other-start s _ _ (l .m) _ _ (c .before .is-whole .ensures) (c .if2 .left)) ∙ l .inv .3)
+    let s = c .before .before .before .before .before .before .before .before .before .before .args .vs .now in (
+      w .1,
+      omega (arith, w .0),
+      omega arith,
+      sym (ap (seek _ _ _ _) (told-start _ _ _ _ (w .2)) ∙ other-start s _ _ (l .m) _ _ (c .before .is-whole .ensures) (c .if2 .left))
+          ∙ l .inv .3,
+    )
 
 enum-known-t-3 : tie.Need-enum-known-t-3 Inv-loop μ-loop
 enum-known-t-3 c = search needs
@@ -91,7 +107,8 @@ returns-2 c =
     let w = rw (c .before .before .before .t3 .given .1) at (c .before .before .before .before .before .step-at .ensures .1) in
     let l = c .before .before .before .before .before .before .before .loop in
     let s = c .before .before .before .before .before .before .before .before .before .before .args .vs .now in
-    sym (ap (seek _ _ _ _) (told-end _ _ _ _ (w .2)) ∙ whole-end s _ _ (l .m) _ _ (c .before .is-whole2 .ensures) (c .if3 .taken)) ∙ l .inv .3
+    sym (ap (seek _ _ _ _) (told-end _ _ _ _ (w .2)) ∙ whole-end s _ _ (l .m) _ _ (c .before .is-whole2 .ensures) (c .if3 .taken))
+    ∙ l .inv .3
 
 add-g : tie.Need-add-g Inv-loop μ-loop
 add-g c = search needs
@@ -104,8 +121,13 @@ loop-again-4 : tie.Need-loop-again-4 Inv-loop μ-loop
 loop-again-4 c =
     let w = rw (c .before .before .before .t3 .given .1) at (c .before .before .before .before .before .step-at .ensures .1) in
     let l = c .before .before .before .before .before .before .before .loop in
-    let s = c .before .before .before .before .before .before .before .before .before .before .args .vs .now in
-    (w .1, omega (arith, w .0), omega (arith, w .0), sym (ap (seek _ _ _ _) (told-end _ _ _ _ (w .2)) ∙ other-end s _ _ (l .m) _ _ (c .before .is-whole2 .ensures) (c .if3 .left)) ∙ l .inv .3)
+    let s = c .before .before .before .before .before .before .before .before .before .before .args .vs .now in (
+      w .1,
+      omega (arith, w .0),
+      omega (arith, w .0),
+      sym (ap (seek _ _ _ _) (told-end _ _ _ _ (w .2)) ∙ other-end s _ _ (l .m) _ _ (c .before .is-whole2 .ensures) (c .if3 .left))
+          ∙ l .inv .3,
+    )
 
 enum-told : tie.Need-enum-told Inv-loop μ-loop
 enum-told c = search needs
@@ -113,7 +135,8 @@ enum-told c = search needs
 returns-3 : tie.Need-returns-3 Inv-loop μ-loop
 returns-3 c =
     let w = rw (c .enum-told .given .1) at (c .before .before .step-at .ensures .1) in
-    sym (ap (seek _ _ _ _) (told-cut _ _ _ (w (omega arith))) ∙ seek-none _ _ _ _) ∙ c .before .before .before .before .loop .inv .3
+    sym (ap (seek _ _ _ _) (told-cut _ _ _ (w (omega arith))) ∙ seek-none _ _ _ _)
+    ∙ c .before .before .before .before .loop .inv .3
 
 enum-told-2 : tie.Need-enum-told-2 Inv-loop μ-loop
 enum-told-2 c = search needs

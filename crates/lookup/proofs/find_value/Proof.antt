@@ -2,8 +2,8 @@
 use mathlib.Core.Path.{_≡_, sym, _∙_, ap}
 use Prim.Native.Nat.{_-_, _≤_}
 use native.Mathlib.Omega.{arith}
-use borrow.Author.Needs.{needs}
 use lib.ListN.{length}
+use borrow.Author.Needs.{needs}
 use Rattle.table.specs.Steps.{stepsAt, told, itemsIn}
 use Rattle.table.proofs.Telling.{told-value, told-start, told-end, told-cut, told-bad, told-past}
 use Rattle.lookup.specs.Lookup.{findValue}
@@ -30,7 +30,8 @@ enum-known-t c = search needs
 returns : tie.Need-returns Inv-loop μ-loop
 returns c =
     let w = rw (c .before .before .before .t .given .1) at (c .before .before .before .before .before .step-at .ensures .1) in
-    sym (ap (findValue _ _) (told-value _ _ _ _ _ (w .2)) ∙ hit _ _ _ _ _ (c .before .if1 .taken) (c .if2 .taken)) ∙ c .before .before .before .before .before .before .before .loop .inv .2
+    sym (ap (findValue _ _) (told-value _ _ _ _ _ (w .2)) ∙ hit _ _ _ _ _ (c .before .if1 .taken) (c .if2 .taken))
+    ∙ c .before .before .before .before .before .before .before .loop .inv .2
 
 loop-less : tie.Need-loop-less Inv-loop μ-loop
 loop-less c =
@@ -39,8 +40,12 @@ loop-less c =
 
 loop-again : tie.Need-loop-again Inv-loop μ-loop
 loop-again c =
-    let w = rw (c .before .before .before .t .given .1) at (c .before .before .before .before .before .step-at .ensures .1) in
-    (w .1, omega (arith, w .0), sym (ap (findValue _ _) (told-value _ _ _ _ _ (w .2)) ∙ miss _ _ _ _ _ (c .before .if1 .taken) (c .if2 .left)) ∙ c .before .before .before .before .before .before .before .loop .inv .2)
+    let w = rw (c .before .before .before .t .given .1) at (c .before .before .before .before .before .step-at .ensures .1) in (
+      w .1,
+      omega (arith, w .0),
+      sym (ap (findValue _ _) (told-value _ _ _ _ _ (w .2)) ∙ miss _ _ _ _ _ (c .before .if1 .taken) (c .if2 .left))
+          ∙ c .before .before .before .before .before .before .before .loop .inv .2,
+    )
 
 loop-less-2 : tie.Need-loop-less-2 Inv-loop μ-loop
 loop-less-2 c =
@@ -49,8 +54,12 @@ loop-less-2 c =
 
 loop-again-2 : tie.Need-loop-again-2 Inv-loop μ-loop
 loop-again-2 c =
-    let w = rw (c .before .before .t .given .1) at (c .before .before .before .before .step-at .ensures .1) in
-    (w .1, omega (arith, w .0), sym (ap (findValue _ _) (told-value _ _ _ _ _ (w .2)) ∙ pass _ _ _ _ _ (c .if1 .left)) ∙ c .before .before .before .before .before .before .loop .inv .2)
+    let w = rw (c .before .before .t .given .1) at (c .before .before .before .before .step-at .ensures .1) in (
+      w .1,
+      omega (arith, w .0),
+      sym (ap (findValue _ _) (told-value _ _ _ _ _ (w .2)) ∙ pass _ _ _ _ _ (c .if1 .left))
+          ∙ c .before .before .before .before .before .before .loop .inv .2,
+    )
 
 enum-known-t-2 : tie.Need-enum-known-t-2 Inv-loop μ-loop
 enum-known-t-2 c = search needs
@@ -62,8 +71,12 @@ loop-less-3 c =
 
 loop-again-3 : tie.Need-loop-again-3 Inv-loop μ-loop
 loop-again-3 c =
-    let w = rw (c .before .t2 .given .1) at (c .before .before .before .step-at .ensures .1) in
-    (w .1, omega (arith, w .0), sym (ap (findValue _ _) (told-start _ _ _ _ (w .2)) ∙ value-start _ _ _) ∙ c .before .before .before .before .before .loop .inv .2)
+    let w = rw (c .before .t2 .given .1) at (c .before .before .before .step-at .ensures .1) in (
+      w .1,
+      omega (arith, w .0),
+      sym (ap (findValue _ _) (told-start _ _ _ _ (w .2)) ∙ value-start _ _ _)
+          ∙ c .before .before .before .before .before .loop .inv .2,
+    )
 
 enum-known-t-3 : tie.Need-enum-known-t-3 Inv-loop μ-loop
 enum-known-t-3 c = search needs
@@ -78,8 +91,12 @@ loop-less-4 c =
 
 loop-again-4 : tie.Need-loop-again-4 Inv-loop μ-loop
 loop-again-4 c =
-    let w = rw (c .before .t3 .given .1) at (c .before .before .before .step-at .ensures .1) in
-    (w .1, omega (arith, w .0), sym (ap (findValue _ _) (told-end _ _ _ _ (w .2)) ∙ value-end _ _ _) ∙ c .before .before .before .before .before .loop .inv .2)
+    let w = rw (c .before .t3 .given .1) at (c .before .before .before .step-at .ensures .1) in (
+      w .1,
+      omega (arith, w .0),
+      sym (ap (findValue _ _) (told-end _ _ _ _ (w .2)) ∙ value-end _ _ _)
+          ∙ c .before .before .before .before .before .loop .inv .2,
+    )
 
 enum-told : tie.Need-enum-told Inv-loop μ-loop
 enum-told c = search needs

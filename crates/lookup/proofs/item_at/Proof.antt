@@ -2,8 +2,8 @@
 use mathlib.Core.Path.{_≡_, sym, _∙_, ap}
 use Prim.Native.Nat.{_-_, _≤_}
 use native.Mathlib.Omega.{arith}
-use borrow.Author.Needs.{needs}
 use lib.ListN.{length}
+use borrow.Author.Needs.{needs}
 use Rattle.table.specs.Steps.{stepsAt, told, itemsIn}
 use Rattle.table.proofs.Telling.{told-value, told-start, told-end, told-cut, told-bad, told-past}
 use Rattle.lookup.specs.declared.Walked.the-variants.{Found}
@@ -34,7 +34,9 @@ told-as-requires c κs = search needs
 returns : tie.Need-returns Inv-loop μ-loop
 returns c =
     let w = rw (c .before .before .before .before .t .given .1) at (c .before .before .before .before .before .before .step-at .ensures .1) in
-    ap Found (c .told-as .ensures) ∙ sym (ap (itemAt _ _) (told-value _ _ _ _ _ (w .2)) ∙ item-here _ _ _ _ (c .before .before .if1 .taken) (c .before .if2 .taken)) ∙ c .before .before .before .before .before .before .before .before .loop .inv .1
+    ap Found (c .told-as .ensures)
+    ∙ sym (ap (itemAt _ _) (told-value _ _ _ _ _ (w .2)) ∙ item-here _ _ _ _ (c .before .before .if1 .taken) (c .before .if2 .taken))
+    ∙ c .before .before .before .before .before .before .before .before .loop .inv .1
 
 sub-left : tie.Need-sub-left Inv-loop μ-loop
 sub-left c = search needs
@@ -46,8 +48,11 @@ loop-less c =
 
 loop-again : tie.Need-loop-again Inv-loop μ-loop
 loop-again c =
-    let w = rw (c .before .before .before .t .given .1) at (c .before .before .before .before .before .step-at .ensures .1) in
-    (w .1, sym (ap (itemAt _ _) (told-value _ _ _ _ _ (w .2)) ∙ item-next _ _ _ _ (c .before .if1 .taken) (c .if2 .left) (inner-told _ _)) ∙ c .before .before .before .before .before .before .before .loop .inv .1)
+    let w = rw (c .before .before .before .t .given .1) at (c .before .before .before .before .before .step-at .ensures .1) in (
+      w .1,
+      sym (ap (itemAt _ _) (told-value _ _ _ _ _ (w .2)) ∙ item-next _ _ _ _ (c .before .if1 .taken) (c .if2 .left) (inner-told _ _))
+          ∙ c .before .before .before .before .before .before .before .loop .inv .1,
+    )
 
 loop-less-2 : tie.Need-loop-less-2 Inv-loop μ-loop
 loop-less-2 c =
@@ -56,8 +61,11 @@ loop-less-2 c =
 
 loop-again-2 : tie.Need-loop-again-2 Inv-loop μ-loop
 loop-again-2 c =
-    let w = rw (c .before .before .t .given .1) at (c .before .before .before .before .step-at .ensures .1) in
-    (w .1, sym (ap (itemAt _ _) (told-value _ _ _ _ _ (w .2)) ∙ item-past _ _ _ _ (c .if1 .left) (inner-told _ _)) ∙ c .before .before .before .before .before .before .loop .inv .1)
+    let w = rw (c .before .before .t .given .1) at (c .before .before .before .before .step-at .ensures .1) in (
+      w .1,
+      sym (ap (itemAt _ _) (told-value _ _ _ _ _ (w .2)) ∙ item-past _ _ _ _ (c .if1 .left) (inner-told _ _))
+          ∙ c .before .before .before .before .before .before .loop .inv .1,
+    )
 
 enum-known-t-2 : tie.Need-enum-known-t-2 Inv-loop μ-loop
 enum-known-t-2 c = search needs
@@ -65,7 +73,8 @@ enum-known-t-2 c = search needs
 returns-2 : tie.Need-returns-2 Inv-loop μ-loop
 returns-2 c =
     let w = rw (c .before .before .before .t2 .given .1) at (c .before .before .before .before .before .step-at .ensures .1) in
-    sym (ap (itemAt _ _) (told-start _ _ _ _ (w .2)) ∙ item-here _ _ _ _ (c .before .if3 .taken) (c .if4 .taken)) ∙ c .before .before .before .before .before .before .before .loop .inv .1
+    sym (ap (itemAt _ _) (told-start _ _ _ _ (w .2)) ∙ item-here _ _ _ _ (c .before .if3 .taken) (c .if4 .taken))
+    ∙ c .before .before .before .before .before .before .before .loop .inv .1
 
 sub-left-2 : tie.Need-sub-left-2 Inv-loop μ-loop
 sub-left-2 c = search needs
@@ -77,8 +86,11 @@ loop-less-3 c =
 
 loop-again-3 : tie.Need-loop-again-3 Inv-loop μ-loop
 loop-again-3 c =
-    let w = rw (c .before .before .before .t2 .given .1) at (c .before .before .before .before .before .step-at .ensures .1) in
-    (w .1, sym (ap (itemAt _ _) (told-start _ _ _ _ (w .2)) ∙ item-next _ _ _ _ (c .before .if3 .taken) (c .if4 .left) tt) ∙ c .before .before .before .before .before .before .before .loop .inv .1)
+    let w = rw (c .before .before .before .t2 .given .1) at (c .before .before .before .before .before .step-at .ensures .1) in (
+      w .1,
+      sym (ap (itemAt _ _) (told-start _ _ _ _ (w .2)) ∙ item-next _ _ _ _ (c .before .if3 .taken) (c .if4 .left) tt)
+          ∙ c .before .before .before .before .before .before .before .loop .inv .1,
+    )
 
 loop-less-4 : tie.Need-loop-less-4 Inv-loop μ-loop
 loop-less-4 c =
@@ -87,8 +99,11 @@ loop-less-4 c =
 
 loop-again-4 : tie.Need-loop-again-4 Inv-loop μ-loop
 loop-again-4 c =
-    let w = rw (c .before .before .t2 .given .1) at (c .before .before .before .before .step-at .ensures .1) in
-    (w .1, sym (ap (itemAt _ _) (told-start _ _ _ _ (w .2)) ∙ item-past _ _ _ _ (c .if3 .left) tt) ∙ c .before .before .before .before .before .before .loop .inv .1)
+    let w = rw (c .before .before .t2 .given .1) at (c .before .before .before .before .step-at .ensures .1) in (
+      w .1,
+      sym (ap (itemAt _ _) (told-start _ _ _ _ (w .2)) ∙ item-past _ _ _ _ (c .if3 .left) tt)
+          ∙ c .before .before .before .before .before .before .loop .inv .1,
+    )
 
 enum-known-t-3 : tie.Need-enum-known-t-3 Inv-loop μ-loop
 enum-known-t-3 c = search needs
@@ -96,12 +111,14 @@ enum-known-t-3 c = search needs
 returns-3 : tie.Need-returns-3 Inv-loop μ-loop
 returns-3 c =
     let w = rw (c .before .before .before .t3 .given .1) at (c .before .before .before .before .before .step-at .ensures .1) in
-    sym (ap (itemAt _ _) (told-end _ _ _ _ (w .2)) ∙ item-here _ _ _ _ (c .before .if5 .taken) (c .if6 .taken)) ∙ c .before .before .before .before .before .before .before .loop .inv .1
+    sym (ap (itemAt _ _) (told-end _ _ _ _ (w .2)) ∙ item-here _ _ _ _ (c .before .if5 .taken) (c .if6 .taken))
+    ∙ c .before .before .before .before .before .before .before .loop .inv .1
 
 returns-4 : tie.Need-returns-4 Inv-loop μ-loop
 returns-4 c =
     let w = rw (c .before .before .before .t3 .given .1) at (c .before .before .before .before .before .step-at .ensures .1) in
-    sym (ap (itemAt _ _) (told-end _ _ _ _ (w .2)) ∙ no-item _ _ _ (c .before .if5 .taken) (c .if6 .left)) ∙ c .before .before .before .before .before .before .before .loop .inv .1
+    sym (ap (itemAt _ _) (told-end _ _ _ _ (w .2)) ∙ no-item _ _ _ (c .before .if5 .taken) (c .if6 .left))
+    ∙ c .before .before .before .before .before .before .before .loop .inv .1
 
 sub-glyphs : tie.Need-sub-glyphs Inv-loop μ-loop
 sub-glyphs c = search needs
@@ -113,8 +130,11 @@ loop-less-5 c =
 
 loop-again-5 : tie.Need-loop-again-5 Inv-loop μ-loop
 loop-again-5 c =
-    let w = rw (c .before .before .t3 .given .1) at (c .before .before .before .before .step-at .ensures .1) in
-    (w .1, sym (ap (itemAt _ _) (told-end _ _ _ _ (w .2)) ∙ glyph-past _ _ _ (c .if5 .left)) ∙ c .before .before .before .before .before .before .loop .inv .1)
+    let w = rw (c .before .before .t3 .given .1) at (c .before .before .before .before .step-at .ensures .1) in (
+      w .1,
+      sym (ap (itemAt _ _) (told-end _ _ _ _ (w .2)) ∙ glyph-past _ _ _ (c .if5 .left))
+          ∙ c .before .before .before .before .before .before .loop .inv .1,
+    )
 
 enum-told : tie.Need-enum-told Inv-loop μ-loop
 enum-told c = search needs

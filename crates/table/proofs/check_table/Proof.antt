@@ -2,8 +2,8 @@
 use mathlib.Core.Path.{_≡_, sym, _∙_, ap}
 use Prim.Native.Nat.{_-_, _≤_}
 use native.Mathlib.Omega.{arith}
-use borrow.Author.Needs.{needs}
 use lib.ListN.{length}
+use borrow.Author.Needs.{needs}
 use Rattle.table.specs.Steps.{stepsAt}
 use Rattle.table.specs.Check.{checkSteps, tableOf}
 use Rattle.table.proofs.Checking.{value, start, start-bad, end, end-bad, cut, bad, trailing, complete, cut-off}
@@ -36,8 +36,11 @@ loop-less c =
 
 loop-again : tie.Need-loop-again Inv-loop μ-loop
 loop-again c =
-    let w = rw (c .before .t .given .1) at (c .before .before .before .step-at .ensures .1) in
-    (w .1, sym (ap (checkSteps _ _ _ _) (w .2) ∙ value _ _ _ _ _ (c .before .before .before .before .if1 .left) _ _) ∙ c .before .before .before .before .before .before .loop .inv .1)
+    let w = rw (c .before .t .given .1) at (c .before .before .before .step-at .ensures .1) in (
+      w .1,
+      sym (ap (checkSteps _ _ _ _) (w .2) ∙ value _ _ _ _ _ (c .before .before .before .before .if1 .left) _ _)
+          ∙ c .before .before .before .before .before .before .loop .inv .1,
+    )
 
 enum-known-t-2 : tie.Need-enum-known-t-2 Inv-loop μ-loop
 enum-known-t-2 c = search needs
@@ -50,7 +53,9 @@ misplaced-requires c κs =
 returns-2 : tie.Need-returns-2 Inv-loop μ-loop
 returns-2 c =
     let w = rw (c .before .before .before .t2 .given .1) at (c .before .before .before .before .before .step-at .ensures .1) in
-    c .misplaced .ensures ∙ sym (ap (checkSteps _ _ _ _) (w .2) ∙ start-bad _ _ _ _ _ (c .before .before .before .before .before .before .if1 .left) _ (c .before .if2 .taken)) ∙ c .before .before .before .before .before .before .before .before .loop .inv .1
+    c .misplaced .ensures
+    ∙ sym (ap (checkSteps _ _ _ _) (w .2) ∙ start-bad _ _ _ _ _ (c .before .before .before .before .before .before .if1 .left) _ (c .before .if2 .taken))
+    ∙ c .before .before .before .before .before .before .before .before .loop .inv .1
 
 loop-less-2 : tie.Need-loop-less-2 Inv-loop μ-loop
 loop-less-2 c =
@@ -59,8 +64,11 @@ loop-less-2 c =
 
 loop-again-2 : tie.Need-loop-again-2 Inv-loop μ-loop
 loop-again-2 c =
-    let w = rw (c .before .before .t2 .given .1) at (c .before .before .before .before .step-at .ensures .1) in
-    (w .1, sym (ap (checkSteps _ _ _ _) (w .2) ∙ start _ _ _ _ _ (c .before .before .before .before .before .if1 .left) _ (c .if2 .left)) ∙ c .before .before .before .before .before .before .before .loop .inv .1)
+    let w = rw (c .before .before .t2 .given .1) at (c .before .before .before .before .step-at .ensures .1) in (
+      w .1,
+      sym (ap (checkSteps _ _ _ _) (w .2) ∙ start _ _ _ _ _ (c .before .before .before .before .before .if1 .left) _ (c .if2 .left))
+          ∙ c .before .before .before .before .before .before .before .loop .inv .1,
+    )
 
 enum-known-t-3 : tie.Need-enum-known-t-3 Inv-loop μ-loop
 enum-known-t-3 c = search needs
@@ -73,7 +81,9 @@ misplaced-requires-2 c κs =
 returns-3 : tie.Need-returns-3 Inv-loop μ-loop
 returns-3 c =
     let w = rw (c .before .before .before .t3 .given .1) at (c .before .before .before .before .before .step-at .ensures .1) in
-    c .misplaced2 .ensures ∙ sym (ap (checkSteps _ _ _ _) (w .2) ∙ end-bad _ _ _ _ _ (c .before .before .before .before .before .before .if1 .left) _ (c .before .if3 .taken)) ∙ c .before .before .before .before .before .before .before .before .loop .inv .1
+    c .misplaced2 .ensures
+    ∙ sym (ap (checkSteps _ _ _ _) (w .2) ∙ end-bad _ _ _ _ _ (c .before .before .before .before .before .before .if1 .left) _ (c .before .if3 .taken))
+    ∙ c .before .before .before .before .before .before .before .before .loop .inv .1
 
 sub-left : tie.Need-sub-left Inv-loop μ-loop
 sub-left c = omega arith
@@ -85,8 +95,11 @@ loop-less-3 c =
 
 loop-again-3 : tie.Need-loop-again-3 Inv-loop μ-loop
 loop-again-3 c =
-    let w = rw (c .before .before .t3 .given .1) at (c .before .before .before .before .step-at .ensures .1) in
-    (w .1, sym (ap (checkSteps _ _ _ _) (w .2) ∙ end _ _ _ _ _ (c .before .before .before .before .before .if1 .left) _ (c .if3 .left)) ∙ c .before .before .before .before .before .before .before .loop .inv .1)
+    let w = rw (c .before .before .t3 .given .1) at (c .before .before .before .before .step-at .ensures .1) in (
+      w .1,
+      sym (ap (checkSteps _ _ _ _) (w .2) ∙ end _ _ _ _ _ (c .before .before .before .before .before .if1 .left) _ (c .if3 .left))
+          ∙ c .before .before .before .before .before .before .before .loop .inv .1,
+    )
 
 enum-told : tie.Need-enum-told Inv-loop μ-loop
 enum-told c = search needs
@@ -94,7 +107,8 @@ enum-told c = search needs
 returns-4 : tie.Need-returns-4 Inv-loop μ-loop
 returns-4 c =
     let w = rw (c .enum-told .given .1) at (c .before .before .step-at .ensures .1) in
-    sym (ap (checkSteps _ _ _ _) (w (omega arith)) ∙ cut _ _ _ _ _ (c .before .before .before .if1 .left)) ∙ c .before .before .before .before .before .loop .inv .1
+    sym (ap (checkSteps _ _ _ _) (w (omega arith)) ∙ cut _ _ _ _ _ (c .before .before .before .if1 .left))
+    ∙ c .before .before .before .before .before .loop .inv .1
 
 enum-known-t-4 : tie.Need-enum-known-t-4 Inv-loop μ-loop
 enum-known-t-4 c = search needs
@@ -102,7 +116,8 @@ enum-known-t-4 c = search needs
 returns-5 : tie.Need-returns-5 Inv-loop μ-loop
 returns-5 c =
     let w = rw (c .before .t4 .given .1) at (c .before .before .before .step-at .ensures .1) in
-    sym (ap (checkSteps _ _ _ _) (w .2) ∙ bad _ _ _ _ _ (c .before .before .before .before .if1 .left) _) ∙ c .before .before .before .before .before .before .loop .inv .1
+    sym (ap (checkSteps _ _ _ _) (w .2) ∙ bad _ _ _ _ _ (c .before .before .before .before .if1 .left) _)
+    ∙ c .before .before .before .before .before .before .loop .inv .1
 
 returns-6 : tie.Need-returns-6 Inv-loop μ-loop
 returns-6 c = sym (complete _ _ _ _ _ _ (c .if4 .taken) (c .before .loop-test .left)) ∙ c .before .before .loop .inv .1

@@ -2,9 +2,9 @@
 use mathlib.Core.Path.{_≡_, _∙_}
 use Prim.Native.Nat.{_-_}
 use native.Mathlib.Omega.{arith}
+use lib.ListN.{length, take, drop}
 use borrow.Author.Needs.{needs}
 use denote.Ref.{now}
-use lib.ListN.{length, take, drop}
 use Rattle.base.proofs.Parts.{rest-all}
 use Rattle.coding.specs.Coding.{readToken}
 use Rattle.table.specs.Steps.{stepOf, stepAt, StepSays}

@@ -3,10 +3,10 @@ use mathlib.Core.Path.{_∙_}
 use native.Mathlib.Omega.{arith}
 use native.Mathlib.Nat.{mod-lt}
 use lib.ListN.{getD}
+use borrow.Author.Needs.{needs}
 use denote.Ref.{now}
 use Rattle.utf8.proofs.First.{empty, as-start, as-end, as-bad, as-value}
 use Rattle.utf8.proofs.Rows.{Fine, all-fine}
-use borrow.Author.Needs.{needs}
 use Rattle.utf8.proofs.read_utf8.Statement.{statement}
 use Rattle.utf8.proofs.read_utf8.Tie as tie
 
@@ -26,7 +26,8 @@ lead-of-requires : tie.Need-lead-of-requires
 lead-of-requires c κs = search needs
 
 returns-4 : tie.Need-returns-4
-returns-4 c = as-bad _ (omega arith) (c .before .before .before .if2 .left) (c .before .before .if3 .left) _ (c .before .lead-of .ensures) (c .if4 .taken)
+returns-4 c =
+    as-bad _ (omega arith) (c .before .before .before .if2 .left) (c .before .before .if3 .left) _ (c .before .lead-of .ensures) (c .if4 .taken)
 
 rem-wide : tie.Need-rem-wide
 rem-wide c =

@@ -2,8 +2,8 @@
 use mathlib.Core.Path.{_≡_, _∙_, sym}
 use Prim.Native.Nat.{_-_, _*_, _^_, _≤_, _<_}
 use native.Mathlib.Omega.{arith}
-use borrow.Author.Needs.{needs}
 use lib.ListN.{drop}
+use borrow.Author.Needs.{needs}
 use Rattle.utf8.specs.Utf8.{conts}
 use Rattle.utf8.proofs.Conts.{cut, low, high, next, done, more, few}
 use Rattle.utf8.proofs.rest_of.Statement.{statement}
