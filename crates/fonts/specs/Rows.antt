@@ -31,9 +31,9 @@ abbrev pub TableRows : List ℕ → Font → Checked → Type 0
 TableRows s f =
     row (Completable (codingOf (f .kind)) (f .count) (tailOf s f) × (IsTable (codingOf (f .kind)) (f .count) (tailOf s f) → ⊥)) (TableCut (length s))
     (rowAt (λ p. (k : ℕ) × (p ≡ f .end + k) × LongestStart (codingOf (f .kind)) (f .count) (tailOf s f) k × (k < length (tailOf s f))
-        × (IsTable (codingOf (f .kind)) (f .count) (take k (tailOf s f)) → ⊥)) TableBad
+    × (IsTable (codingOf (f .kind)) (f .count) (take k (tailOf s f)) → ⊥)) TableBad
     (rowAt (λ p. (k : ℕ) × (p ≡ f .end + k) × LongestStart (codingOf (f .kind)) (f .count) (tailOf s f) k × (k < length (tailOf s f))
-        × IsTable (codingOf (f .kind)) (f .count) (take k (tailOf s f))) Trailing
+    × IsTable (codingOf (f .kind)) (f .count) (take k (tailOf s f))) Trailing
     (λ a. a ≡ Sound f)))
 
 -- row 12 of a font without one

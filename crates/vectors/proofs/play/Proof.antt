@@ -1,0 +1,52 @@
+-- `vectors::play` is safe and ends: each turn of its loop is one step nearer the end. Assumes nothing.
+use lib.ListN.{length}
+use mathlib.Core.Path.{_≡_}
+use Prim.Native.Nat.{_-_, _≤_}
+use native.Mathlib.Omega.{arith}
+use borrow.Author.Needs.{needs}
+use Rattle.vectors.proofs.play.Statement.{statement}
+use Rattle.vectors.proofs.play.Tie as tie
+use Rattle.vectors.proofs.play.Reads as reads
+use Rattle.vectors.proofs.play.Lts as lts
+use Rattle.vectors.proofs.step.Reads as step-reads
+
+abbrev Inv-loop : tie.InvT-loop
+Inv-loop script file₀ c₀ i₀ file c i = length file ≡ length file₀
+
+abbrev μ-loop : tie.MeasureT-loop
+μ-loop script file₀ c₀ i₀ file c i = length script - i
+
+loop-holds : tie.Need-loop-holds Inv-loop μ-loop
+loop-holds c = search needs
+
+step-requires : tie.Need-step-requires Inv-loop μ-loop
+step-requires c κs = search needs
+
+add-i : tie.Need-add-i Inv-loop μ-loop
+add-i c = search needs
+
+loop-less : tie.Need-loop-less Inv-loop μ-loop
+loop-less c = search needs
+
+loop-again : tie.Need-loop-again Inv-loop μ-loop
+loop-again c = search needs
+
+same-length : tie.Need-same-length Inv-loop μ-loop
+same-length c = search needs
+
+returns : tie.Need-returns Inv-loop μ-loop
+returns c = search needs
+
+pub play-spec : {M : Type 1} → statement M
+play-spec =
+    tie.close
+    (tie.spec
+    Inv-loop
+    μ-loop
+    loop-holds
+    step-requires
+    add-i
+    loop-less
+    loop-again
+    same-length
+    returns)

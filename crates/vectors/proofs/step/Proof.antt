@@ -1,0 +1,82 @@
+-- `vectors::step` meets its contract: every part stands in its slice. Assumes nothing.
+use lib.Seq.{length-take-le}
+use lib.ListN.{length}
+use Prim.Native.Nat.{_≤_}
+use mathlib.Core.Path.{sym}
+use native.Mathlib.Omega.{arith}
+use borrow.Author.Needs.{needs}
+use Rattle.vectors.proofs.step.Statement.{statement}
+use Rattle.vectors.proofs.step.Tie as tie
+use Rattle.vectors.proofs.step.Reads as reads
+use Rattle.vectors.proofs.step.Lts as lts
+use Rattle.vectors.proofs.ask.Reads as ask-reads
+use Rattle.vectors.proofs.build.Reads as build-reads
+use Rattle.vectors.proofs.build_len.Reads as build-len-reads
+use Rattle.vectors.proofs.byte.Reads as byte-reads
+use Rattle.vectors.proofs.grown.Reads as grown-reads
+use Rattle.vectors.proofs.least.Reads as least-reads
+
+returns : tie.Need-returns
+returns c = search needs
+
+byte-requires : tie.Need-byte-requires
+byte-requires c κs = search needs
+
+cast-op : tie.Need-cast-op
+cast-op c = search needs
+
+build-requires : tie.Need-build-requires
+build-requires c κs = search needs
+
+build-len-requires : tie.Need-build-len-requires
+build-len-requires c κs = search needs
+
+grown-requires : tie.Need-grown-requires
+grown-requires c κs = search needs
+
+same-length : tie.Need-same-length
+same-length c = search needs
+
+returns-2 : tie.Need-returns-2
+returns-2 c = search needs
+
+least-requires : tie.Need-least-requires
+least-requires c κs = search needs
+
+slice-reshare-prefix-ask : tie.Need-slice-reshare-prefix-ask
+slice-reshare-prefix-ask c = search needs
+
+slice-aggregate-ask : tie.Need-slice-aggregate-ask
+slice-aggregate-ask c = let h : c .before .least .result ≤ length (c .before .before .before .before .before .before .before .args .file .now) = omega arith in sym (length-take-le _ _ h)
+
+ask-requires : tie.Need-ask-requires
+ask-requires c κs = search needs
+
+grown-requires-2 : tie.Need-grown-requires-2
+grown-requires-2 c κs = search needs
+
+same-length-2 : tie.Need-same-length-2
+same-length-2 c = search needs
+
+returns-3 : tie.Need-returns-3
+returns-3 c = search needs
+
+pub step-spec : {M : Type 1} → statement M
+step-spec =
+    tie.close
+    (tie.spec
+    returns
+    byte-requires
+    cast-op
+    build-requires
+    build-len-requires
+    grown-requires
+    same-length
+    returns-2
+    least-requires
+    slice-reshare-prefix-ask
+    slice-aggregate-ask
+    ask-requires
+    grown-requires-2
+    same-length-2
+    returns-3)

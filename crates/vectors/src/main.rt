@@ -1,0 +1,472 @@
+// Answers a script of questions on fonts, read from standard input, by the public calls, and writes a line for each answer.
+// `rt ci` compares the lines with those of the independent second implementation in rust/second, which also wrote the script
+// (rust/vectors/src/script.rs lists the records). Nothing here is trusted: a script that is cut or wrong is read as zeros.
+use bitmap::Part;
+use bitmap::Pixel;
+use fonts::Lookup;
+use fonts::Walk;
+use header::Checked;
+use header::Font;
+use header::Kind;
+use refusal::Refusal;
+use table::Item;
+ghost use mathlib.Core.Path.{_≡_};
+ghost use Prim.Native.Nat.{_<_, _≤_};
+ghost use lib.ListN.{length};
+
+// Where the script is read, and how long the current file is.
+struct Cursor {
+    at: usize,
+    len: usize,
+}
+
+fn least(a: usize, b: usize) -> usize
+    ensures { λ r. ⌜ (r ≤ a) × (r ≤ b) ⌝ }
+{
+    if a < b {
+        return a;
+    }
+    b
+}
+
+// a + n, at most `most`.
+fn grown(most: usize, a: usize, n: usize) -> usize
+    ensures { λ r. ⌜ r ≤ most ⌝ }
+{
+    if most < a {
+        return most;
+    }
+    if most - a < n {
+        return most;
+    }
+    a + n
+}
+
+// The n bytes from `a` on, or as many as there are.
+fn part<'a>(s: &'a [u8], a: usize, n: usize) -> &'a [u8] {
+    let len = s.len();
+    let from = least(a, len);
+    let to = grown(len, from, n);
+    if to < from {
+        return &s[..0];
+    }
+    &s[from..to]
+}
+
+fn byte(s: &[u8], at: usize) -> u32
+    ensures { λ r. ⌜ r < 256 ⌝ }
+{
+    if at < s.len() {
+        return base::wide(s[at]);
+    }
+    0
+}
+
+fn short_at(s: &[u8], at: usize) -> u32
+    ensures { λ r. ⌜ r < 65536 ⌝ }
+{
+    let p = part(s, at, 2);
+    byte(p, 0) + 256 * byte(p, 1)
+}
+
+fn word_at(s: &[u8], at: usize) -> u32 {
+    let p = part(s, at, 4);
+    if p.len() < 4 {
+        return 0;
+    }
+    base::get32(p, 0)
+}
+
+fn wide(x: u32) -> u64
+    ensures { λ r. ⌜ (r ≡ x) × (r < 4294967296) ⌝ }
+{
+    x as u64
+}
+
+fn long_at(s: &[u8], at: usize) -> u64 {
+    let p = part(s, at, 8);
+    wide(word_at(p, 0)) + 4294967296 * wide(word_at(p, 4))
+}
+
+fn index_at(s: &[u8], at: usize) -> usize {
+    long_at(s, at) as usize
+}
+
+// Puts src's bytes at the start of out, as far as they fit.
+fn put(src: &[u8], out: &mut [u8]) {
+    let n = least(src.len(), out.len());
+    let mut i = 0;
+    while i < n {
+        out[i] = src[i];
+        i += 1;
+    }
+}
+
+// Puts n copies of b at the start of out, as far as they fit.
+fn fill(n: usize, b: u8, out: &mut [u8]) {
+    let most = least(n, out.len());
+    let mut i = 0;
+    while i < most {
+        out[i] = b;
+        i += 1;
+    }
+}
+
+fn say(text: &[u8]) {
+    io::write_all(1, text);
+}
+
+fn decimal(n: usize) {
+    io::print_decimal(1, n as u64);
+}
+
+fn upper(b: u8) -> u8 {
+    if 97 <= b {
+        return b - 32;
+    }
+    b
+}
+
+// A value: upper-case hexadecimal without leading zeros.
+fn value(v: u32) {
+    let mut text = [0u8; 16];
+    let k = io::hex(wide(v), 1, &mut text);
+    letters(&text[..k]);
+}
+
+fn letters(text: &[u8]) {
+    let mut i = 0;
+    while i < text.len() {
+        let one = [upper(text[i])];
+        say(&one);
+        i += 1;
+    }
+}
+
+fn digit(n: u8) -> u8 {
+    let d = n % 16;
+    if d < 10 {
+        return 48 + d;
+    }
+    55 + d
+}
+
+// Bytes, two upper-case digits each.
+fn bytes(p: &[u8]) {
+    if p.len() == 0 {
+        say(b"-");
+    }
+    let mut i = 0;
+    while i < p.len() {
+        let b = p[i];
+        let two = [digit(b / 16), digit(b % 16)];
+        say(&two);
+        i += 1;
+    }
+}
+
+fn refused(r: Refusal) {
+    say(b"refused ");
+    decimal(base::size(refusal::number(r)));
+    say(b" ");
+    decimal(refusal::place(r));
+}
+
+fn kind_name(k: Kind) {
+    match k {
+        Kind::Psf1 => say(b"psf1 "),
+        Kind::Psf2 => say(b"psf2 "),
+        Kind::Vfont2 => say(b"vfont2 "),
+    }
+}
+
+fn sound(f: Font) {
+    say(b"sound ");
+    let k = f.kind;
+    kind_name(k);
+    decimal(f.count);
+    say(b" ");
+    decimal(f.height);
+    say(b" ");
+    decimal(f.width);
+    if f.table {
+        say(b" table");
+    } else {
+        say(b" bare");
+    }
+}
+
+fn ask_check(file: &[u8]) {
+    let a = fonts::check(file);
+    match a {
+        Checked::Sound(f) => sound(f),
+        Checked::Refused(r) => refused(r),
+    }
+}
+
+fn located(p: Part, view: &[u8]) {
+    match p {
+        Part::At(start, len) => {
+            decimal(start);
+            say(b" ");
+            decimal(len);
+        }
+        Part::Refused(r) => refused(r),
+    }
+    say(b" ");
+    bytes(view);
+}
+
+fn ask_glyph(file: &[u8], g: usize) {
+    say(b"glyph ");
+    decimal(g);
+    say(b" ");
+    located(fonts::glyph_part(file, g), fonts::glyph(file, g));
+}
+
+fn ask_row(file: &[u8], g: usize, y: usize) {
+    say(b"row ");
+    decimal(g);
+    say(b" ");
+    decimal(y);
+    say(b" ");
+    located(fonts::row_part(file, g, y), fonts::row(file, g, y));
+}
+
+fn ask_pixel(file: &[u8], g: usize, y: usize, x: usize) {
+    say(b"pixel ");
+    decimal(g);
+    say(b" ");
+    decimal(y);
+    say(b" ");
+    decimal(x);
+    say(b" ");
+    let p = fonts::pixel(file, g, y, x);
+    match p {
+        Pixel::Bit(b) => decimal(base::size(base::wide(b))),
+        Pixel::NoPixel(r) => refused(r),
+    }
+}
+
+fn item_text(i: Item) {
+    match i {
+        Item::Single(v) => {
+            say(b"single ");
+            value(v);
+        }
+        Item::Start => say(b"start"),
+        Item::Value(v) => {
+            say(b"value ");
+            value(v);
+        }
+        Item::End => say(b"end"),
+    }
+}
+
+fn ask_item(file: &[u8], g: usize, k: usize) {
+    say(b"item ");
+    decimal(g);
+    say(b" ");
+    decimal(k);
+    say(b" ");
+    let w = fonts::item(file, g, k);
+    match w {
+        Walk::Is(i) => item_text(i),
+        Walk::NoWalk(r) => refused(r),
+    }
+}
+
+fn looked_up(l: Lookup) {
+    match l {
+        Lookup::Glyph(g) => {
+            say(b"glyph ");
+            decimal(g);
+        }
+        Lookup::NoLookup(r) => refused(r),
+    }
+}
+
+fn ask_value(file: &[u8], v: u32) {
+    say(b"value ");
+    value(v);
+    say(b" ");
+    looked_up(fonts::find_value(file, v));
+}
+
+// The values of a sequence that stands at `at`.
+fn sequence_at(script: &[u8], at: usize) -> [u32; 255]
+    ensures { λ r. ⌜ 255 ≡ length r ⌝ }
+{
+    let mut out = [0u32; 255];
+    let mut i = 0;
+    let mut from = least(at, script.len());
+    while i < 255 {
+        out[i] = word_at(script, from);
+        from = grown(script.len(), from, 4);
+        i += 1;
+    }
+    out
+}
+
+fn sequence_text(vs: &[u32]) {
+    if vs.len() == 0 {
+        say(b"-");
+    }
+    let mut i = 0;
+    while i < vs.len() {
+        say(b"+");
+        value(vs[i]);
+        i += 1;
+    }
+}
+
+fn ask_sequence(file: &[u8], vs: &[u32]) {
+    say(b"sequence ");
+    sequence_text(vs);
+    say(b" ");
+    looked_up(fonts::find_sequence(file, vs));
+}
+
+// The questions: each prints its line; the answer is the record's length.
+fn ask(script: &[u8], at: usize, op: u8, file: &[u8]) -> usize {
+    let a = part(script, at, 25);
+    match op {
+        0x10 => {
+            ask_check(file);
+            say(b"\n");
+            1
+        }
+        0x11 => {
+            ask_glyph(file, index_at(a, 1));
+            say(b"\n");
+            9
+        }
+        0x12 => {
+            ask_row(file, index_at(a, 1), index_at(a, 9));
+            say(b"\n");
+            17
+        }
+        0x13 => {
+            ask_pixel(file, index_at(a, 1), index_at(a, 9), index_at(a, 17));
+            say(b"\n");
+            25
+        }
+        0x14 => {
+            ask_item(file, index_at(a, 1), index_at(a, 9));
+            say(b"\n");
+            17
+        }
+        0x15 => {
+            ask_value(file, word_at(a, 1));
+            say(b"\n");
+            5
+        }
+        0x16 => {
+            let n = base::size(byte(a, 1));
+            let from = grown(script.len(), at, 2);
+            let vs = sequence_at(script, from);
+            if n <= 255 {
+                ask_sequence(file, &vs[..n]);
+            }
+            say(b"\n");
+            2 + 4 * n
+        }
+        _ => 1,
+    }
+}
+
+// The records that make the current file: the answer is its new length.
+fn build(script: &[u8], at: usize, op: u8, file: &mut [u8], len: usize) -> usize {
+    let a = part(script, at, 8);
+    let most = file.len();
+    match op {
+        0x00 => {
+            say(b"# ");
+            let n = base::size(byte(a, 1));
+            let from = grown(script.len(), at, 2);
+            say(part(script, from, n));
+            say(b"\n");
+            len
+        }
+        0x01 => 0,
+        0x02 => {
+            let n = base::size(short_at(a, 1));
+            let from = grown(script.len(), at, 3);
+            let to = least(len, most);
+            put(part(script, from, n), &mut file[to..]);
+            grown(most, to, n)
+        }
+        0x03 => {
+            let n = base::size(word_at(a, 1));
+            let b = (byte(a, 5) % 256) as u8;
+            let to = least(len, most);
+            fill(n, b, &mut file[to..]);
+            grown(most, to, n)
+        }
+        0x04 => {
+            let i = base::size(word_at(a, 1));
+            let b = (byte(a, 5) % 256) as u8;
+            if i < most {
+                file[i] = b;
+            }
+            len
+        }
+        _ => least(len, base::size(word_at(a, 1))),
+    }
+}
+
+// How long a record that makes the file is.
+fn build_len(script: &[u8], at: usize, op: u8) -> usize {
+    let a = part(script, at, 8);
+    match op {
+        0x00 => 2 + base::size(byte(a, 1)),
+        0x01 => 1,
+        0x02 => 3 + base::size(short_at(a, 1)),
+        0x05 => 5,
+        _ => 6,
+    }
+}
+
+// One record, if one is left.
+fn step(script: &[u8], file: &mut [u8], c: Cursor) -> Cursor {
+    let at = c.at;
+    if script.len() <= at {
+        return c;
+    }
+    let op = (byte(script, at) % 256) as u8;
+    if op < 0x10 {
+        let len = build(script, at, op, file, c.len);
+        return Cursor {
+            at: grown(script.len(), at, build_len(script, at, op)),
+            len: len,
+        };
+    }
+    let len = least(c.len, file.len());
+    let n = ask(script, at, op, &file[..len]);
+    Cursor {
+        at: grown(script.len(), at, n),
+        len: len,
+    }
+}
+
+// Each record is at least a byte long, so there are no more records than bytes.
+fn play(script: &[u8], file: &mut [u8]) {
+    let mut c = Cursor { at: 0, len: 0 };
+    let mut i = 0;
+    while i < script.len() {
+        c = step(script, file, c);
+        i += 1;
+    }
+}
+
+// The script on a file that has room a little over the limit.
+fn run(script: &[u8], file: &mut [u8; 1048640]) {
+    play(script, file);
+}
+
+fn main() {
+    let mut script = [0u8; 262144];
+    let n = io::read_full(0, &mut script);
+    let mut file = [0u8; 1048640];
+    run(&script[..n], &mut file);
+}

@@ -1,0 +1,61 @@
+//! A second implementation of the readers and converters for the bitmap fonts
+//! PSF1, PSF2 and vfont2, written from document 01 alone. It is meant to be
+//! compared with another one, so it prefers the definitions over speed.
+//!
+//! - `font`: the checks on a font, refusals 1 to 9 and 12 of a bare font
+//! - `table`: the Unicode table, refusals 10 to 12, and its reading
+//! - `ask`: questions on glyphs and on the table, refusals 13 to 16
+//! - `convert`: the four conversions, refusals 17 to 21
+//! - `lister`: the text of the listing program
+
+mod ask;
+mod convert;
+mod font;
+mod lister;
+pub mod table;
+
+pub use ask::{find_sequence, find_value, glyph, pixel, row, walk};
+pub use convert::{psf1_to_psf2, psf2_to_psf1, psf2_to_vfont2, vfont2_to_psf2};
+pub use font::{check, Entry, Font, Kind};
+pub use lister::{first_line, list};
+pub use table::Item;
+
+/// The longest file read or written.
+pub const LIMIT: usize = 1_048_576;
+
+/// The longest input of the lister.
+pub const LISTER_LIMIT: usize = 65_536;
+
+/// The number said back and its place.
+#[derive(Debug, Clone, Copy, PartialEq, Eq)]
+pub struct Refusal {
+    pub number: u32,
+    pub place: usize,
+}
+
+pub const TOO_LONG: u32 = 1;
+pub const KIND: u32 = 2;
+pub const HEADER_CUT: u32 = 3;
+pub const VERSION: u32 = 4;
+pub const HEADER_SIZE: u32 = 5;
+pub const COUNT: u32 = 6;
+pub const SHAPE: u32 = 7;
+pub const BODY_CUT: u32 = 8;
+pub const ENTRY: u32 = 9;
+pub const TABLE_CUT: u32 = 10;
+pub const TABLE_BAD: u32 = 11;
+pub const TRAILING: u32 = 12;
+pub const ASK: u32 = 13;
+pub const NO_TABLE: u32 = 14;
+pub const UNMAPPED: u32 = 15;
+pub const NO_GLYPH: u32 = 16;
+pub const WRONG_KIND: u32 = 17;
+pub const GLYPHS: u32 = 18;
+pub const VALUE: u32 = 19;
+pub const SIZE: u32 = 20;
+pub const ROOM: u32 = 21;
+
+/// A refusal as the error of a call.
+pub(crate) fn refuse<T>(number: u32, place: usize) -> Result<T, Refusal> {
+    Err(Refusal { number, place })
+}

@@ -1,0 +1,169 @@
+//! Runs a script with the second implementation and gives the expected text.
+
+use crate::script::*;
+use second::{Item, Refusal};
+use std::fmt::Write;
+
+type Conversion = fn(&[u8], &mut [u8]) -> Result<usize, Refusal>;
+
+pub fn conversion(which: u8) -> Conversion {
+    match which {
+        0 => second::psf1_to_psf2,
+        1 => second::psf2_to_psf1,
+        2 => second::psf2_to_vfont2,
+        3 => second::vfont2_to_psf2,
+        _ => panic!("no such conversion"),
+    }
+}
+
+/// Takes arguments off the front of the script.
+struct Reader<'a>(&'a [u8]);
+
+impl<'a> Reader<'a> {
+    fn take(&mut self, count: usize) -> &'a [u8] {
+        let (front, rest) = self.0.split_at(count);
+        self.0 = rest;
+        front
+    }
+
+    fn number(&mut self, bytes: usize) -> u64 {
+        self.take(bytes).iter().rev().fold(0, |n, &b| n << 8 | b as u64)
+    }
+}
+
+pub fn checksum(buffer: &[u8]) -> u64 {
+    buffer.iter().fold(0, |s, &b| (s * 31 + b as u64) % 4_294_967_291)
+}
+
+fn refused(r: Refusal) -> String {
+    format!("refused {} {}", r.number, r.place)
+}
+
+/// A part's offset, length and bytes, or its refusal.
+fn part(file: &[u8], answer: Result<(usize, usize), Refusal>) -> String {
+    match answer {
+        Ok((offset, length)) => {
+            let bytes = &file[offset..offset + length];
+            let hex: String = bytes.iter().map(|b| format!("{b:02X}")).collect();
+            format!("{offset} {length} {hex}")
+        }
+        Err(r) => refused(r) + " -",
+    }
+}
+
+fn found(answer: Result<usize, Refusal>) -> String {
+    match answer {
+        Ok(g) => format!("glyph {g}"),
+        Err(r) => refused(r),
+    }
+}
+
+/// The expected text, the number of questions, and the bytes of the files they
+/// were asked about, all together.
+pub fn answer(script: &[u8]) -> (String, usize, usize) {
+    let mut script = Reader(script);
+    let mut text = String::new();
+    let (mut questions, mut asked) = (0, 0);
+    let mut file: Vec<u8> = Vec::new();
+    let mut last: Vec<u8> = Vec::new();
+    while !script.0.is_empty() {
+        let op = script.number(1) as u8;
+        if (CHECK..=CONVERT).contains(&op) {
+            questions += 1;
+            asked += file.len();
+        }
+        match op {
+            LABEL => {
+                let length = script.number(1) as usize;
+                let words = std::str::from_utf8(script.take(length)).unwrap();
+                writeln!(text, "# {words}").unwrap();
+            }
+            NEW => file.clear(),
+            BYTES => {
+                let count = script.number(2) as usize;
+                file.extend_from_slice(script.take(count));
+            }
+            FILL => {
+                let count = script.number(4) as usize;
+                let byte = script.number(1) as u8;
+                file.resize(file.len() + count, byte);
+            }
+            SET => {
+                let at = script.number(4) as usize;
+                file[at] = script.number(1) as u8;
+            }
+            TRIM => {
+                let length = script.number(4) as usize;
+                assert!(length <= file.len());
+                file.truncate(length);
+            }
+            CHECK => {
+                let words = match second::check(&file) {
+                    Ok(font) => format!("sound {}", second::first_line(&font)),
+                    Err(r) => refused(r),
+                };
+                writeln!(text, "{words}").unwrap();
+            }
+            GLYPH => {
+                let g = script.number(8);
+                writeln!(text, "glyph {g} {}", part(&file, second::glyph(&file, g))).unwrap();
+            }
+            ROW => {
+                let (g, row) = (script.number(8), script.number(8));
+                let words = part(&file, second::row(&file, g, row));
+                writeln!(text, "row {g} {row} {words}").unwrap();
+            }
+            PIXEL => {
+                let (g, row, col) = (script.number(8), script.number(8), script.number(8));
+                let words = match second::pixel(&file, g, row, col) {
+                    Ok(drawn) => (drawn as u8).to_string(),
+                    Err(r) => refused(r),
+                };
+                writeln!(text, "pixel {g} {row} {col} {words}").unwrap();
+            }
+            WALK => {
+                let (g, k) = (script.number(8), script.number(8));
+                let words = match second::walk(&file, g, k) {
+                    Ok(Item::Single(v)) => format!("single {v:X}"),
+                    Ok(Item::Start) => "start".to_string(),
+                    Ok(Item::Value(v)) => format!("value {v:X}"),
+                    Ok(Item::End) => "end".to_string(),
+                    Err(r) => refused(r),
+                };
+                writeln!(text, "item {g} {k} {words}").unwrap();
+            }
+            VALUE => {
+                let v = script.number(4) as u32;
+                writeln!(text, "value {v:X} {}", found(second::find_value(&file, v))).unwrap();
+            }
+            SEQUENCE => {
+                let count = script.number(1);
+                let values: Vec<u32> = (0..count).map(|_| script.number(4) as u32).collect();
+                let mut name: String = values.iter().map(|v| format!("+{v:X}")).collect();
+                if name.is_empty() {
+                    name = "-".to_string();
+                }
+                let words = found(second::find_sequence(&file, &values));
+                writeln!(text, "sequence {name} {words}").unwrap();
+            }
+            CONVERT => {
+                let which = script.number(1) as u8;
+                let room = script.number(4) as usize;
+                assert!(room <= LONGEST);
+                let mut out = vec![0xA5; room];
+                let words = match conversion(which)(&file, &mut out) {
+                    Ok(length) => {
+                        last = out[..length].to_vec();
+                        format!("wrote {length}")
+                    }
+                    Err(r) => refused(r),
+                };
+                writeln!(text, "convert {which} {room} {words} sum {}", checksum(&out)).unwrap();
+            }
+            TAKE => file = last.clone(),
+            _ => panic!("no such op: {op:02X}"),
+        }
+        assert!(file.len() <= LONGEST);
+    }
+    (text, questions, asked)
+}

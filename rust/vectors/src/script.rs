@@ -1,0 +1,220 @@
+//! Writes a script: records of an op byte and its arguments, little endian. Keeps
+//! the current file beside it, so that a change can be taken back.
+
+pub const LABEL: u8 = 0x00;
+pub const NEW: u8 = 0x01;
+pub const BYTES: u8 = 0x02;
+pub const FILL: u8 = 0x03;
+pub const SET: u8 = 0x04;
+pub const TRIM: u8 = 0x05;
+pub const CHECK: u8 = 0x10;
+pub const GLYPH: u8 = 0x11;
+pub const ROW: u8 = 0x12;
+pub const PIXEL: u8 = 0x13;
+pub const WALK: u8 = 0x14;
+pub const VALUE: u8 = 0x15;
+pub const SEQUENCE: u8 = 0x16;
+pub const CONVERT: u8 = 0x20;
+pub const TAKE: u8 = 0x21;
+
+/// The longest current file and the longest buffer.
+pub const LONGEST: usize = 1_048_640;
+
+pub struct Script {
+    pub bytes: Vec<u8>,
+    pub file: Vec<u8>,
+    last: Option<Vec<u8>>,
+}
+
+impl Script {
+    pub fn new() -> Script {
+        Script { bytes: Vec::new(), file: Vec::new(), last: None }
+    }
+
+    fn op(&mut self, op: u8, numbers: &[u64]) {
+        self.bytes.push(op);
+        for n in numbers {
+            self.bytes.extend_from_slice(&n.to_le_bytes());
+        }
+    }
+
+    pub fn label(&mut self, text: &str) {
+        assert!(text.is_ascii() && text.len() < 256 && !text.contains('\n'));
+        self.bytes.extend_from_slice(&[LABEL, text.len() as u8]);
+        self.bytes.extend_from_slice(text.as_bytes());
+    }
+
+    pub fn new_file(&mut self) {
+        self.bytes.push(NEW);
+        self.file.clear();
+    }
+
+    fn plain(&mut self, bytes: &[u8]) {
+        for part in bytes.chunks(0xFFFF) {
+            self.bytes.push(BYTES);
+            self.bytes.extend_from_slice(&(part.len() as u16).to_le_bytes());
+            self.bytes.extend_from_slice(part);
+        }
+        self.file.extend_from_slice(bytes);
+    }
+
+    pub fn fill(&mut self, count: usize, byte: u8) {
+        self.bytes.push(FILL);
+        self.bytes.extend_from_slice(&(count as u32).to_le_bytes());
+        self.bytes.push(byte);
+        self.file.resize(self.file.len() + count, byte);
+        assert!(self.file.len() <= LONGEST);
+    }
+
+    /// Appends bytes, long runs of one byte as FILL.
+    pub fn append(&mut self, bytes: &[u8]) {
+        let (mut from, mut at) = (0, 0);
+        while at < bytes.len() {
+            let run = bytes[at..].iter().take_while(|&&b| b == bytes[at]).count();
+            if run >= 12 {
+                self.plain(&bytes[from..at]);
+                self.fill(run, bytes[at]);
+                from = at + run;
+            }
+            at += run;
+        }
+        self.plain(&bytes[from..]);
+        assert!(self.file.len() <= LONGEST);
+    }
+
+    /// The current file becomes these bytes.
+    pub fn file(&mut self, bytes: &[u8]) {
+        self.new_file();
+        self.append(bytes);
+    }
+
+    pub fn set(&mut self, at: usize, byte: u8) {
+        assert!(at < self.file.len());
+        self.bytes.push(SET);
+        self.bytes.extend_from_slice(&(at as u32).to_le_bytes());
+        self.bytes.push(byte);
+        self.file[at] = byte;
+    }
+
+    /// Sets the bytes at an offset that differ.
+    pub fn put(&mut self, at: usize, bytes: &[u8]) {
+        for (i, &byte) in bytes.iter().enumerate() {
+            if self.file[at + i] != byte {
+                self.set(at + i, byte);
+            }
+        }
+    }
+
+    pub fn trim(&mut self, length: usize) {
+        assert!(length <= self.file.len());
+        self.bytes.push(TRIM);
+        self.bytes.extend_from_slice(&(length as u32).to_le_bytes());
+        self.file.truncate(length);
+    }
+
+    pub fn check(&mut self) {
+        self.op(CHECK, &[]);
+    }
+
+    pub fn glyph(&mut self, g: u64) {
+        self.op(GLYPH, &[g]);
+    }
+
+    pub fn row(&mut self, g: u64, row: u64) {
+        self.op(ROW, &[g, row]);
+    }
+
+    pub fn pixel(&mut self, g: u64, row: u64, col: u64) {
+        self.op(PIXEL, &[g, row, col]);
+    }
+
+    pub fn walk(&mut self, g: u64, k: u64) {
+        self.op(WALK, &[g, k]);
+    }
+
+    pub fn value(&mut self, v: u32) {
+        self.bytes.push(VALUE);
+        self.bytes.extend_from_slice(&v.to_le_bytes());
+    }
+
+    pub fn values(&mut self, values: &[u32]) {
+        for &v in values {
+            self.value(v);
+        }
+    }
+
+    pub fn sequence(&mut self, values: &[u32]) {
+        self.bytes.extend_from_slice(&[SEQUENCE, values.len() as u8]);
+        for v in values {
+            self.bytes.extend_from_slice(&v.to_le_bytes());
+        }
+    }
+
+    /// Asks for a conversion and gives the length it has, if it is good.
+    pub fn convert(&mut self, which: u8, room: usize) -> Option<usize> {
+        assert!(room <= LONGEST);
+        self.bytes.extend_from_slice(&[CONVERT, which]);
+        self.bytes.extend_from_slice(&(room as u32).to_le_bytes());
+        let mut out = vec![0xA5; room];
+        let length = crate::answer::conversion(which)(&self.file, &mut out).ok()?;
+        out.truncate(length);
+        self.last = Some(out);
+        Some(length)
+    }
+
+    pub fn take(&mut self) {
+        self.bytes.push(TAKE);
+        self.file = self.last.clone().expect("a good conversion came before");
+    }
+
+    // from here on: several records at once
+
+    /// Checks the file with some bytes changed, and takes the change back.
+    pub fn check_with(&mut self, changes: &[(usize, &[u8])]) {
+        let before = self.file.clone();
+        for (at, bytes) in changes {
+            self.put(*at, bytes);
+        }
+        self.check();
+        self.put(0, &before);
+    }
+
+    /// Every item of these glyphs and one beyond.
+    pub fn walk_all(&mut self, glyphs: std::ops::Range<usize>) {
+        let font = second::check(&self.file).expect("a sound font to walk");
+        for g in glyphs {
+            let items = font.reading.get(g).map_or(0, |d| d.len());
+            for k in 0..=items {
+                self.walk(g as u64, k as u64);
+            }
+        }
+    }
+
+    /// A conversion with buffers one byte short, exact and longer; if it is
+    /// refused, one buffer.
+    pub fn convert_rooms(&mut self, which: u8) -> Option<usize> {
+        let before = self.bytes.len();
+        let Some(length) = self.convert(which, second::LIMIT) else {
+            self.bytes.truncate(before);
+            return self.convert(which, 100);
+        };
+        self.bytes.truncate(before);
+        self.convert(which, length - 1);
+        self.convert(which, length + 9);
+        self.convert(which, length)
+    }
+
+    /// A conversion of exact room; if it is refused, any room.
+    pub fn convert_exact(&mut self, which: u8) -> Option<usize> {
+        let before = self.bytes.len();
+        let length = self.convert(which, second::LIMIT);
+        self.bytes.truncate(before);
+        self.convert(which, length.unwrap_or(100))
+    }
+
+    /// A good conversion of exact room, and its output as the current file.
+    pub fn convert_take(&mut self, which: u8) {
+        self.convert_exact(which).expect("a good conversion");
+        self.take();
+    }
+}
