@@ -31,10 +31,10 @@ use Rattle.header.specs.Headers.{limit, kindOf, psf1Count, psf1Table, psf1Font,
 use Rattle.header.proofs.Cases as cases
 use Rattle.font.specs.Check.{codingOf, tailOf, answered, bodyOf, checkOf}
 use Rattle.font.proofs.Cases.{header-sound, header-refused, bare-trailing, bare-sound}
-use Rattle.fonts.specs.Rows.{row, rowAt, TableRows, BareRows, TailRows, Psf1Rows, HeadRows, Psf2Rows, Vfont2Rows, Begins, psf1Magic, psf2Magic, vfont2Magic, KindRows, Rows}
-use Rattle.fonts.proofs.Magic.{kind-says}
-use Rattle.fonts.proofs.Tables.{accepted-exactly, cut-exactly, bad-exactly, trailing-exactly}
-use Rattle.fonts.proofs.Reading.{checked}
+use Rattle.laws.specs.Rows.{row, rowAt, TableRows, BareRows, TailRows, Psf1Rows, HeadRows, Psf2Rows, Vfont2Rows, Begins, psf1Magic, psf2Magic, vfont2Magic, KindRows, Rows}
+use Rattle.laws.proofs.Magic.{kind-says}
+use Rattle.laws.proofs.Tables.{accepted-exactly, cut-exactly, bad-exactly, trailing-exactly}
+use Rattle.laws.proofs.Reading.{checked}
 
 -- a row that can be decided
 row-by : (P : Type 0) (r : Refusal) (rest : Checked → Type 0) (a : Checked) → P ⊎ (P → ⊥) → (P → Refused r ≡ a) → ((P → ⊥) → rest a) → row P r rest a
