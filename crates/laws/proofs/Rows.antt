@@ -181,7 +181,7 @@ module _ (s : List ℕ) (y : Bytes s) (short : length s ≤ limit) where
       row-by _ (BodyCut (length s)) _ (checkOf s) (less (length s) (4 + psf1Count (getD s 2 0) * getD s 3 0))
       (λ h. refused (Is Psf1) _ k (sym (cases.psf1-body-cut s _ _ refl refl (((omega arith, omega arith), d), h)))) (λ e.
       tail-rows s y (psf1Font (psf1Count (getD s 2 0)) (getD s 3 0) (psf1Table (getD s 2 0)))
-      (passes (Is Psf1) _ k (sym (cases.psf1-read s _ _ refl refl _ refl (((omega arith, omega arith), d), omega arith)))) (psf1Table (getD s 2 0)) refl))))
+      (passes (Is Psf1) _ k (sym (cases.psf1-read s _ _ refl refl _ _ refl refl (((omega arith, omega arith), d), omega arith)))) (psf1Table (getD s 2 0)) refl))))
 
   -- rows 3 to 6, whatever rows follow
   head-rows : (rest : Checked → Type 0) → ((r : Refusal) → headOf s ≡ Stop r → Refused r ≡ checkOf s) → (headOf s ≡ Read (fieldsOf s) → rest (checkOf s)) →
