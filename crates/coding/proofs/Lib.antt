@@ -1,2 +1,3 @@
--- Both codings keep the laws of a coding.
+-- Both codings keep the laws of a coding; what a first byte decides.
 pub mod Codings
+pub mod Firsts

@@ -181,8 +181,15 @@ module _ (s : List ℕ) (f : Fields) where
 
   pub psf2-read : (m : ℕ) → m ≡ f .header → Shaped × (f .header + f .count * f .size ≤ length s) →
       Sound (record {
-        kind = Psf2; count = f .count; entries = f .header; bitmaps = m; size = f .size; height = f .height; width = f .width;
-        end = f .header + f .count * f .size; table = f .table;
+        kind = Psf2;
+        count = f .count;
+        entries = f .header;
+        bitmaps = m;
+        size = f .size;
+        height = f .height;
+        width = f .width;
+        end = f .header + f .count * f .size;
+        table = f .table;
       }) ≡ psf2Body s f
   psf2-read m e h = rw e (psf2-sound h)
 
@@ -227,8 +234,15 @@ module _ (s : List ℕ) (f : Fields) where
 
     pub vfont2-read : (m : ℕ) → m ≡ f .header + f .count * 18 → (f .height ≡ h) × (f .width ≡ w) →
         Sound (record {
-          kind = Vfont2; count = f .count; entries = f .header; bitmaps = m; size = f .size; height = f .height; width = f .width;
-          end = m + f .size; table = f .table;
+          kind = Vfont2;
+          count = f .count;
+          entries = f .header;
+          bitmaps = m;
+          size = f .size;
+          height = f .height;
+          width = f .width;
+          end = m + f .size;
+          table = f .table;
         }) ≡ entriesOf s f
     vfont2-read m e p = rw e (vfont2-sound p)
 
