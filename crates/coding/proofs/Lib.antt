@@ -1,2 +1,3 @@
 -- Both codings keep the laws of a coding.
 pub mod Codings
+pub mod Written
