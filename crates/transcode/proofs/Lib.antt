@@ -1,0 +1,3 @@
+-- The laws of a table written in another coding; those to read first are in Meaning.
+pub mod Turns
+pub mod Meaning

@@ -1,0 +1,1 @@
+-- What the transcoder's calls mean on a table.

@@ -1,0 +1,2 @@
+-- A table's items written in another coding.
+pub mod Transcode
