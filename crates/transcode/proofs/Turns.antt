@@ -4,13 +4,8 @@ use mathlib.Core.Bool.{Bool, true, false}
 use mathlib.Core.List.{List, [], _∷_, _++_}
 use Prim.Native.Nat.{ℕ, _+_, _-_, _≤_, _<_}
 use native.Mathlib.Omega.{arith}
-use borrow.Rule.Slice.PartMut.{midOf, putMid}
-use lib.ListN.{length, take, drop, take-append-drop}
-use lib.Seq.{length-take-le}
-use mathlib.Core.List.{append-nil}
+use lib.ListN.{length, take, drop}
 use Rattle.base.specs.Choice.{when}
-use Rattle.base.specs.Over.{over}
-use Rattle.base.proofs.Over.{length-over, part-within, part-drop, part-over}
 use Rattle.coding.specs.declared.Coding.{Coding}
 use Rattle.coding.specs.Coding.{carriesOf, valueBytes, startBytes, endBytes, markLen}
 use Rattle.coding.proofs.Written.{start-len, end-len}
@@ -101,33 +96,6 @@ module _ (to : Coding) where
 
   pub past-bytes : (from : Coding) (s : List ℕ) (at : ℕ) → length s ≤ at → bytes to (told false (stepsAt from s at)) ≡ []
   past-bytes from s at h = ap (bytes to) (told-past from s false at h)
-
--- one turn of the writing: x written to the part from n on
-module _ (w x y xs v ys : List ℕ) (n l : ℕ) (h : n ≤ length w) (e : drop n w ≡ x ++ y) (q : l ≡ length x) where
-  pub turn-within : n + l ≤ length w
-  turn-within = rw q (part-within w x y n h e)
-
-  pub turn-left : drop (n + l) w ≡ y
-  turn-left = rw q (part-drop w x y n h e)
-
-  pub turn-over : v ≡ over (take n w) xs → ys ≡ over x (midOf n (length v - n) v) → putMid n (length v - n) v ys ≡ over (take (n + l) w) xs
-  turn-over ev ey = rw q (part-over w x y n h e xs v ys ev ey)
-
-  pub turn-length : length w ≤ length xs → v ≡ over (take n w) xs → ys ≡ over x (midOf n (length v - n) v) → length (putMid n (length v - n) v ys) ≡ length xs
-  turn-length g ev ey =
-      let k : n + l ≤ length w = turn-within in
-      let t = length-take-le (n + l) w k in
-      ap length (turn-over ev ey) ∙ length-over (take (n + l) w) xs (omega arith)
-
--- the room for x
-pub turn-room : (w x y : List ℕ) (n : ℕ) → n ≤ length w → drop n w ≡ x ++ y → n + length x ≤ length w
-turn-room w x y n h e = part-within w x y n h e
-
--- nothing is left to write
-pub all-over : (w xs v : List ℕ) (n : ℕ) → drop n w ≡ [] → v ≡ over (take n w) xs → v ≡ over w xs
-all-over w xs v n e ev =
-    let t : take n w ≡ w = sym (append-nil (take n w)) ∙ ap (λ (z : List ℕ). take n w ++ z) (sym e) ∙ take-append-drop n w in
-    ev ∙ ap (λ (z : List ℕ). over z xs) t
 
 pub recoded-from : (from to : Coding) (s : List ℕ) → recoded from to s ≡ bytes to (told false (stepsAt from s 0))
 unfolding recoded

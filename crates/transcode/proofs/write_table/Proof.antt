@@ -1,12 +1,12 @@
 -- `transcode::write_table` meets its contract: at each turn the items written so far stand in front, and those from the place on are left. Assumes nothing.
-use Rattle.transcode.proofs.Turns.{value-more, value-carried, start-more, end-more, value-bytes, start-bytes, end-bytes, cut-bytes, bad-bytes, past-bytes, turn-within, turn-left, turn-over, turn-length, turn-room, all-over, recoded-from, length-from}
+use Rattle.transcode.proofs.Turns.{value-more, value-carried, start-more, end-more, value-bytes, start-bytes, end-bytes, cut-bytes, bad-bytes, past-bytes, recoded-from, length-from}
 use Rattle.transcode.specs.declared.Measured.the-variants.{Length}
 use Rattle.transcode.specs.Transcode.{recoded, measure, tableLen}
 use Rattle.coding.proofs.Written.{carries-yes, start-len, end-len}
 use Rattle.coding.specs.Coding.{markLen, valueBytes, startBytes, endBytes}
 use Rattle.table.specs.Steps.{stepsAt, told}
 use Rattle.table.specs.Grammar.{bytes}
-use Rattle.base.proofs.Over.{over-none}
+use Rattle.base.proofs.Over.{over-none, turn-within, turn-left, turn-over, turn-length, turn-room, all-over}
 use Rattle.base.specs.Over.{over}
 use lib.ListN.{length, take, drop}
 use Prim.Native.Nat.{_+_, _-_, _*_, _≤_}
