@@ -106,3 +106,17 @@ header-flags m f t n z h w e = rw e
 pub header-mode : (n m : ℕ) (t : Bool) (z : ℕ) → m ≡ modeOf n t → 0x36 ∷ 0x04 ∷ m ∷ z ∷ [] ≡ header4 n t z
 unfolding header4
 header-mode n m t z e = rw e
+
+-- all are left at first
+all-left : (n : ℕ) → n ≡ n - 0
+all-left n = omega arith
+
+pub entries-all : (c h w n : ℕ) → entriesFrom c h w 0 n ≡ entriesFrom c h w 0 (n - 0)
+entries-all c h w n = ap (entriesFrom c h w 0) (all-left n)
+
+pub glyphs-all : (s : List ℕ) (e b c n : ℕ) → glyphsFrom s e b c 0 n ≡ glyphsFrom s e b c 0 (n - 0)
+glyphs-all s e b c n = ap (glyphsFrom s e b c 0) (all-left n)
+
+-- a part from a to z, said of the place that a is
+pub part-said : (s : List ℕ) (c a d z : ℕ) → a ≡ d → z ≡ a + c → take (z - a) (drop a s) ≡ take c (drop d s)
+part-said s c a d z e q = rw (q, add-sub-cancel-left a c, e)
