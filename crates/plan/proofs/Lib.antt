@@ -1,0 +1,2 @@
+-- Laws of the plans.
+pub mod Cases

@@ -1,0 +1,2 @@
+-- What a conversion is refused for, and how long its output is.
+pub mod Plans
