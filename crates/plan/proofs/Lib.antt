@@ -1,2 +1,3 @@
 -- Laws of the plans.
 pub mod Cases
+pub mod Inverse
