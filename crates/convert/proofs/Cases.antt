@@ -1,0 +1,1 @@
+-- The cases of the answer and of the buffer at the end.

@@ -1,0 +1,3 @@
+-- What the conversions answer and write.
+pub mod Outputs
+pub mod Conversions
