@@ -137,7 +137,7 @@ module _ (s : List ℕ) (f : Font) (n : ℕ) (b : getD s 3 0 < 256) where
       let fs : Rattle.header.specs.declared.Font.Font = f in
       let none : Breaks s (f .size) (entryAt (f .entries) i) → ⊥ = subst (λ (x : Font). i < x .count → Breaks s (x .size) (entryAt (x .entries) i) → ⊥) (k .0) (g .0 i) l in
       let z = even-size s (f .height) (f .width) (entryAt (f .entries) i) (f .size) (omega (arith, p .0 .3)) (omega (arith, p .0 .4))
-              (even-fields s (f .height) (f .width) (entryAt (f .entries) i) (even-each s (f .height) (f .width) (f .count) (f .entries) v i l)) none in
+      (even-fields s (f .height) (f .width) (entryAt (f .entries) i) (even-each s (f .height) (f .width) (f .count) (f .entries) v i l)) none in
       omega (arith, z .1, p .0 .7, p .1 .1)
 
   pub vfont2-to-psf2-asks : vfont2ToPsf2Plan s ≡ Ready f n → (Placed s f × Dispatched f × (n ≡ 32 + f .count * evenSize f + (length s - f .end)))

@@ -27,15 +27,21 @@ pub enum Converted {
 
 // The output of PSF1 to PSF2. Asks for a sound font, a table that can be carried, and room: the plan and the caller's test give it.
 fn write_psf1_to_psf2(file: &[u8], f: Font, out: &mut [u8])
-    requires {
-        ⌜ Placed (now file) f × Even f × (tableLen Ucs2 Utf8 (tailOf (now file) f) ≡ Length (length (recoded Ucs2 Utf8 (tailOf (now file) f))))
-        × (32 + f .count * f .size + length (recoded Ucs2 Utf8 (tailOf (now file) f)) ≤ length (now out)) ⌝
-    }
+    requires { ⌜ Placed (now file) f × Even f × (tableLen Ucs2 Utf8 (tailOf (now file) f) ≡ Length (length (recoded Ucs2 Utf8 (tailOf (now file) f))))
+        × (32 + f .count * f .size + length (recoded Ucs2 Utf8 (tailOf (now file) f)) ≤ length (now out)) ⌝ }
     ensures { λ _. ⌜ now (out .exit) ≡ over (psf1ToPsf2Bytes (now (file .entry)) f) (now (out .entry)) ⌝ }
 {
     let bitmaps = f.bitmaps;
     let end = f.end;
-    layout::put_header32(Psf2::MAGIC, f.table, f.count, f.size, f.height, f.width, &mut out[0..]);
+    layout::put_header32(
+        Psf2::MAGIC,
+        f.table,
+        f.count,
+        f.size,
+        f.height,
+        f.width,
+        &mut out[0..],
+    );
     base::copy(&file[bitmaps..end], &mut out[32..]);
     let at = 32 + (end - bitmaps);
     transcode::write_table(Coding::Ucs2, Coding::Utf8, &file[end..], &mut out[at..]);
@@ -61,10 +67,8 @@ pub fn psf1_to_psf2(file: &[u8], out: &mut [u8]) -> Converted
 
 // The output of PSF2 to PSF1. Asks for a sound font, a table that can be carried, and room: the plan and the caller's test give it.
 fn write_psf2_to_psf1(file: &[u8], f: Font, out: &mut [u8])
-    requires {
-        ⌜ Placed (now file) f × Even f × (tableLen Utf8 Ucs2 (tailOf (now file) f) ≡ Length (length (recoded Utf8 Ucs2 (tailOf (now file) f))))
-        × (4 + f .count * f .size + length (recoded Utf8 Ucs2 (tailOf (now file) f)) ≤ length (now out)) ⌝
-    }
+    requires { ⌜ Placed (now file) f × Even f × (tableLen Utf8 Ucs2 (tailOf (now file) f) ≡ Length (length (recoded Utf8 Ucs2 (tailOf (now file) f))))
+        × (4 + f .count * f .size + length (recoded Utf8 Ucs2 (tailOf (now file) f)) ≤ length (now out)) ⌝ }
     ensures { λ _. ⌜ now (out .exit) ≡ over (psf2ToPsf1Bytes (now (file .entry)) f) (now (out .entry)) ⌝ }
 {
     let bitmaps = f.bitmaps;
@@ -101,7 +105,15 @@ fn write_psf2_to_vfont2(file: &[u8], f: Font, out: &mut [u8])
     let bitmaps = f.bitmaps;
     let end = f.end;
     let total = end - bitmaps;
-    layout::put_header32(Vfont2::MAGIC, f.table, f.count, total, f.height, f.width, &mut out[0..]);
+    layout::put_header32(
+        Vfont2::MAGIC,
+        f.table,
+        f.count,
+        total,
+        f.height,
+        f.width,
+        &mut out[0..],
+    );
     layout::put_entries(f.count, f.size, f.height, f.width, &mut out[32..]);
     let at = 32 + f.count * 18;
     base::copy(&file[bitmaps..end], &mut out[at..]);
@@ -130,15 +142,21 @@ pub fn psf2_to_vfont2(file: &[u8], out: &mut [u8]) -> Converted
 // The output of vfont2 to PSF2. Asks for a sound font whose glyphs are all of one size, each within the bitmaps, and for room: the plan
 // and the caller's test give it.
 fn write_vfont2_to_psf2(file: &[u8], f: Font, out: &mut [u8])
-    requires {
-        ⌜ Placed (now file) f × Dispatched f × (32 + f .count * evenSize f + (length (now file) - f .end) ≤ length (now out))
-        × ((i : ℕ) → i < f .count → f .bitmaps + addressAt (now file) (f .entries + i * 18) + evenSize f ≤ length (now file)) ⌝
-    }
+    requires { ⌜ Placed (now file) f × Dispatched f × (32 + f .count * evenSize f + (length (now file) - f .end) ≤ length (now out))
+        × ((i : ℕ) → i < f .count → f .bitmaps + addressAt (now file) (f .entries + i * 18) + evenSize f ≤ length (now file)) ⌝ }
     ensures { λ _. ⌜ now (out .exit) ≡ over (vfont2ToPsf2Bytes (now (file .entry)) f) (now (out .entry)) ⌝ }
 {
     let end = f.end;
     let size = entries::glyph_bytes(f.height, f.width);
-    layout::put_header32(Psf2::MAGIC, f.table, f.count, size, f.height, f.width, &mut out[0..]);
+    layout::put_header32(
+        Psf2::MAGIC,
+        f.table,
+        f.count,
+        size,
+        f.height,
+        f.width,
+        &mut out[0..],
+    );
     layout::put_glyphs(file, f.entries, f.bitmaps, f.count, size, &mut out[32..]);
     let at = 32 + f.count * size;
     base::copy(&file[end..], &mut out[at..]);

@@ -2,6 +2,7 @@
 // A call answers, or gives one refusal of document 01; `refusal::number` and `refusal::place` tell which and where.
 use bitmap::Part;
 use bitmap::Pixel;
+use convert::Converted;
 use header::Checked;
 use header::Font;
 use lookup::Found;
@@ -10,7 +11,9 @@ use refusal::Refusal;
 use table::Item;
 ghost use mathlib.Core.Path.{_≡_};
 ghost use Rattle.header.specs.Placed.{Placed};
+ghost use lib.ListN.{length};
 ghost use Rattle.font.specs.Check.{checkOf};
+ghost use Rattle.convert.specs.Conversions.{psf1ToPsf2, psf1ToPsf2Into, psf2ToPsf1, psf2ToPsf1Into, psf2ToVfont2, psf2ToVfont2Into, vfont2ToPsf2, vfont2ToPsf2Into};
 ghost use Rattle.bitmap.specs.Bitmaps.{viewOf, PartInside};
 ghost use Rattle.fonts.specs.Questions.{glyphPartOf, rowPartOf, pixelAt, fontItems, itemOn, itemOf, valueOn, valueGlyph, anyHigh, askable, sequenceOn, sequenceGlyph};
 ghost use Rattle.lookup.specs.Lookup.{itemAt, findValue, findSequence};
@@ -207,4 +210,37 @@ pub fn find_sequence(file: &[u8], vs: &[u32]) -> Lookup
         Checked::Sound(f) => sequence_on(file, f, vs),
         Checked::Refused(r) => Lookup::NoLookup(r),
     }
+}
+
+// The font as PSF2, at the front of out; its length is answered, and nothing behind it changes.
+// Refusals: the font's own (1 to 12), WRONG KIND, VALUE, SIZE, ROOM. A refused call leaves out as it was.
+pub fn psf1_to_psf2(file: &[u8], out: &mut [u8]) -> Converted
+    ensures answer { λ r. ⌜ r ≡ psf1ToPsf2 (now (file .entry)) (length (now (out .entry))) ⌝ }
+    ensures buffer { λ _. ⌜ now (out .exit) ≡ psf1ToPsf2Into (now (file .entry)) (now (out .entry)) ⌝ }
+{
+    convert::psf1_to_psf2(file, out)
+}
+
+// The font as PSF1, as above. Refusals: the font's own (1 to 12), WRONG KIND, GLYPHS, VALUE, SIZE, ROOM.
+pub fn psf2_to_psf1(file: &[u8], out: &mut [u8]) -> Converted
+    ensures answer { λ r. ⌜ r ≡ psf2ToPsf1 (now (file .entry)) (length (now (out .entry))) ⌝ }
+    ensures buffer { λ _. ⌜ now (out .exit) ≡ psf2ToPsf1Into (now (file .entry)) (now (out .entry)) ⌝ }
+{
+    convert::psf2_to_psf1(file, out)
+}
+
+// The font as vfont2, as above. Refusals: the font's own (1 to 12), WRONG KIND, SIZE, ROOM.
+pub fn psf2_to_vfont2(file: &[u8], out: &mut [u8]) -> Converted
+    ensures answer { λ r. ⌜ r ≡ psf2ToVfont2 (now (file .entry)) (length (now (out .entry))) ⌝ }
+    ensures buffer { λ _. ⌜ now (out .exit) ≡ psf2ToVfont2Into (now (file .entry)) (now (out .entry)) ⌝ }
+{
+    convert::psf2_to_vfont2(file, out)
+}
+
+// The font as PSF2, as above. Refusals: the font's own (1 to 12), WRONG KIND, GLYPHS, SIZE, ROOM.
+pub fn vfont2_to_psf2(file: &[u8], out: &mut [u8]) -> Converted
+    ensures answer { λ r. ⌜ r ≡ vfont2ToPsf2 (now (file .entry)) (length (now (out .entry))) ⌝ }
+    ensures buffer { λ _. ⌜ now (out .exit) ≡ vfont2ToPsf2Into (now (file .entry)) (now (out .entry)) ⌝ }
+{
+    convert::vfont2_to_psf2(file, out)
 }

@@ -28,12 +28,26 @@ fn flags_of(table: bool) -> u32
 }
 
 // The header of a PSF2 or a vfont2 file.
-pub fn put_header32(magic: u32, table: bool, n: usize, size: usize, height: usize, width: usize, out: &mut [u8])
+pub fn put_header32(
+    magic: u32,
+    table: bool,
+    n: usize,
+    size: usize,
+    height: usize,
+    width: usize,
+    out: &mut [u8],
+)
     requires { ⌜ (n < 4294967296) × (size < 4294967296) × (height < 4294967296) × (width < 4294967296) × (32 ≤ length (now out)) ⌝ }
     ensures { λ _. ⌜ now (out .exit) ≡ over (header32 magic table n size height width) (now (out .entry)) ⌝ }
 {
     put_fields(magic, 0, 32, flags_of(table), &mut out[0..]);
-    put_fields(n as u32, size as u32, height as u32, width as u32, &mut out[16..]);
+    put_fields(
+        n as u32,
+        size as u32,
+        height as u32,
+        width as u32,
+        &mut out[16..],
+    );
 }
 
 fn mode_of(n: usize, table: bool) -> u8
@@ -102,11 +116,16 @@ pub fn put_entries(n: usize, size: usize, height: usize, width: usize, out: &mut
 }
 
 // The bitmaps of n glyphs of so many bytes, end to end, each from the address that its entry has.
-pub fn put_glyphs(file: &[u8], entries: usize, bitmaps: usize, n: usize, size: usize, out: &mut [u8])
-    requires {
-        ⌜ (length (now file) ≤ 1048576) × (entries + n * 18 ≤ length (now file)) × (n * size ≤ length (now out))
-        × ((i : ℕ) → i < n → bitmaps + addressAt (now file) (entries + i * 18) + size ≤ length (now file)) ⌝
-    }
+pub fn put_glyphs(
+    file: &[u8],
+    entries: usize,
+    bitmaps: usize,
+    n: usize,
+    size: usize,
+    out: &mut [u8],
+)
+    requires { ⌜ (length (now file) ≤ 1048576) × (entries + n * 18 ≤ length (now file)) × (n * size ≤ length (now out))
+        × ((i : ℕ) → i < n → bitmaps + addressAt (now file) (entries + i * 18) + size ≤ length (now file)) ⌝ }
     ensures { λ _. ⌜ now (out .exit) ≡ over (glyphsFrom (now (file .entry)) entries bitmaps size 0 n) (now (out .entry)) ⌝ }
 {
     let mut i: usize = 0;

@@ -79,10 +79,14 @@ module _ (s : List ℕ) (h w at : ℕ) where
 
   pub metrics-even : Bytes s → HasGlyph s at → metricsAt s at ≡ evenMetrics h w → EvenFields
   unfolding metricsAt
-  metrics-even y g e =
-      (g, signed-is _ h (le16-small s y (at + 8)) (ap (λ (m : Metrics). m .up) e), signed-is _ 0 (le16-small s y (at + 10)) (ap (λ (m : Metrics). m .down) e),
-      signed-is _ 0 (le16-small s y (at + 12)) (ap (λ (m : Metrics). m .left) e), signed-is _ w (le16-small s y (at + 14)) (ap (λ (m : Metrics). m .right) e),
-      signed-is _ w (le16-small s y (at + 16)) (ap (λ (m : Metrics). m .logical) e))
+  metrics-even y g e = (
+    g,
+    signed-is _ h (le16-small s y (at + 8)) (ap (λ (m : Metrics). m .up) e),
+    signed-is _ 0 (le16-small s y (at + 10)) (ap (λ (m : Metrics). m .down) e),
+    signed-is _ 0 (le16-small s y (at + 12)) (ap (λ (m : Metrics). m .left) e),
+    signed-is _ w (le16-small s y (at + 14)) (ap (λ (m : Metrics). m .right) e),
+    signed-is _ w (le16-small s y (at + 16)) (ap (λ (m : Metrics). m .logical) e),
+  )
 
   -- the test holds exactly of the entries that have a glyph with the metrics (height, 0, 0, width, width)
   pub even-exactly : h < 32768 → w < 32768 → Bytes s → (isEven s h w at ≡ true) ↔ EvenGlyph s h w at

@@ -204,7 +204,10 @@ fn gather(file: &[u8], f: Font) -> Plan
     match e {
         Evenness::Even => {
             let rest = file.len() - f.end;
-            fit(f, 32 + f.count * entries::glyph_bytes(f.height, f.width) + rest)
+            fit(
+                f,
+                32 + f.count * entries::glyph_bytes(f.height, f.width) + rest,
+            )
         }
         Evenness::Uneven(at) => Plan::Stop(Refusal::Glyphs(at)),
     }

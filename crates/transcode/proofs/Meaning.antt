@@ -49,10 +49,13 @@ module _ (from to : Coding) (ds : List Desc) (s : List ℕ) (o : Readable from d
   -- a place is told exactly when there is a first value that the coding can't carry, and then it is that value's first byte
   pub uncarried-exactly : (k : ℕ) → (tableLen from to s ≡ Uncarried k) ↔ FirstUncarried from to (items ds) 0 k
   unfolding tableLen
-  uncarried-exactly k = (λ q. said (Uncarried k) q, λ f.
-      ap (λ (x : List ℕ). measure to 0 0 (stepsFrom from 0 0 x)) (e ∙ ap (bytes from) (f .same))
-      ∙ uncarried-measured from to (f .before) (f .item) (f .after) 0 0 (subst (OfCoding from) (f .same) o) (f .carried) (f .uncarried)
-      ∙ ap Uncarried (sym (f .here)))
+  uncarried-exactly k = (
+    λ q. said (Uncarried k) q,
+    λ f.
+        ap (λ (x : List ℕ). measure to 0 0 (stepsFrom from 0 0 x)) (e ∙ ap (bytes from) (f .same))
+        ∙ uncarried-measured from to (f .before) (f .item) (f .after) 0 0 (subst (OfCoding from) (f .same) o) (f .carried) (f .uncarried)
+        ∙ ap Uncarried (sym (f .here)),
+  )
 
   -- what is written is the same descriptions in the other coding
   pub recoded-table : recoded from to s ≡ encode to ds

@@ -3,6 +3,7 @@
 // (rust/vectors/src/script.rs lists the records). Nothing here is trusted: a script that is cut or wrong is read as zeros.
 use bitmap::Part;
 use bitmap::Pixel;
+use convert::Converted;
 use fonts::Lookup;
 use fonts::Walk;
 use header::Checked;
@@ -14,10 +15,11 @@ ghost use mathlib.Core.Path.{_≡_};
 ghost use Prim.Native.Nat.{_<_, _≤_};
 ghost use lib.ListN.{length};
 
-// Where the script is read, and how long the current file is.
+// Where the script is read, how long the current file is, and how long the last good conversion's output.
 struct Cursor {
     at: usize,
     len: usize,
+    last: usize,
 }
 
 fn least(a: usize, b: usize) -> usize
@@ -427,8 +429,76 @@ fn build_len(script: &[u8], at: usize, op: u8) -> usize {
     }
 }
 
+fn converted(which: u8, file: &[u8], out: &mut [u8]) -> Converted {
+    match which {
+        0 => fonts::psf1_to_psf2(file, out),
+        1 => fonts::psf2_to_psf1(file, out),
+        2 => fonts::psf2_to_vfont2(file, out),
+        _ => fonts::vfont2_to_psf2(file, out),
+    }
+}
+
+fn checksum(p: &[u8]) -> u64 {
+    let mut sum: u64 = 0;
+    let mut i = 0;
+    while i < p.len() {
+        sum = (sum * 31 + wide(base::wide(p[i]))) % 4294967291;
+        i += 1;
+    }
+    sum
+}
+
+// A conversion into a buffer of A5s: its line; the answer is the output's length, or 0.
+fn ask_convert(which: u8, file: &[u8], out: &mut [u8]) -> usize {
+    say(b"convert ");
+    decimal(base::size(base::wide(which)));
+    say(b" ");
+    let room = out.len();
+    decimal(room);
+    say(b" ");
+    fill(room, 0xA5, out);
+    let c = converted(which, file, out);
+    let mut len = 0;
+    match c {
+        Converted::Wrote(n) => {
+            say(b"wrote ");
+            decimal(n);
+            len = n;
+        }
+        Converted::Refused(r) => refused(r),
+    }
+    say(b" sum ");
+    io::print_decimal(1, checksum(out));
+    say(b"\n");
+    len
+}
+
+// The records of conversions: one more answer line, or the last output taken as the current file.
+fn exchange(script: &[u8], file: &mut [u8], out: &mut [u8], c: Cursor) -> Cursor {
+    let a = part(script, c.at, 6);
+    let op = (byte(a, 0) % 256) as u8;
+    if op == 0x21 {
+        let last = least(c.last, out.len());
+        put(&out[..last], file);
+        return Cursor {
+            at: grown(script.len(), c.at, 1),
+            len: least(last, file.len()),
+            last: c.last,
+        };
+    }
+    let which = (byte(a, 1) % 256) as u8;
+    let room = least(base::size(word_at(a, 2)), out.len());
+    let len = least(c.len, file.len());
+    let last = ask_convert(which, &file[..len], &mut out[..room]);
+    Cursor {
+        at: grown(script.len(), c.at, 6),
+        len: len,
+        last: last,
+    }
+}
+
 // One record, if one is left.
-fn step(script: &[u8], file: &mut [u8], c: Cursor) -> Cursor {
+fn step(script: &[u8], file: &mut [u8], out: &mut [u8], c: Cursor) -> Cursor {
     let at = c.at;
     if script.len() <= at {
         return c;
@@ -439,34 +509,44 @@ fn step(script: &[u8], file: &mut [u8], c: Cursor) -> Cursor {
         return Cursor {
             at: grown(script.len(), at, build_len(script, at, op)),
             len: len,
+            last: c.last,
         };
+    }
+    if 0x20 <= op {
+        return exchange(script, file, out, c);
     }
     let len = least(c.len, file.len());
     let n = ask(script, at, op, &file[..len]);
     Cursor {
         at: grown(script.len(), at, n),
         len: len,
+        last: c.last,
     }
 }
 
 // Each record is at least a byte long, so there are no more records than bytes.
-fn play(script: &[u8], file: &mut [u8]) {
-    let mut c = Cursor { at: 0, len: 0 };
+fn play(script: &[u8], file: &mut [u8], out: &mut [u8]) {
+    let mut c = Cursor {
+        at: 0,
+        len: 0,
+        last: 0,
+    };
     let mut i = 0;
     while i < script.len() {
-        c = step(script, file, c);
+        c = step(script, file, out, c);
         i += 1;
     }
 }
 
-// The script on a file that has room a little over the limit.
-fn run(script: &[u8], file: &mut [u8; 1048640]) {
-    play(script, file);
+// The script on a file and a buffer that have room a little over the limit.
+fn run(script: &[u8], file: &mut [u8; 1048640], out: &mut [u8; 1048640]) {
+    play(script, file, out);
 }
 
 fn main() {
     let mut script = [0u8; 262144];
     let n = io::read_full(0, &mut script);
     let mut file = [0u8; 1048640];
-    run(&script[..n], &mut file);
+    let mut out = [0u8; 1048640];
+    run(&script[..n], &mut file, &mut out);
 }

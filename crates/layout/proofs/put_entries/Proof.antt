@@ -50,12 +50,17 @@ loop-less : tie.Need-loop-less Inv-loop μ-loop
 loop-less c = search needs
 
 loop-again : tie.Need-loop-again Inv-loop μ-loop
-loop-again c = let d = c .before .before .before .before .before .loop .inv .8 ∙ entries-next _ _ _ (c .before .before .before .before .before .before .before .args .n) (c .before .before .before .before .before .loop .i) (c .before .before .before .before .before .loop .address) (c .before .before .before .before .before .loop .inv .2) (omega arith) in
-    (omega arith, omega arith, next-multiple (c .before .before .before .before .before .loop .address) (c .before .before .before .before .before .loop .i) (c .before .before .before .before .before .before .before .args .size) (c .before .before .before .before .before .loop .inv .2), omega arith,
-    turn-within (entriesFrom (c .before .before .before .before .before .before .before .args .size) (c .before .before .before .before .before .before .before .args .height) (c .before .before .before .before .before .before .before .args .width) 0 (c .before .before .before .before .before .before .before .args .n)) (entryBytes (c .before .before .before .before .before .loop .address) (c .before .before .before .before .before .before .before .args .size) (c .before .before .before .before .before .before .before .args .height) (c .before .before .before .before .before .before .before .args .width)) (entriesFrom (c .before .before .before .before .before .before .before .args .size) (c .before .before .before .before .before .before .before .args .height) (c .before .before .before .before .before .before .before .args .width) (c .before .before .before .before .before .loop .i + 1) (c .before .before .before .before .before .before .before .args .n - (c .before .before .before .before .before .loop .i + 1))) (c .before .before .before .before .before .before .before .args .out .now) (c .before .before .before .before .before .loop .out) (c .before .before .before .before .before .before .before .args .out .now) (c .before .before .before .before .before .loop .at) 18 (c .before .before .before .before .before .loop .inv .4) d (sym (entry-length _ _ _ _)), c .before .before .before .before .before .loop .inv .5,
-    turn-length (entriesFrom (c .before .before .before .before .before .before .before .args .size) (c .before .before .before .before .before .before .before .args .height) (c .before .before .before .before .before .before .before .args .width) 0 (c .before .before .before .before .before .before .before .args .n)) (entryBytes (c .before .before .before .before .before .loop .address) (c .before .before .before .before .before .before .before .args .size) (c .before .before .before .before .before .before .before .args .height) (c .before .before .before .before .before .before .before .args .width)) (entriesFrom (c .before .before .before .before .before .before .before .args .size) (c .before .before .before .before .before .before .before .args .height) (c .before .before .before .before .before .before .before .args .width) (c .before .before .before .before .before .loop .i + 1) (c .before .before .before .before .before .before .before .args .n - (c .before .before .before .before .before .loop .i + 1))) (c .before .before .before .before .before .before .before .args .out .now) (c .before .before .before .before .before .loop .out) _ (c .before .before .before .before .before .loop .at) 18 (c .before .before .before .before .before .loop .inv .4) d (sym (entry-length _ _ _ _)) (c .before .before .before .before .before .loop .inv .5) (c .before .before .before .before .before .loop .inv .7) (c .before .before .put-entry .ensures),
-    turn-over (entriesFrom (c .before .before .before .before .before .before .before .args .size) (c .before .before .before .before .before .before .before .args .height) (c .before .before .before .before .before .before .before .args .width) 0 (c .before .before .before .before .before .before .before .args .n)) (entryBytes (c .before .before .before .before .before .loop .address) (c .before .before .before .before .before .before .before .args .size) (c .before .before .before .before .before .before .before .args .height) (c .before .before .before .before .before .before .before .args .width)) (entriesFrom (c .before .before .before .before .before .before .before .args .size) (c .before .before .before .before .before .before .before .args .height) (c .before .before .before .before .before .before .before .args .width) (c .before .before .before .before .before .loop .i + 1) (c .before .before .before .before .before .before .before .args .n - (c .before .before .before .before .before .loop .i + 1))) (c .before .before .before .before .before .before .before .args .out .now) (c .before .before .before .before .before .loop .out) _ (c .before .before .before .before .before .loop .at) 18 (c .before .before .before .before .before .loop .inv .4) d (sym (entry-length _ _ _ _)) (c .before .before .before .before .before .loop .inv .7) (c .before .before .put-entry .ensures),
-    turn-left (entriesFrom (c .before .before .before .before .before .before .before .args .size) (c .before .before .before .before .before .before .before .args .height) (c .before .before .before .before .before .before .before .args .width) 0 (c .before .before .before .before .before .before .before .args .n)) (entryBytes (c .before .before .before .before .before .loop .address) (c .before .before .before .before .before .before .before .args .size) (c .before .before .before .before .before .before .before .args .height) (c .before .before .before .before .before .before .before .args .width)) (entriesFrom (c .before .before .before .before .before .before .before .args .size) (c .before .before .before .before .before .before .before .args .height) (c .before .before .before .before .before .before .before .args .width) (c .before .before .before .before .before .loop .i + 1) (c .before .before .before .before .before .before .before .args .n - (c .before .before .before .before .before .loop .i + 1))) (c .before .before .before .before .before .before .before .args .out .now) (c .before .before .before .before .before .loop .out) (c .before .before .before .before .before .before .before .args .out .now) (c .before .before .before .before .before .loop .at) 18 (c .before .before .before .before .before .loop .inv .4) d (sym (entry-length _ _ _ _)))
+loop-again c = let d = c .before .before .before .before .before .loop .inv .8 ∙ entries-next _ _ _ (c .before .before .before .before .before .before .before .args .n) (c .before .before .before .before .before .loop .i) (c .before .before .before .before .before .loop .address) (c .before .before .before .before .before .loop .inv .2) (omega arith) in (
+  omega arith,
+  omega arith,
+  next-multiple (c .before .before .before .before .before .loop .address) (c .before .before .before .before .before .loop .i) (c .before .before .before .before .before .before .before .args .size) (c .before .before .before .before .before .loop .inv .2),
+  omega arith,
+  turn-within (entriesFrom (c .before .before .before .before .before .before .before .args .size) (c .before .before .before .before .before .before .before .args .height) (c .before .before .before .before .before .before .before .args .width) 0 (c .before .before .before .before .before .before .before .args .n)) (entryBytes (c .before .before .before .before .before .loop .address) (c .before .before .before .before .before .before .before .args .size) (c .before .before .before .before .before .before .before .args .height) (c .before .before .before .before .before .before .before .args .width)) (entriesFrom (c .before .before .before .before .before .before .before .args .size) (c .before .before .before .before .before .before .before .args .height) (c .before .before .before .before .before .before .before .args .width) (c .before .before .before .before .before .loop .i + 1) (c .before .before .before .before .before .before .before .args .n - (c .before .before .before .before .before .loop .i + 1))) (c .before .before .before .before .before .before .before .args .out .now) (c .before .before .before .before .before .loop .out) (c .before .before .before .before .before .before .before .args .out .now) (c .before .before .before .before .before .loop .at) 18 (c .before .before .before .before .before .loop .inv .4) d (sym (entry-length _ _ _ _)),
+  c .before .before .before .before .before .loop .inv .5,
+  turn-length (entriesFrom (c .before .before .before .before .before .before .before .args .size) (c .before .before .before .before .before .before .before .args .height) (c .before .before .before .before .before .before .before .args .width) 0 (c .before .before .before .before .before .before .before .args .n)) (entryBytes (c .before .before .before .before .before .loop .address) (c .before .before .before .before .before .before .before .args .size) (c .before .before .before .before .before .before .before .args .height) (c .before .before .before .before .before .before .before .args .width)) (entriesFrom (c .before .before .before .before .before .before .before .args .size) (c .before .before .before .before .before .before .before .args .height) (c .before .before .before .before .before .before .before .args .width) (c .before .before .before .before .before .loop .i + 1) (c .before .before .before .before .before .before .before .args .n - (c .before .before .before .before .before .loop .i + 1))) (c .before .before .before .before .before .before .before .args .out .now) (c .before .before .before .before .before .loop .out) _ (c .before .before .before .before .before .loop .at) 18 (c .before .before .before .before .before .loop .inv .4) d (sym (entry-length _ _ _ _)) (c .before .before .before .before .before .loop .inv .5) (c .before .before .before .before .before .loop .inv .7) (c .before .before .put-entry .ensures),
+  turn-over (entriesFrom (c .before .before .before .before .before .before .before .args .size) (c .before .before .before .before .before .before .before .args .height) (c .before .before .before .before .before .before .before .args .width) 0 (c .before .before .before .before .before .before .before .args .n)) (entryBytes (c .before .before .before .before .before .loop .address) (c .before .before .before .before .before .before .before .args .size) (c .before .before .before .before .before .before .before .args .height) (c .before .before .before .before .before .before .before .args .width)) (entriesFrom (c .before .before .before .before .before .before .before .args .size) (c .before .before .before .before .before .before .before .args .height) (c .before .before .before .before .before .before .before .args .width) (c .before .before .before .before .before .loop .i + 1) (c .before .before .before .before .before .before .before .args .n - (c .before .before .before .before .before .loop .i + 1))) (c .before .before .before .before .before .before .before .args .out .now) (c .before .before .before .before .before .loop .out) _ (c .before .before .before .before .before .loop .at) 18 (c .before .before .before .before .before .loop .inv .4) d (sym (entry-length _ _ _ _)) (c .before .before .before .before .before .loop .inv .7) (c .before .before .put-entry .ensures),
+  turn-left (entriesFrom (c .before .before .before .before .before .before .before .args .size) (c .before .before .before .before .before .before .before .args .height) (c .before .before .before .before .before .before .before .args .width) 0 (c .before .before .before .before .before .before .before .args .n)) (entryBytes (c .before .before .before .before .before .loop .address) (c .before .before .before .before .before .before .before .args .size) (c .before .before .before .before .before .before .before .args .height) (c .before .before .before .before .before .before .before .args .width)) (entriesFrom (c .before .before .before .before .before .before .before .args .size) (c .before .before .before .before .before .before .before .args .height) (c .before .before .before .before .before .before .before .args .width) (c .before .before .before .before .before .loop .i + 1) (c .before .before .before .before .before .before .before .args .n - (c .before .before .before .before .before .loop .i + 1))) (c .before .before .before .before .before .before .before .args .out .now) (c .before .before .before .before .before .loop .out) (c .before .before .before .before .before .before .before .args .out .now) (c .before .before .before .before .before .loop .at) 18 (c .before .before .before .before .before .loop .inv .4) d (sym (entry-length _ _ _ _)),
+)
 
 same-length : tie.Need-same-length Inv-loop μ-loop
 same-length c = search needs

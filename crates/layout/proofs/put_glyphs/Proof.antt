@@ -78,12 +78,16 @@ loop-less : tie.Need-loop-less Inv-loop μ-loop
 loop-less c = search needs
 
 loop-again : tie.Need-loop-again Inv-loop μ-loop
-loop-again c = let b = c .before .before .before .before .before .before .before .before .before .before .before .pre .3 (c .before .before .before .before .before .before .before .before .loop .i) (omega arith) in let e = ap (le32 (c .before .before .before .before .before .before .before .before .before .before .before .args .file .now)) (c .before .before .before .before .before .before .before .before .loop .inv .2) in let d = c .before .before .before .before .before .before .before .before .loop .inv .7 ∙ glyphs-next (c .before .before .before .before .before .before .before .before .before .before .before .args .file .now) (c .before .before .before .before .before .before .before .before .before .before .before .args .entries) (c .before .before .before .before .before .before .before .before .before .before .before .args .bitmaps) (c .before .before .before .before .before .before .before .before .before .before .before .args .size) (c .before .before .before .before .before .before .before .before .before .before .before .args .n) (c .before .before .before .before .before .before .before .before .loop .i) (omega arith) in let l = part-length (c .before .before .before .before .before .before .before .before .before .before .before .args .file .now) (c .before .before .before .before .before .before .before .before .before .before .before .args .entries) (c .before .before .before .before .before .before .before .before .before .before .before .args .bitmaps) (c .before .before .before .before .before .before .before .before .before .before .before .args .size) (c .before .before .before .before .before .before .before .before .before .before .before .args .bitmaps + addressAt (c .before .before .before .before .before .before .before .before .before .before .before .args .file .now) (c .before .before .before .before .before .before .before .before .before .before .before .args .entries + c .before .before .before .before .before .before .before .before .loop .i * 18)) b in
-    (omega arith, next-multiple (c .before .before .before .before .before .before .before .before .loop .at) (c .before .before .before .before .before .before .before .before .loop .i) (c .before .before .before .before .before .before .before .before .before .before .before .args .size) (c .before .before .before .before .before .before .before .before .loop .inv .1), omega arith,
-    turn-within (glyphsFrom (c .before .before .before .before .before .before .before .before .before .before .before .args .file .now) (c .before .before .before .before .before .before .before .before .before .before .before .args .entries) (c .before .before .before .before .before .before .before .before .before .before .before .args .bitmaps) (c .before .before .before .before .before .before .before .before .before .before .before .args .size) 0 (c .before .before .before .before .before .before .before .before .before .before .before .args .n)) (take (c .before .before .before .before .before .before .before .before .before .before .before .args .size) (drop (c .before .before .before .before .before .before .before .before .before .before .before .args .bitmaps + addressAt (c .before .before .before .before .before .before .before .before .before .before .before .args .file .now) (c .before .before .before .before .before .before .before .before .before .before .before .args .entries + c .before .before .before .before .before .before .before .before .loop .i * 18)) (c .before .before .before .before .before .before .before .before .before .before .before .args .file .now))) (glyphsFrom (c .before .before .before .before .before .before .before .before .before .before .before .args .file .now) (c .before .before .before .before .before .before .before .before .before .before .before .args .entries) (c .before .before .before .before .before .before .before .before .before .before .before .args .bitmaps) (c .before .before .before .before .before .before .before .before .before .before .before .args .size) (c .before .before .before .before .before .before .before .before .loop .i + 1) (c .before .before .before .before .before .before .before .before .before .before .before .args .n - (c .before .before .before .before .before .before .before .before .loop .i + 1))) (c .before .before .before .before .before .before .before .before .before .before .before .args .out .now) (c .before .before .before .before .before .before .before .before .loop .out) (c .before .before .before .before .before .before .before .before .before .before .before .args .out .now) (c .before .before .before .before .before .before .before .before .loop .at) (c .before .before .before .before .before .before .before .before .before .before .before .args .size) (c .before .before .before .before .before .before .before .before .loop .inv .3) d (sym l), c .before .before .before .before .before .before .before .before .loop .inv .4,
-    turn-length (glyphsFrom (c .before .before .before .before .before .before .before .before .before .before .before .args .file .now) (c .before .before .before .before .before .before .before .before .before .before .before .args .entries) (c .before .before .before .before .before .before .before .before .before .before .before .args .bitmaps) (c .before .before .before .before .before .before .before .before .before .before .before .args .size) 0 (c .before .before .before .before .before .before .before .before .before .before .before .args .n)) (take (c .before .before .before .before .before .before .before .before .before .before .before .args .size) (drop (c .before .before .before .before .before .before .before .before .before .before .before .args .bitmaps + addressAt (c .before .before .before .before .before .before .before .before .before .before .before .args .file .now) (c .before .before .before .before .before .before .before .before .before .before .before .args .entries + c .before .before .before .before .before .before .before .before .loop .i * 18)) (c .before .before .before .before .before .before .before .before .before .before .before .args .file .now))) (glyphsFrom (c .before .before .before .before .before .before .before .before .before .before .before .args .file .now) (c .before .before .before .before .before .before .before .before .before .before .before .args .entries) (c .before .before .before .before .before .before .before .before .before .before .before .args .bitmaps) (c .before .before .before .before .before .before .before .before .before .before .before .args .size) (c .before .before .before .before .before .before .before .before .loop .i + 1) (c .before .before .before .before .before .before .before .before .before .before .before .args .n - (c .before .before .before .before .before .before .before .before .loop .i + 1))) (c .before .before .before .before .before .before .before .before .before .before .before .args .out .now) (c .before .before .before .before .before .before .before .before .loop .out) _ (c .before .before .before .before .before .before .before .before .loop .at) (c .before .before .before .before .before .before .before .before .before .before .before .args .size) (c .before .before .before .before .before .before .before .before .loop .inv .3) d (sym l) (c .before .before .before .before .before .before .before .before .loop .inv .4) (c .before .before .before .before .before .before .before .before .loop .inv .6) (c .before .before .copy .ensures ∙ ap (λ (p : List ℕ). over p (midOf (c .before .before .before .before .before .before .before .before .loop .at) (length (c .before .before .before .before .before .before .before .before .loop .out) - c .before .before .before .before .before .before .before .before .loop .at) (c .before .before .before .before .before .before .before .before .loop .out))) (part-said (c .before .before .before .before .before .before .before .before .before .before .before .args .file .now) (c .before .before .before .before .before .before .before .before .before .before .before .args .size) (c .before .before .before .before .before .before .before .before .before .before .before .args .bitmaps + c .before .before .before .before .before .size .result) (c .before .before .before .before .before .before .before .before .before .before .before .args .bitmaps + addressAt (c .before .before .before .before .before .before .before .before .before .before .before .args .file .now) (c .before .before .before .before .before .before .before .before .before .before .before .args .entries + c .before .before .before .before .before .before .before .before .loop .i * 18)) (c .before .before .before .before .before .before .before .before .before .before .before .args .bitmaps + c .before .before .before .before .before .size .result + c .before .before .before .before .before .before .before .before .before .before .before .args .size) (omega arith) refl)),
-    turn-over (glyphsFrom (c .before .before .before .before .before .before .before .before .before .before .before .args .file .now) (c .before .before .before .before .before .before .before .before .before .before .before .args .entries) (c .before .before .before .before .before .before .before .before .before .before .before .args .bitmaps) (c .before .before .before .before .before .before .before .before .before .before .before .args .size) 0 (c .before .before .before .before .before .before .before .before .before .before .before .args .n)) (take (c .before .before .before .before .before .before .before .before .before .before .before .args .size) (drop (c .before .before .before .before .before .before .before .before .before .before .before .args .bitmaps + addressAt (c .before .before .before .before .before .before .before .before .before .before .before .args .file .now) (c .before .before .before .before .before .before .before .before .before .before .before .args .entries + c .before .before .before .before .before .before .before .before .loop .i * 18)) (c .before .before .before .before .before .before .before .before .before .before .before .args .file .now))) (glyphsFrom (c .before .before .before .before .before .before .before .before .before .before .before .args .file .now) (c .before .before .before .before .before .before .before .before .before .before .before .args .entries) (c .before .before .before .before .before .before .before .before .before .before .before .args .bitmaps) (c .before .before .before .before .before .before .before .before .before .before .before .args .size) (c .before .before .before .before .before .before .before .before .loop .i + 1) (c .before .before .before .before .before .before .before .before .before .before .before .args .n - (c .before .before .before .before .before .before .before .before .loop .i + 1))) (c .before .before .before .before .before .before .before .before .before .before .before .args .out .now) (c .before .before .before .before .before .before .before .before .loop .out) _ (c .before .before .before .before .before .before .before .before .loop .at) (c .before .before .before .before .before .before .before .before .before .before .before .args .size) (c .before .before .before .before .before .before .before .before .loop .inv .3) d (sym l) (c .before .before .before .before .before .before .before .before .loop .inv .6) (c .before .before .copy .ensures ∙ ap (λ (p : List ℕ). over p (midOf (c .before .before .before .before .before .before .before .before .loop .at) (length (c .before .before .before .before .before .before .before .before .loop .out) - c .before .before .before .before .before .before .before .before .loop .at) (c .before .before .before .before .before .before .before .before .loop .out))) (part-said (c .before .before .before .before .before .before .before .before .before .before .before .args .file .now) (c .before .before .before .before .before .before .before .before .before .before .before .args .size) (c .before .before .before .before .before .before .before .before .before .before .before .args .bitmaps + c .before .before .before .before .before .size .result) (c .before .before .before .before .before .before .before .before .before .before .before .args .bitmaps + addressAt (c .before .before .before .before .before .before .before .before .before .before .before .args .file .now) (c .before .before .before .before .before .before .before .before .before .before .before .args .entries + c .before .before .before .before .before .before .before .before .loop .i * 18)) (c .before .before .before .before .before .before .before .before .before .before .before .args .bitmaps + c .before .before .before .before .before .size .result + c .before .before .before .before .before .before .before .before .before .before .before .args .size) (omega arith) refl)),
-    turn-left (glyphsFrom (c .before .before .before .before .before .before .before .before .before .before .before .args .file .now) (c .before .before .before .before .before .before .before .before .before .before .before .args .entries) (c .before .before .before .before .before .before .before .before .before .before .before .args .bitmaps) (c .before .before .before .before .before .before .before .before .before .before .before .args .size) 0 (c .before .before .before .before .before .before .before .before .before .before .before .args .n)) (take (c .before .before .before .before .before .before .before .before .before .before .before .args .size) (drop (c .before .before .before .before .before .before .before .before .before .before .before .args .bitmaps + addressAt (c .before .before .before .before .before .before .before .before .before .before .before .args .file .now) (c .before .before .before .before .before .before .before .before .before .before .before .args .entries + c .before .before .before .before .before .before .before .before .loop .i * 18)) (c .before .before .before .before .before .before .before .before .before .before .before .args .file .now))) (glyphsFrom (c .before .before .before .before .before .before .before .before .before .before .before .args .file .now) (c .before .before .before .before .before .before .before .before .before .before .before .args .entries) (c .before .before .before .before .before .before .before .before .before .before .before .args .bitmaps) (c .before .before .before .before .before .before .before .before .before .before .before .args .size) (c .before .before .before .before .before .before .before .before .loop .i + 1) (c .before .before .before .before .before .before .before .before .before .before .before .args .n - (c .before .before .before .before .before .before .before .before .loop .i + 1))) (c .before .before .before .before .before .before .before .before .before .before .before .args .out .now) (c .before .before .before .before .before .before .before .before .loop .out) (c .before .before .before .before .before .before .before .before .before .before .before .args .out .now) (c .before .before .before .before .before .before .before .before .loop .at) (c .before .before .before .before .before .before .before .before .before .before .before .args .size) (c .before .before .before .before .before .before .before .before .loop .inv .3) d (sym l))
+loop-again c = let b = c .before .before .before .before .before .before .before .before .before .before .before .pre .3 (c .before .before .before .before .before .before .before .before .loop .i) (omega arith) in let e = ap (le32 (c .before .before .before .before .before .before .before .before .before .before .before .args .file .now)) (c .before .before .before .before .before .before .before .before .loop .inv .2) in let d = c .before .before .before .before .before .before .before .before .loop .inv .7 ∙ glyphs-next (c .before .before .before .before .before .before .before .before .before .before .before .args .file .now) (c .before .before .before .before .before .before .before .before .before .before .before .args .entries) (c .before .before .before .before .before .before .before .before .before .before .before .args .bitmaps) (c .before .before .before .before .before .before .before .before .before .before .before .args .size) (c .before .before .before .before .before .before .before .before .before .before .before .args .n) (c .before .before .before .before .before .before .before .before .loop .i) (omega arith) in let l = part-length (c .before .before .before .before .before .before .before .before .before .before .before .args .file .now) (c .before .before .before .before .before .before .before .before .before .before .before .args .entries) (c .before .before .before .before .before .before .before .before .before .before .before .args .bitmaps) (c .before .before .before .before .before .before .before .before .before .before .before .args .size) (c .before .before .before .before .before .before .before .before .before .before .before .args .bitmaps + addressAt (c .before .before .before .before .before .before .before .before .before .before .before .args .file .now) (c .before .before .before .before .before .before .before .before .before .before .before .args .entries + c .before .before .before .before .before .before .before .before .loop .i * 18)) b in (
+  omega arith,
+  next-multiple (c .before .before .before .before .before .before .before .before .loop .at) (c .before .before .before .before .before .before .before .before .loop .i) (c .before .before .before .before .before .before .before .before .before .before .before .args .size) (c .before .before .before .before .before .before .before .before .loop .inv .1),
+  omega arith,
+  turn-within (glyphsFrom (c .before .before .before .before .before .before .before .before .before .before .before .args .file .now) (c .before .before .before .before .before .before .before .before .before .before .before .args .entries) (c .before .before .before .before .before .before .before .before .before .before .before .args .bitmaps) (c .before .before .before .before .before .before .before .before .before .before .before .args .size) 0 (c .before .before .before .before .before .before .before .before .before .before .before .args .n)) (take (c .before .before .before .before .before .before .before .before .before .before .before .args .size) (drop (c .before .before .before .before .before .before .before .before .before .before .before .args .bitmaps + addressAt (c .before .before .before .before .before .before .before .before .before .before .before .args .file .now) (c .before .before .before .before .before .before .before .before .before .before .before .args .entries + c .before .before .before .before .before .before .before .before .loop .i * 18)) (c .before .before .before .before .before .before .before .before .before .before .before .args .file .now))) (glyphsFrom (c .before .before .before .before .before .before .before .before .before .before .before .args .file .now) (c .before .before .before .before .before .before .before .before .before .before .before .args .entries) (c .before .before .before .before .before .before .before .before .before .before .before .args .bitmaps) (c .before .before .before .before .before .before .before .before .before .before .before .args .size) (c .before .before .before .before .before .before .before .before .loop .i + 1) (c .before .before .before .before .before .before .before .before .before .before .before .args .n - (c .before .before .before .before .before .before .before .before .loop .i + 1))) (c .before .before .before .before .before .before .before .before .before .before .before .args .out .now) (c .before .before .before .before .before .before .before .before .loop .out) (c .before .before .before .before .before .before .before .before .before .before .before .args .out .now) (c .before .before .before .before .before .before .before .before .loop .at) (c .before .before .before .before .before .before .before .before .before .before .before .args .size) (c .before .before .before .before .before .before .before .before .loop .inv .3) d (sym l),
+  c .before .before .before .before .before .before .before .before .loop .inv .4,
+  turn-length (glyphsFrom (c .before .before .before .before .before .before .before .before .before .before .before .args .file .now) (c .before .before .before .before .before .before .before .before .before .before .before .args .entries) (c .before .before .before .before .before .before .before .before .before .before .before .args .bitmaps) (c .before .before .before .before .before .before .before .before .before .before .before .args .size) 0 (c .before .before .before .before .before .before .before .before .before .before .before .args .n)) (take (c .before .before .before .before .before .before .before .before .before .before .before .args .size) (drop (c .before .before .before .before .before .before .before .before .before .before .before .args .bitmaps + addressAt (c .before .before .before .before .before .before .before .before .before .before .before .args .file .now) (c .before .before .before .before .before .before .before .before .before .before .before .args .entries + c .before .before .before .before .before .before .before .before .loop .i * 18)) (c .before .before .before .before .before .before .before .before .before .before .before .args .file .now))) (glyphsFrom (c .before .before .before .before .before .before .before .before .before .before .before .args .file .now) (c .before .before .before .before .before .before .before .before .before .before .before .args .entries) (c .before .before .before .before .before .before .before .before .before .before .before .args .bitmaps) (c .before .before .before .before .before .before .before .before .before .before .before .args .size) (c .before .before .before .before .before .before .before .before .loop .i + 1) (c .before .before .before .before .before .before .before .before .before .before .before .args .n - (c .before .before .before .before .before .before .before .before .loop .i + 1))) (c .before .before .before .before .before .before .before .before .before .before .before .args .out .now) (c .before .before .before .before .before .before .before .before .loop .out) _ (c .before .before .before .before .before .before .before .before .loop .at) (c .before .before .before .before .before .before .before .before .before .before .before .args .size) (c .before .before .before .before .before .before .before .before .loop .inv .3) d (sym l) (c .before .before .before .before .before .before .before .before .loop .inv .4) (c .before .before .before .before .before .before .before .before .loop .inv .6) (c .before .before .copy .ensures ∙ ap (λ (p : List ℕ). over p (midOf (c .before .before .before .before .before .before .before .before .loop .at) (length (c .before .before .before .before .before .before .before .before .loop .out) - c .before .before .before .before .before .before .before .before .loop .at) (c .before .before .before .before .before .before .before .before .loop .out))) (part-said (c .before .before .before .before .before .before .before .before .before .before .before .args .file .now) (c .before .before .before .before .before .before .before .before .before .before .before .args .size) (c .before .before .before .before .before .before .before .before .before .before .before .args .bitmaps + c .before .before .before .before .before .size .result) (c .before .before .before .before .before .before .before .before .before .before .before .args .bitmaps + addressAt (c .before .before .before .before .before .before .before .before .before .before .before .args .file .now) (c .before .before .before .before .before .before .before .before .before .before .before .args .entries + c .before .before .before .before .before .before .before .before .loop .i * 18)) (c .before .before .before .before .before .before .before .before .before .before .before .args .bitmaps + c .before .before .before .before .before .size .result + c .before .before .before .before .before .before .before .before .before .before .before .args .size) (omega arith) refl)),
+  turn-over (glyphsFrom (c .before .before .before .before .before .before .before .before .before .before .before .args .file .now) (c .before .before .before .before .before .before .before .before .before .before .before .args .entries) (c .before .before .before .before .before .before .before .before .before .before .before .args .bitmaps) (c .before .before .before .before .before .before .before .before .before .before .before .args .size) 0 (c .before .before .before .before .before .before .before .before .before .before .before .args .n)) (take (c .before .before .before .before .before .before .before .before .before .before .before .args .size) (drop (c .before .before .before .before .before .before .before .before .before .before .before .args .bitmaps + addressAt (c .before .before .before .before .before .before .before .before .before .before .before .args .file .now) (c .before .before .before .before .before .before .before .before .before .before .before .args .entries + c .before .before .before .before .before .before .before .before .loop .i * 18)) (c .before .before .before .before .before .before .before .before .before .before .before .args .file .now))) (glyphsFrom (c .before .before .before .before .before .before .before .before .before .before .before .args .file .now) (c .before .before .before .before .before .before .before .before .before .before .before .args .entries) (c .before .before .before .before .before .before .before .before .before .before .before .args .bitmaps) (c .before .before .before .before .before .before .before .before .before .before .before .args .size) (c .before .before .before .before .before .before .before .before .loop .i + 1) (c .before .before .before .before .before .before .before .before .before .before .before .args .n - (c .before .before .before .before .before .before .before .before .loop .i + 1))) (c .before .before .before .before .before .before .before .before .before .before .before .args .out .now) (c .before .before .before .before .before .before .before .before .loop .out) _ (c .before .before .before .before .before .before .before .before .loop .at) (c .before .before .before .before .before .before .before .before .before .before .before .args .size) (c .before .before .before .before .before .before .before .before .loop .inv .3) d (sym l) (c .before .before .before .before .before .before .before .before .loop .inv .6) (c .before .before .copy .ensures ∙ ap (λ (p : List ℕ). over p (midOf (c .before .before .before .before .before .before .before .before .loop .at) (length (c .before .before .before .before .before .before .before .before .loop .out) - c .before .before .before .before .before .before .before .before .loop .at) (c .before .before .before .before .before .before .before .before .loop .out))) (part-said (c .before .before .before .before .before .before .before .before .before .before .before .args .file .now) (c .before .before .before .before .before .before .before .before .before .before .before .args .size) (c .before .before .before .before .before .before .before .before .before .before .before .args .bitmaps + c .before .before .before .before .before .size .result) (c .before .before .before .before .before .before .before .before .before .before .before .args .bitmaps + addressAt (c .before .before .before .before .before .before .before .before .before .before .before .args .file .now) (c .before .before .before .before .before .before .before .before .before .before .before .args .entries + c .before .before .before .before .before .before .before .before .loop .i * 18)) (c .before .before .before .before .before .before .before .before .before .before .before .args .bitmaps + c .before .before .before .before .before .size .result + c .before .before .before .before .before .before .before .before .before .before .before .args .size) (omega arith) refl)),
+  turn-left (glyphsFrom (c .before .before .before .before .before .before .before .before .before .before .before .args .file .now) (c .before .before .before .before .before .before .before .before .before .before .before .args .entries) (c .before .before .before .before .before .before .before .before .before .before .before .args .bitmaps) (c .before .before .before .before .before .before .before .before .before .before .before .args .size) 0 (c .before .before .before .before .before .before .before .before .before .before .before .args .n)) (take (c .before .before .before .before .before .before .before .before .before .before .before .args .size) (drop (c .before .before .before .before .before .before .before .before .before .before .before .args .bitmaps + addressAt (c .before .before .before .before .before .before .before .before .before .before .before .args .file .now) (c .before .before .before .before .before .before .before .before .before .before .before .args .entries + c .before .before .before .before .before .before .before .before .loop .i * 18)) (c .before .before .before .before .before .before .before .before .before .before .before .args .file .now))) (glyphsFrom (c .before .before .before .before .before .before .before .before .before .before .before .args .file .now) (c .before .before .before .before .before .before .before .before .before .before .before .args .entries) (c .before .before .before .before .before .before .before .before .before .before .before .args .bitmaps) (c .before .before .before .before .before .before .before .before .before .before .before .args .size) (c .before .before .before .before .before .before .before .before .loop .i + 1) (c .before .before .before .before .before .before .before .before .before .before .before .args .n - (c .before .before .before .before .before .before .before .before .loop .i + 1))) (c .before .before .before .before .before .before .before .before .before .before .before .args .out .now) (c .before .before .before .before .before .before .before .before .loop .out) (c .before .before .before .before .before .before .before .before .before .before .before .args .out .now) (c .before .before .before .before .before .before .before .before .loop .at) (c .before .before .before .before .before .before .before .before .before .before .before .args .size) (c .before .before .before .before .before .before .before .before .loop .inv .3) d (sym l),
+)
 
 same-length : tie.Need-same-length Inv-loop μ-loop
 same-length c = search needs

@@ -58,12 +58,15 @@ loop-less : tie.Need-loop-less Inv-loop μ-loop
 loop-less c = let w = rw (c .before .before .before .before .before .t .given .1) at (c .before .before .before .before .before .before .before .step-at .ensures .1) in omega (arith, w .0, w .1)
 
 loop-again : tie.Need-loop-again Inv-loop μ-loop
-loop-again c = let w = rw (c .before .before .before .before .before .t .given .1) at (c .before .before .before .before .before .before .before .step-at .ensures .1) in let d = c .before .before .before .before .before .before .before .before .before .loop .inv .5 ∙ value-bytes _ _ _ _ _ (w .2) in
-    (w .1, turn-within (recoded (c .before .before .before .before .before .before .before .before .before .before .before .before .args .from) (c .before .before .before .before .before .before .before .before .before .before .before .before .args .to) (c .before .before .before .before .before .before .before .before .before .before .before .before .args .tail .now)) (valueBytes (c .before .before .before .before .before .before .before .before .before .before .before .before .args .to) (c .before .before .before .before .before .t .given .0 .0)) (bytes (c .before .before .before .before .before .before .before .before .before .before .before .before .args .to) (told false (stepsAt (c .before .before .before .before .before .before .before .before .before .before .before .before .args .from) (c .before .before .before .before .before .before .before .before .before .before .before .before .args .tail .now) (c .before .before .before .before .before .t .given .0 .1 .0)))) (c .before .before .before .before .before .before .before .before .before .before .before .before .args .out .now) (c .before .before .before .before .before .before .before .before .before .loop .out) (c .before .before .before .before .before .before .before .before .before .before .before .before .args .out .now) (c .before .before .before .before .before .before .before .before .before .loop .n) _ (c .before .before .before .before .before .before .before .before .before .loop .inv .1) d (c .before .before .put-value .ensures .0), c .before .before .before .before .before .before .before .before .before .loop .inv .2,
-    turn-length (recoded (c .before .before .before .before .before .before .before .before .before .before .before .before .args .from) (c .before .before .before .before .before .before .before .before .before .before .before .before .args .to) (c .before .before .before .before .before .before .before .before .before .before .before .before .args .tail .now)) (valueBytes (c .before .before .before .before .before .before .before .before .before .before .before .before .args .to) (c .before .before .before .before .before .t .given .0 .0)) (bytes (c .before .before .before .before .before .before .before .before .before .before .before .before .args .to) (told false (stepsAt (c .before .before .before .before .before .before .before .before .before .before .before .before .args .from) (c .before .before .before .before .before .before .before .before .before .before .before .before .args .tail .now) (c .before .before .before .before .before .t .given .0 .1 .0)))) (c .before .before .before .before .before .before .before .before .before .before .before .before .args .out .now) (c .before .before .before .before .before .before .before .before .before .loop .out) _ (c .before .before .before .before .before .before .before .before .before .loop .n) _ (c .before .before .before .before .before .before .before .before .before .loop .inv .1) d (c .before .before .put-value .ensures .0) (c .before .before .before .before .before .before .before .before .before .loop .inv .2) (c .before .before .before .before .before .before .before .before .before .loop .inv .4) (c .before .before .put-value .ensures .1),
-    turn-over (recoded (c .before .before .before .before .before .before .before .before .before .before .before .before .args .from) (c .before .before .before .before .before .before .before .before .before .before .before .before .args .to) (c .before .before .before .before .before .before .before .before .before .before .before .before .args .tail .now)) (valueBytes (c .before .before .before .before .before .before .before .before .before .before .before .before .args .to) (c .before .before .before .before .before .t .given .0 .0)) (bytes (c .before .before .before .before .before .before .before .before .before .before .before .before .args .to) (told false (stepsAt (c .before .before .before .before .before .before .before .before .before .before .before .before .args .from) (c .before .before .before .before .before .before .before .before .before .before .before .before .args .tail .now) (c .before .before .before .before .before .t .given .0 .1 .0)))) (c .before .before .before .before .before .before .before .before .before .before .before .before .args .out .now) (c .before .before .before .before .before .before .before .before .before .loop .out) _ (c .before .before .before .before .before .before .before .before .before .loop .n) _ (c .before .before .before .before .before .before .before .before .before .loop .inv .1) d (c .before .before .put-value .ensures .0) (c .before .before .before .before .before .before .before .before .before .loop .inv .4) (c .before .before .put-value .ensures .1),
-    turn-left (recoded (c .before .before .before .before .before .before .before .before .before .before .before .before .args .from) (c .before .before .before .before .before .before .before .before .before .before .before .before .args .to) (c .before .before .before .before .before .before .before .before .before .before .before .before .args .tail .now)) (valueBytes (c .before .before .before .before .before .before .before .before .before .before .before .before .args .to) (c .before .before .before .before .before .t .given .0 .0)) (bytes (c .before .before .before .before .before .before .before .before .before .before .before .before .args .to) (told false (stepsAt (c .before .before .before .before .before .before .before .before .before .before .before .before .args .from) (c .before .before .before .before .before .before .before .before .before .before .before .before .args .tail .now) (c .before .before .before .before .before .t .given .0 .1 .0)))) (c .before .before .before .before .before .before .before .before .before .before .before .before .args .out .now) (c .before .before .before .before .before .before .before .before .before .loop .out) (c .before .before .before .before .before .before .before .before .before .before .before .before .args .out .now) (c .before .before .before .before .before .before .before .before .before .loop .n) _ (c .before .before .before .before .before .before .before .before .before .loop .inv .1) d (c .before .before .put-value .ensures .0),
-    sym (value-more _ _ _ _ _ _ _ _ (w .2) (value-carried _ _ _ _ _ _ _ _ (w .2) (c .before .before .before .before .before .before .before .before .before .loop .inv .6)) (c .before .before .put-value .ensures .0)) ∙ c .before .before .before .before .before .before .before .before .before .loop .inv .6)
+loop-again c = let w = rw (c .before .before .before .before .before .t .given .1) at (c .before .before .before .before .before .before .before .step-at .ensures .1) in let d = c .before .before .before .before .before .before .before .before .before .loop .inv .5 ∙ value-bytes _ _ _ _ _ (w .2) in (
+  w .1,
+  turn-within (recoded (c .before .before .before .before .before .before .before .before .before .before .before .before .args .from) (c .before .before .before .before .before .before .before .before .before .before .before .before .args .to) (c .before .before .before .before .before .before .before .before .before .before .before .before .args .tail .now)) (valueBytes (c .before .before .before .before .before .before .before .before .before .before .before .before .args .to) (c .before .before .before .before .before .t .given .0 .0)) (bytes (c .before .before .before .before .before .before .before .before .before .before .before .before .args .to) (told false (stepsAt (c .before .before .before .before .before .before .before .before .before .before .before .before .args .from) (c .before .before .before .before .before .before .before .before .before .before .before .before .args .tail .now) (c .before .before .before .before .before .t .given .0 .1 .0)))) (c .before .before .before .before .before .before .before .before .before .before .before .before .args .out .now) (c .before .before .before .before .before .before .before .before .before .loop .out) (c .before .before .before .before .before .before .before .before .before .before .before .before .args .out .now) (c .before .before .before .before .before .before .before .before .before .loop .n) _ (c .before .before .before .before .before .before .before .before .before .loop .inv .1) d (c .before .before .put-value .ensures .0),
+  c .before .before .before .before .before .before .before .before .before .loop .inv .2,
+  turn-length (recoded (c .before .before .before .before .before .before .before .before .before .before .before .before .args .from) (c .before .before .before .before .before .before .before .before .before .before .before .before .args .to) (c .before .before .before .before .before .before .before .before .before .before .before .before .args .tail .now)) (valueBytes (c .before .before .before .before .before .before .before .before .before .before .before .before .args .to) (c .before .before .before .before .before .t .given .0 .0)) (bytes (c .before .before .before .before .before .before .before .before .before .before .before .before .args .to) (told false (stepsAt (c .before .before .before .before .before .before .before .before .before .before .before .before .args .from) (c .before .before .before .before .before .before .before .before .before .before .before .before .args .tail .now) (c .before .before .before .before .before .t .given .0 .1 .0)))) (c .before .before .before .before .before .before .before .before .before .before .before .before .args .out .now) (c .before .before .before .before .before .before .before .before .before .loop .out) _ (c .before .before .before .before .before .before .before .before .before .loop .n) _ (c .before .before .before .before .before .before .before .before .before .loop .inv .1) d (c .before .before .put-value .ensures .0) (c .before .before .before .before .before .before .before .before .before .loop .inv .2) (c .before .before .before .before .before .before .before .before .before .loop .inv .4) (c .before .before .put-value .ensures .1),
+  turn-over (recoded (c .before .before .before .before .before .before .before .before .before .before .before .before .args .from) (c .before .before .before .before .before .before .before .before .before .before .before .before .args .to) (c .before .before .before .before .before .before .before .before .before .before .before .before .args .tail .now)) (valueBytes (c .before .before .before .before .before .before .before .before .before .before .before .before .args .to) (c .before .before .before .before .before .t .given .0 .0)) (bytes (c .before .before .before .before .before .before .before .before .before .before .before .before .args .to) (told false (stepsAt (c .before .before .before .before .before .before .before .before .before .before .before .before .args .from) (c .before .before .before .before .before .before .before .before .before .before .before .before .args .tail .now) (c .before .before .before .before .before .t .given .0 .1 .0)))) (c .before .before .before .before .before .before .before .before .before .before .before .before .args .out .now) (c .before .before .before .before .before .before .before .before .before .loop .out) _ (c .before .before .before .before .before .before .before .before .before .loop .n) _ (c .before .before .before .before .before .before .before .before .before .loop .inv .1) d (c .before .before .put-value .ensures .0) (c .before .before .before .before .before .before .before .before .before .loop .inv .4) (c .before .before .put-value .ensures .1),
+  turn-left (recoded (c .before .before .before .before .before .before .before .before .before .before .before .before .args .from) (c .before .before .before .before .before .before .before .before .before .before .before .before .args .to) (c .before .before .before .before .before .before .before .before .before .before .before .before .args .tail .now)) (valueBytes (c .before .before .before .before .before .before .before .before .before .before .before .before .args .to) (c .before .before .before .before .before .t .given .0 .0)) (bytes (c .before .before .before .before .before .before .before .before .before .before .before .before .args .to) (told false (stepsAt (c .before .before .before .before .before .before .before .before .before .before .before .before .args .from) (c .before .before .before .before .before .before .before .before .before .before .before .before .args .tail .now) (c .before .before .before .before .before .t .given .0 .1 .0)))) (c .before .before .before .before .before .before .before .before .before .before .before .before .args .out .now) (c .before .before .before .before .before .before .before .before .before .loop .out) (c .before .before .before .before .before .before .before .before .before .before .before .before .args .out .now) (c .before .before .before .before .before .before .before .before .before .loop .n) _ (c .before .before .before .before .before .before .before .before .before .loop .inv .1) d (c .before .before .put-value .ensures .0),
+  sym (value-more _ _ _ _ _ _ _ _ (w .2) (value-carried _ _ _ _ _ _ _ _ (w .2) (c .before .before .before .before .before .before .before .before .before .loop .inv .6)) (c .before .before .put-value .ensures .0)) ∙ c .before .before .before .before .before .before .before .before .before .loop .inv .6,
+)
 
 enum-known-t-2 : tie.Need-enum-known-t-2 Inv-loop μ-loop
 enum-known-t-2 c = search needs
@@ -87,12 +90,15 @@ loop-less-2 : tie.Need-loop-less-2 Inv-loop μ-loop
 loop-less-2 c = let w = rw (c .before .before .before .before .before .t2 .given .1) at (c .before .before .before .before .before .before .before .step-at .ensures .1) in omega (arith, w .0, w .1)
 
 loop-again-2 : tie.Need-loop-again-2 Inv-loop μ-loop
-loop-again-2 c = let w = rw (c .before .before .before .before .before .t2 .given .1) at (c .before .before .before .before .before .before .before .step-at .ensures .1) in let d = c .before .before .before .before .before .before .before .before .before .loop .inv .5 ∙ start-bytes _ _ _ _ (w .2) in
-    (w .1, turn-within (recoded (c .before .before .before .before .before .before .before .before .before .before .before .before .args .from) (c .before .before .before .before .before .before .before .before .before .before .before .before .args .to) (c .before .before .before .before .before .before .before .before .before .before .before .before .args .tail .now)) (startBytes (c .before .before .before .before .before .before .before .before .before .before .before .before .args .to)) (bytes (c .before .before .before .before .before .before .before .before .before .before .before .before .args .to) (told false (stepsAt (c .before .before .before .before .before .before .before .before .before .before .before .before .args .from) (c .before .before .before .before .before .before .before .before .before .before .before .before .args .tail .now) (c .before .before .before .before .before .t2 .given .0 .0)))) (c .before .before .before .before .before .before .before .before .before .before .before .before .args .out .now) (c .before .before .before .before .before .before .before .before .before .loop .out) (c .before .before .before .before .before .before .before .before .before .before .before .before .args .out .now) (c .before .before .before .before .before .before .before .before .before .loop .n) _ (c .before .before .before .before .before .before .before .before .before .loop .inv .1) d (c .before .before .put-start .ensures .0), c .before .before .before .before .before .before .before .before .before .loop .inv .2,
-    turn-length (recoded (c .before .before .before .before .before .before .before .before .before .before .before .before .args .from) (c .before .before .before .before .before .before .before .before .before .before .before .before .args .to) (c .before .before .before .before .before .before .before .before .before .before .before .before .args .tail .now)) (startBytes (c .before .before .before .before .before .before .before .before .before .before .before .before .args .to)) (bytes (c .before .before .before .before .before .before .before .before .before .before .before .before .args .to) (told false (stepsAt (c .before .before .before .before .before .before .before .before .before .before .before .before .args .from) (c .before .before .before .before .before .before .before .before .before .before .before .before .args .tail .now) (c .before .before .before .before .before .t2 .given .0 .0)))) (c .before .before .before .before .before .before .before .before .before .before .before .before .args .out .now) (c .before .before .before .before .before .before .before .before .before .loop .out) _ (c .before .before .before .before .before .before .before .before .before .loop .n) _ (c .before .before .before .before .before .before .before .before .before .loop .inv .1) d (c .before .before .put-start .ensures .0) (c .before .before .before .before .before .before .before .before .before .loop .inv .2) (c .before .before .before .before .before .before .before .before .before .loop .inv .4) (c .before .before .put-start .ensures .1),
-    turn-over (recoded (c .before .before .before .before .before .before .before .before .before .before .before .before .args .from) (c .before .before .before .before .before .before .before .before .before .before .before .before .args .to) (c .before .before .before .before .before .before .before .before .before .before .before .before .args .tail .now)) (startBytes (c .before .before .before .before .before .before .before .before .before .before .before .before .args .to)) (bytes (c .before .before .before .before .before .before .before .before .before .before .before .before .args .to) (told false (stepsAt (c .before .before .before .before .before .before .before .before .before .before .before .before .args .from) (c .before .before .before .before .before .before .before .before .before .before .before .before .args .tail .now) (c .before .before .before .before .before .t2 .given .0 .0)))) (c .before .before .before .before .before .before .before .before .before .before .before .before .args .out .now) (c .before .before .before .before .before .before .before .before .before .loop .out) _ (c .before .before .before .before .before .before .before .before .before .loop .n) _ (c .before .before .before .before .before .before .before .before .before .loop .inv .1) d (c .before .before .put-start .ensures .0) (c .before .before .before .before .before .before .before .before .before .loop .inv .4) (c .before .before .put-start .ensures .1),
-    turn-left (recoded (c .before .before .before .before .before .before .before .before .before .before .before .before .args .from) (c .before .before .before .before .before .before .before .before .before .before .before .before .args .to) (c .before .before .before .before .before .before .before .before .before .before .before .before .args .tail .now)) (startBytes (c .before .before .before .before .before .before .before .before .before .before .before .before .args .to)) (bytes (c .before .before .before .before .before .before .before .before .before .before .before .before .args .to) (told false (stepsAt (c .before .before .before .before .before .before .before .before .before .before .before .before .args .from) (c .before .before .before .before .before .before .before .before .before .before .before .before .args .tail .now) (c .before .before .before .before .before .t2 .given .0 .0)))) (c .before .before .before .before .before .before .before .before .before .before .before .before .args .out .now) (c .before .before .before .before .before .before .before .before .before .loop .out) (c .before .before .before .before .before .before .before .before .before .before .before .before .args .out .now) (c .before .before .before .before .before .before .before .before .before .loop .n) _ (c .before .before .before .before .before .before .before .before .before .loop .inv .1) d (c .before .before .put-start .ensures .0),
-    sym (start-more _ _ _ _ _ _ _ (w .2) ((c .before .before .put-start .ensures .0) ∙ sym (start-len _))) ∙ c .before .before .before .before .before .before .before .before .before .loop .inv .6)
+loop-again-2 c = let w = rw (c .before .before .before .before .before .t2 .given .1) at (c .before .before .before .before .before .before .before .step-at .ensures .1) in let d = c .before .before .before .before .before .before .before .before .before .loop .inv .5 ∙ start-bytes _ _ _ _ (w .2) in (
+  w .1,
+  turn-within (recoded (c .before .before .before .before .before .before .before .before .before .before .before .before .args .from) (c .before .before .before .before .before .before .before .before .before .before .before .before .args .to) (c .before .before .before .before .before .before .before .before .before .before .before .before .args .tail .now)) (startBytes (c .before .before .before .before .before .before .before .before .before .before .before .before .args .to)) (bytes (c .before .before .before .before .before .before .before .before .before .before .before .before .args .to) (told false (stepsAt (c .before .before .before .before .before .before .before .before .before .before .before .before .args .from) (c .before .before .before .before .before .before .before .before .before .before .before .before .args .tail .now) (c .before .before .before .before .before .t2 .given .0 .0)))) (c .before .before .before .before .before .before .before .before .before .before .before .before .args .out .now) (c .before .before .before .before .before .before .before .before .before .loop .out) (c .before .before .before .before .before .before .before .before .before .before .before .before .args .out .now) (c .before .before .before .before .before .before .before .before .before .loop .n) _ (c .before .before .before .before .before .before .before .before .before .loop .inv .1) d (c .before .before .put-start .ensures .0),
+  c .before .before .before .before .before .before .before .before .before .loop .inv .2,
+  turn-length (recoded (c .before .before .before .before .before .before .before .before .before .before .before .before .args .from) (c .before .before .before .before .before .before .before .before .before .before .before .before .args .to) (c .before .before .before .before .before .before .before .before .before .before .before .before .args .tail .now)) (startBytes (c .before .before .before .before .before .before .before .before .before .before .before .before .args .to)) (bytes (c .before .before .before .before .before .before .before .before .before .before .before .before .args .to) (told false (stepsAt (c .before .before .before .before .before .before .before .before .before .before .before .before .args .from) (c .before .before .before .before .before .before .before .before .before .before .before .before .args .tail .now) (c .before .before .before .before .before .t2 .given .0 .0)))) (c .before .before .before .before .before .before .before .before .before .before .before .before .args .out .now) (c .before .before .before .before .before .before .before .before .before .loop .out) _ (c .before .before .before .before .before .before .before .before .before .loop .n) _ (c .before .before .before .before .before .before .before .before .before .loop .inv .1) d (c .before .before .put-start .ensures .0) (c .before .before .before .before .before .before .before .before .before .loop .inv .2) (c .before .before .before .before .before .before .before .before .before .loop .inv .4) (c .before .before .put-start .ensures .1),
+  turn-over (recoded (c .before .before .before .before .before .before .before .before .before .before .before .before .args .from) (c .before .before .before .before .before .before .before .before .before .before .before .before .args .to) (c .before .before .before .before .before .before .before .before .before .before .before .before .args .tail .now)) (startBytes (c .before .before .before .before .before .before .before .before .before .before .before .before .args .to)) (bytes (c .before .before .before .before .before .before .before .before .before .before .before .before .args .to) (told false (stepsAt (c .before .before .before .before .before .before .before .before .before .before .before .before .args .from) (c .before .before .before .before .before .before .before .before .before .before .before .before .args .tail .now) (c .before .before .before .before .before .t2 .given .0 .0)))) (c .before .before .before .before .before .before .before .before .before .before .before .before .args .out .now) (c .before .before .before .before .before .before .before .before .before .loop .out) _ (c .before .before .before .before .before .before .before .before .before .loop .n) _ (c .before .before .before .before .before .before .before .before .before .loop .inv .1) d (c .before .before .put-start .ensures .0) (c .before .before .before .before .before .before .before .before .before .loop .inv .4) (c .before .before .put-start .ensures .1),
+  turn-left (recoded (c .before .before .before .before .before .before .before .before .before .before .before .before .args .from) (c .before .before .before .before .before .before .before .before .before .before .before .before .args .to) (c .before .before .before .before .before .before .before .before .before .before .before .before .args .tail .now)) (startBytes (c .before .before .before .before .before .before .before .before .before .before .before .before .args .to)) (bytes (c .before .before .before .before .before .before .before .before .before .before .before .before .args .to) (told false (stepsAt (c .before .before .before .before .before .before .before .before .before .before .before .before .args .from) (c .before .before .before .before .before .before .before .before .before .before .before .before .args .tail .now) (c .before .before .before .before .before .t2 .given .0 .0)))) (c .before .before .before .before .before .before .before .before .before .before .before .before .args .out .now) (c .before .before .before .before .before .before .before .before .before .loop .out) (c .before .before .before .before .before .before .before .before .before .before .before .before .args .out .now) (c .before .before .before .before .before .before .before .before .before .loop .n) _ (c .before .before .before .before .before .before .before .before .before .loop .inv .1) d (c .before .before .put-start .ensures .0),
+  sym (start-more _ _ _ _ _ _ _ (w .2) ((c .before .before .put-start .ensures .0) ∙ sym (start-len _))) ∙ c .before .before .before .before .before .before .before .before .before .loop .inv .6,
+)
 
 enum-known-t-3 : tie.Need-enum-known-t-3 Inv-loop μ-loop
 enum-known-t-3 c = search needs
@@ -116,12 +122,15 @@ loop-less-3 : tie.Need-loop-less-3 Inv-loop μ-loop
 loop-less-3 c = let w = rw (c .before .before .before .before .before .t3 .given .1) at (c .before .before .before .before .before .before .before .step-at .ensures .1) in omega (arith, w .0, w .1)
 
 loop-again-3 : tie.Need-loop-again-3 Inv-loop μ-loop
-loop-again-3 c = let w = rw (c .before .before .before .before .before .t3 .given .1) at (c .before .before .before .before .before .before .before .step-at .ensures .1) in let d = c .before .before .before .before .before .before .before .before .before .loop .inv .5 ∙ end-bytes _ _ _ _ (w .2) in
-    (w .1, turn-within (recoded (c .before .before .before .before .before .before .before .before .before .before .before .before .args .from) (c .before .before .before .before .before .before .before .before .before .before .before .before .args .to) (c .before .before .before .before .before .before .before .before .before .before .before .before .args .tail .now)) (endBytes (c .before .before .before .before .before .before .before .before .before .before .before .before .args .to)) (bytes (c .before .before .before .before .before .before .before .before .before .before .before .before .args .to) (told false (stepsAt (c .before .before .before .before .before .before .before .before .before .before .before .before .args .from) (c .before .before .before .before .before .before .before .before .before .before .before .before .args .tail .now) (c .before .before .before .before .before .t3 .given .0 .0)))) (c .before .before .before .before .before .before .before .before .before .before .before .before .args .out .now) (c .before .before .before .before .before .before .before .before .before .loop .out) (c .before .before .before .before .before .before .before .before .before .before .before .before .args .out .now) (c .before .before .before .before .before .before .before .before .before .loop .n) _ (c .before .before .before .before .before .before .before .before .before .loop .inv .1) d (c .before .before .put-end .ensures .0), c .before .before .before .before .before .before .before .before .before .loop .inv .2,
-    turn-length (recoded (c .before .before .before .before .before .before .before .before .before .before .before .before .args .from) (c .before .before .before .before .before .before .before .before .before .before .before .before .args .to) (c .before .before .before .before .before .before .before .before .before .before .before .before .args .tail .now)) (endBytes (c .before .before .before .before .before .before .before .before .before .before .before .before .args .to)) (bytes (c .before .before .before .before .before .before .before .before .before .before .before .before .args .to) (told false (stepsAt (c .before .before .before .before .before .before .before .before .before .before .before .before .args .from) (c .before .before .before .before .before .before .before .before .before .before .before .before .args .tail .now) (c .before .before .before .before .before .t3 .given .0 .0)))) (c .before .before .before .before .before .before .before .before .before .before .before .before .args .out .now) (c .before .before .before .before .before .before .before .before .before .loop .out) _ (c .before .before .before .before .before .before .before .before .before .loop .n) _ (c .before .before .before .before .before .before .before .before .before .loop .inv .1) d (c .before .before .put-end .ensures .0) (c .before .before .before .before .before .before .before .before .before .loop .inv .2) (c .before .before .before .before .before .before .before .before .before .loop .inv .4) (c .before .before .put-end .ensures .1),
-    turn-over (recoded (c .before .before .before .before .before .before .before .before .before .before .before .before .args .from) (c .before .before .before .before .before .before .before .before .before .before .before .before .args .to) (c .before .before .before .before .before .before .before .before .before .before .before .before .args .tail .now)) (endBytes (c .before .before .before .before .before .before .before .before .before .before .before .before .args .to)) (bytes (c .before .before .before .before .before .before .before .before .before .before .before .before .args .to) (told false (stepsAt (c .before .before .before .before .before .before .before .before .before .before .before .before .args .from) (c .before .before .before .before .before .before .before .before .before .before .before .before .args .tail .now) (c .before .before .before .before .before .t3 .given .0 .0)))) (c .before .before .before .before .before .before .before .before .before .before .before .before .args .out .now) (c .before .before .before .before .before .before .before .before .before .loop .out) _ (c .before .before .before .before .before .before .before .before .before .loop .n) _ (c .before .before .before .before .before .before .before .before .before .loop .inv .1) d (c .before .before .put-end .ensures .0) (c .before .before .before .before .before .before .before .before .before .loop .inv .4) (c .before .before .put-end .ensures .1),
-    turn-left (recoded (c .before .before .before .before .before .before .before .before .before .before .before .before .args .from) (c .before .before .before .before .before .before .before .before .before .before .before .before .args .to) (c .before .before .before .before .before .before .before .before .before .before .before .before .args .tail .now)) (endBytes (c .before .before .before .before .before .before .before .before .before .before .before .before .args .to)) (bytes (c .before .before .before .before .before .before .before .before .before .before .before .before .args .to) (told false (stepsAt (c .before .before .before .before .before .before .before .before .before .before .before .before .args .from) (c .before .before .before .before .before .before .before .before .before .before .before .before .args .tail .now) (c .before .before .before .before .before .t3 .given .0 .0)))) (c .before .before .before .before .before .before .before .before .before .before .before .before .args .out .now) (c .before .before .before .before .before .before .before .before .before .loop .out) (c .before .before .before .before .before .before .before .before .before .before .before .before .args .out .now) (c .before .before .before .before .before .before .before .before .before .loop .n) _ (c .before .before .before .before .before .before .before .before .before .loop .inv .1) d (c .before .before .put-end .ensures .0),
-    sym (end-more _ _ _ _ _ _ _ (w .2) ((c .before .before .put-end .ensures .0) ∙ sym (end-len _))) ∙ c .before .before .before .before .before .before .before .before .before .loop .inv .6)
+loop-again-3 c = let w = rw (c .before .before .before .before .before .t3 .given .1) at (c .before .before .before .before .before .before .before .step-at .ensures .1) in let d = c .before .before .before .before .before .before .before .before .before .loop .inv .5 ∙ end-bytes _ _ _ _ (w .2) in (
+  w .1,
+  turn-within (recoded (c .before .before .before .before .before .before .before .before .before .before .before .before .args .from) (c .before .before .before .before .before .before .before .before .before .before .before .before .args .to) (c .before .before .before .before .before .before .before .before .before .before .before .before .args .tail .now)) (endBytes (c .before .before .before .before .before .before .before .before .before .before .before .before .args .to)) (bytes (c .before .before .before .before .before .before .before .before .before .before .before .before .args .to) (told false (stepsAt (c .before .before .before .before .before .before .before .before .before .before .before .before .args .from) (c .before .before .before .before .before .before .before .before .before .before .before .before .args .tail .now) (c .before .before .before .before .before .t3 .given .0 .0)))) (c .before .before .before .before .before .before .before .before .before .before .before .before .args .out .now) (c .before .before .before .before .before .before .before .before .before .loop .out) (c .before .before .before .before .before .before .before .before .before .before .before .before .args .out .now) (c .before .before .before .before .before .before .before .before .before .loop .n) _ (c .before .before .before .before .before .before .before .before .before .loop .inv .1) d (c .before .before .put-end .ensures .0),
+  c .before .before .before .before .before .before .before .before .before .loop .inv .2,
+  turn-length (recoded (c .before .before .before .before .before .before .before .before .before .before .before .before .args .from) (c .before .before .before .before .before .before .before .before .before .before .before .before .args .to) (c .before .before .before .before .before .before .before .before .before .before .before .before .args .tail .now)) (endBytes (c .before .before .before .before .before .before .before .before .before .before .before .before .args .to)) (bytes (c .before .before .before .before .before .before .before .before .before .before .before .before .args .to) (told false (stepsAt (c .before .before .before .before .before .before .before .before .before .before .before .before .args .from) (c .before .before .before .before .before .before .before .before .before .before .before .before .args .tail .now) (c .before .before .before .before .before .t3 .given .0 .0)))) (c .before .before .before .before .before .before .before .before .before .before .before .before .args .out .now) (c .before .before .before .before .before .before .before .before .before .loop .out) _ (c .before .before .before .before .before .before .before .before .before .loop .n) _ (c .before .before .before .before .before .before .before .before .before .loop .inv .1) d (c .before .before .put-end .ensures .0) (c .before .before .before .before .before .before .before .before .before .loop .inv .2) (c .before .before .before .before .before .before .before .before .before .loop .inv .4) (c .before .before .put-end .ensures .1),
+  turn-over (recoded (c .before .before .before .before .before .before .before .before .before .before .before .before .args .from) (c .before .before .before .before .before .before .before .before .before .before .before .before .args .to) (c .before .before .before .before .before .before .before .before .before .before .before .before .args .tail .now)) (endBytes (c .before .before .before .before .before .before .before .before .before .before .before .before .args .to)) (bytes (c .before .before .before .before .before .before .before .before .before .before .before .before .args .to) (told false (stepsAt (c .before .before .before .before .before .before .before .before .before .before .before .before .args .from) (c .before .before .before .before .before .before .before .before .before .before .before .before .args .tail .now) (c .before .before .before .before .before .t3 .given .0 .0)))) (c .before .before .before .before .before .before .before .before .before .before .before .before .args .out .now) (c .before .before .before .before .before .before .before .before .before .loop .out) _ (c .before .before .before .before .before .before .before .before .before .loop .n) _ (c .before .before .before .before .before .before .before .before .before .loop .inv .1) d (c .before .before .put-end .ensures .0) (c .before .before .before .before .before .before .before .before .before .loop .inv .4) (c .before .before .put-end .ensures .1),
+  turn-left (recoded (c .before .before .before .before .before .before .before .before .before .before .before .before .args .from) (c .before .before .before .before .before .before .before .before .before .before .before .before .args .to) (c .before .before .before .before .before .before .before .before .before .before .before .before .args .tail .now)) (endBytes (c .before .before .before .before .before .before .before .before .before .before .before .before .args .to)) (bytes (c .before .before .before .before .before .before .before .before .before .before .before .before .args .to) (told false (stepsAt (c .before .before .before .before .before .before .before .before .before .before .before .before .args .from) (c .before .before .before .before .before .before .before .before .before .before .before .before .args .tail .now) (c .before .before .before .before .before .t3 .given .0 .0)))) (c .before .before .before .before .before .before .before .before .before .before .before .before .args .out .now) (c .before .before .before .before .before .before .before .before .before .loop .out) (c .before .before .before .before .before .before .before .before .before .before .before .before .args .out .now) (c .before .before .before .before .before .before .before .before .before .loop .n) _ (c .before .before .before .before .before .before .before .before .before .loop .inv .1) d (c .before .before .put-end .ensures .0),
+  sym (end-more _ _ _ _ _ _ _ (w .2) ((c .before .before .put-end .ensures .0) ∙ sym (end-len _))) ∙ c .before .before .before .before .before .before .before .before .before .loop .inv .6,
+)
 
 enum-told : tie.Need-enum-told Inv-loop μ-loop
 enum-told c = search needs

@@ -11,10 +11,10 @@ use Rattle.vectors.proofs.play.Lts as lts
 use Rattle.vectors.proofs.step.Reads as step-reads
 
 abbrev Inv-loop : tie.InvT-loop
-Inv-loop script file₀ c₀ i₀ file c i = length file ≡ length file₀
+Inv-loop script file₀ out₀ c₀ i₀ file out c i = (length file ≡ length file₀) × (length out ≡ length out₀)
 
 abbrev μ-loop : tie.MeasureT-loop
-μ-loop script file₀ c₀ i₀ file c i = length script - i
+μ-loop script file₀ out₀ c₀ i₀ file out c i = length script - i
 
 loop-holds : tie.Need-loop-holds Inv-loop μ-loop
 loop-holds c = search needs
@@ -34,6 +34,9 @@ loop-again c = search needs
 same-length : tie.Need-same-length Inv-loop μ-loop
 same-length c = search needs
 
+same-length-2 : tie.Need-same-length-2 Inv-loop μ-loop
+same-length-2 c = search needs
+
 returns : tie.Need-returns Inv-loop μ-loop
 returns c = search needs
 
@@ -49,4 +52,5 @@ play-spec =
     loop-less
     loop-again
     same-length
+    same-length-2
     returns)
