@@ -84,7 +84,7 @@ is-unmapped : (w : Found) → found w ≡ NoLookup Unmapped → w ≡ Nothing
 is-unmapped (At h) e = let z : _≡_ {A = ℕ} 0 1 = cc in absurd (omega arith)
 is-unmapped Nothing e = refl
 
-third-byte : (s : List ℕ) → Bytes s → (i : ℕ) → getD s i 0 < 256
+pub third-byte : (s : List ℕ) → Bytes s → (i : ℕ) → getD s i 0 < 256
 third-byte [] y i = omega arith
 third-byte (b ∷ s) y zero = y .0
 third-byte (b ∷ s) y (suc i) = third-byte s (y .1) i

@@ -82,7 +82,7 @@ either P Q (inr p) (inr q) = inr both
     both (inl x) = p x
     both (inr x) = q x
 
-equal : (u v : ℕ) → ((u ≡ v → ⊥) → ⊥) → u ≡ v
+pub equal : (u v : ℕ) → ((u ≡ v → ⊥) → ⊥) → u ≡ v
 equal u v n = go (same u v)
   where
     go : (u ≡ v) ⊎ ((u ≡ v) → ⊥) → u ≡ v
