@@ -42,7 +42,9 @@ fn tell(question: String, file: &[u8], ours: String, theirs: String) {
     println!("{text}");
 }
 
-type Shape = (&'static str, usize, usize, usize, bool, usize, usize, usize);
+/// Kind, count, height, width, whether there is a table; offsets of entries, bitmaps
+/// and their end; size.
+type Shape = (&'static str, [usize; 3], bool, [usize; 4]);
 
 /// What both say of a sound font.
 pub fn checked(file: &[u8]) -> (Answer<Shape>, Answer<Shape>, Option<second::Font>) {
@@ -52,18 +54,15 @@ pub fn checked(file: &[u8]) -> (Answer<Shape>, Answer<Shape>, Option<second::Fon
         lavandol::Kind::Vfont2 => "vfont2",
     };
     let a = ours(lavandol::check(file)).map(|f| {
-        let bytes = match f.kind {
-            lavandol::Kind::Vfont2 => f.size,
-            _ => f.count * f.size,
-        };
-        assert_eq!(f.bitmaps + bytes, f.end);
-        (name(f.kind), f.count, f.height, f.width, f.table, f.entries, f.bitmaps, f.end)
+        let places = [f.entries, f.bitmaps, f.end, f.size];
+        (name(f.kind), [f.count, f.height, f.width], f.table, places)
     });
     let font = second::check(file);
     let b = theirs(font.as_ref().map_err(|r| *r)).map(|f| {
-        let name = f.kind.name();
-        let (entries, bitmaps, end) = (f.header_end, f.bitmaps_at, f.table_at);
-        (name, f.count, f.height, f.width, f.has_table, entries, bitmaps, end)
+        let bytes = f.table_at - f.bitmaps_at;
+        let size = if f.kind == second::Kind::Vfont2 { bytes } else { bytes / f.count };
+        let places = [f.header_end, f.bitmaps_at, f.table_at, size];
+        (f.kind.name(), [f.count, f.height, f.width], f.has_table, places)
     });
     (a, b, font.ok())
 }

@@ -202,7 +202,13 @@ pub fn entries() -> Vec<Vec<u8>> {
                     for (address, total) in [(0, 255), (1, size), (0, size)] {
                         let total = total.clamp(0, 600) as usize;
                         let e = (address, size as u32, metrics);
-                        files.push(vfont2(32, &[e], &vec![0x5A; total], None));
+                        let mut file = vfont2(32, &[e], &vec![0x5A; total], None);
+                        files.push(file.clone());
+                        // the header agrees with sums that wrap at 16 bits
+                        let (height, width) = if across { (1, wrapped) } else { (wrapped, 1) };
+                        put32(&mut file, 24, height as u32);
+                        put32(&mut file, 28, width as u32);
+                        files.push(file);
                     }
                 }
             }

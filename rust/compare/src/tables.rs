@@ -26,7 +26,7 @@ fn front(coding: Coding, left: usize) -> Front {
 impl Front {
     /// The check of the whole font against the second implementation's verdict on the
     /// tail alone, which is judged apart from the bytes before. Sound fonts, and one of
-    /// `each` others, are asked whole and all about.
+    /// about `each` others, picked by their bytes, are asked whole and all about.
     fn try_tail(&self, file: &mut Vec<u8>, tail: &[u8], each: usize, tally: &mut Tally) {
         let at = self.bytes.len();
         file.truncate(at);
@@ -44,7 +44,7 @@ impl Front {
         if verdict.is_ok() {
             asking.tally.sound += 1;
             self.ask_items(&mut asking);
-        } else if asking.tally.files as usize % each == 0 {
+        } else if tail.iter().fold(7, |n, &b| n * 31 + b as usize) % each == 0 {
             let (a, b, _) = checked(file);
             asking.same(a, b, || "check".into());
             asking.each_once(&mut Random(0x51ED + tail.len() as u64));
