@@ -136,7 +136,25 @@ lav_number lav_find_value(const uint8_t *file, size_t file_len, uint32_t v);
  * is not a single. Refusals: 1 to 12, NO_TABLE, ASK (no values, or one above 10FFFF), UNMAPPED.
  */
 lav_number lav_find_sequence(const uint8_t *file, size_t file_len, const uint32_t *values, size_t value_count);
-/*CONVERSIONS*/
+
+/*
+ * Conversions. Each writes the whole output to the front of the lent buffer `out` and answers how many bytes that is; what stands
+ * behind them in the buffer stays. A refused conversion leaves the buffer as it was. To learn the size needed, lend a buffer of length
+ * 0: ROOM gives it as its place. The written header has 32 bytes (4 for PSF1) and version 0; extra header bytes are dropped.
+ * Refusals, tried in this order: 1 to 12, WRONG_KIND, GLYPHS, VALUE, SIZE, ROOM; a conversion that can't meet one is named so.
+ */
+
+/* GLYPHS does not occur. VALUE: a surrogate, which UTF-8 can't have. */
+lav_number lav_psf1_to_psf2(const uint8_t *file, size_t file_len, uint8_t *out, size_t out_len);
+
+/* GLYPHS: not 256 or 512 glyphs, or width not 8. VALUE: above FFFD. */
+lav_number lav_psf2_to_psf1(const uint8_t *file, size_t file_len, uint8_t *out, size_t out_len);
+
+/* GLYPHS and VALUE do not occur. */
+lav_number lav_psf2_to_vfont2(const uint8_t *file, size_t file_len, uint8_t *out, size_t out_len);
+
+/* GLYPHS: an entry without a glyph, or with other metrics than (greatest height, 0, 0, greatest width, greatest width). */
+lav_number lav_vfont2_to_psf2(const uint8_t *file, size_t file_len, uint8_t *out, size_t out_len);
 
 #ifdef __cplusplus
 }

@@ -19,6 +19,8 @@ use Rattle.fonts.specs.declared.Walk.{Walk}
 use Rattle.fonts.specs.declared.Walk.the-variants.{Is, NoWalk}
 use Rattle.fonts.specs.declared.Lookup.{Lookup}
 use Rattle.fonts.specs.declared.Lookup.the-variants.{Glyph, NoLookup}
+use Rattle.convert.specs.declared.Converted.{Converted}
+use Rattle.convert.specs.declared.Converted.the-variants.{Wrote, Refused as NoOutput}
 use Rattle.lavandol.specs.declared.LavFont.{LavFont}
 use Rattle.lavandol.specs.declared.LavPart.{LavPart}
 use Rattle.lavandol.specs.declared.LavItem.{LavItem}
@@ -99,3 +101,8 @@ itemAnswer End = record { refusal = 0; kind = 4; place = 0; value = 0 }
 abbrev pub walkAnswer : Walk → LavItem
 walkAnswer (Is i) = itemAnswer i
 walkAnswer (NoWalk r) = record { refusal = numberOf r; kind = 0; place = placeOf r; value = 0 }
+
+-- how many bytes a conversion wrote
+abbrev pub convertedAnswer : Converted → LavNumber
+convertedAnswer (Wrote n) = numberAnswer n
+convertedAnswer (NoOutput r) = refusedNumber r

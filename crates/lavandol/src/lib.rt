@@ -1,7 +1,8 @@
 // The boundary for C and Rust: every public call on numbers and slices, each answer one struct by value. A slice is lent for the call only;
-// nothing is allocated, kept or changed. Definitions: specs/Boundary.antt. The C side: include/lavandol.h.
+// nothing is allocated or kept, and only a conversion changes what it is lent, its buffer. Definitions: specs/Boundary.antt. The C side: include/lavandol.h.
 use bitmap::Part;
 use bitmap::Pixel;
+use convert::Converted;
 use fonts::Lookup;
 use fonts::Walk;
 use header::Checked;
@@ -9,9 +10,11 @@ use header::Kind;
 use refusal::Refusal;
 use table::Item;
 ghost use mathlib.Core.Path.{_≡_};
+ghost use lib.ListN.{length};
 ghost use Rattle.font.specs.Check.{checkOf};
 ghost use Rattle.fonts.specs.Questions.{glyphPartOf, rowPartOf, pixelAt, itemOf, valueGlyph, sequenceGlyph};
-ghost use Rattle.lavandol.specs.Boundary.{kindNumber, flagNumber, fontAnswer, partAnswer, numberAnswer, refusedNumber, pixelAnswer, lookupAnswer, itemAnswer, walkAnswer};
+ghost use Rattle.convert.specs.Conversions.{psf1ToPsf2, psf1ToPsf2Into, psf2ToPsf1, psf2ToPsf1Into, psf2ToVfont2, psf2ToVfont2Into, vfont2ToPsf2, vfont2ToPsf2Into};
+ghost use Rattle.lavandol.specs.Boundary.{kindNumber, flagNumber, fontAnswer, partAnswer, numberAnswer, refusedNumber, pixelAnswer, lookupAnswer, itemAnswer, walkAnswer, convertedAnswer};
 
 // What the check says: a refusal's number (0 where the font is sound) and place; the fields of a sound font.
 #[repr(C)]
@@ -282,4 +285,57 @@ pub extern "C" fn lav_find_sequence(file: &[u8], vs: &[u32]) -> LavNumber
 {
     let l = fonts::find_sequence(file, vs);
     lookup_answer(l)
+}
+
+fn converted_answer(c: Converted) -> LavNumber
+    ensures { λ r. ⌜ r ≡ convertedAnswer c ⌝ }
+{
+    match c {
+        Converted::Wrote(n) => number_answer(n),
+        Converted::Refused(r) => refused_number(r),
+    }
+}
+
+// PSF1 to PSF2 at the front of out: the number of bytes written. A refused call leaves out as it was.
+// Refusals: the font's own (1 to 12), WRONG KIND, VALUE, SIZE, ROOM.
+#[no_mangle]
+pub extern "C" fn lav_psf1_to_psf2(file: &[u8], out: &mut [u8]) -> LavNumber
+    ensures answer { λ r. ⌜ r ≡ convertedAnswer (psf1ToPsf2 (now (file .entry)) (length (now (out .entry)))) ⌝ }
+    ensures buffer { λ r. ⌜ now (out .exit) ≡ psf1ToPsf2Into (now (file .entry)) (now (out .entry)) ⌝ }
+{
+    let c = convert::psf1_to_psf2(file, out);
+    converted_answer(c)
+}
+
+// PSF2 to PSF1 at the front of out: the number of bytes written. A refused call leaves out as it was.
+// Refusals: the font's own (1 to 12), WRONG KIND, GLYPHS, VALUE, SIZE, ROOM.
+#[no_mangle]
+pub extern "C" fn lav_psf2_to_psf1(file: &[u8], out: &mut [u8]) -> LavNumber
+    ensures answer { λ r. ⌜ r ≡ convertedAnswer (psf2ToPsf1 (now (file .entry)) (length (now (out .entry)))) ⌝ }
+    ensures buffer { λ r. ⌜ now (out .exit) ≡ psf2ToPsf1Into (now (file .entry)) (now (out .entry)) ⌝ }
+{
+    let c = convert::psf2_to_psf1(file, out);
+    converted_answer(c)
+}
+
+// PSF2 to vfont2 at the front of out: the number of bytes written. A refused call leaves out as it was.
+// Refusals: the font's own (1 to 12), WRONG KIND, SIZE, ROOM.
+#[no_mangle]
+pub extern "C" fn lav_psf2_to_vfont2(file: &[u8], out: &mut [u8]) -> LavNumber
+    ensures answer { λ r. ⌜ r ≡ convertedAnswer (psf2ToVfont2 (now (file .entry)) (length (now (out .entry)))) ⌝ }
+    ensures buffer { λ r. ⌜ now (out .exit) ≡ psf2ToVfont2Into (now (file .entry)) (now (out .entry)) ⌝ }
+{
+    let c = convert::psf2_to_vfont2(file, out);
+    converted_answer(c)
+}
+
+// vfont2 to PSF2 at the front of out: the number of bytes written. A refused call leaves out as it was.
+// Refusals: the font's own (1 to 12), WRONG KIND, GLYPHS, SIZE, ROOM.
+#[no_mangle]
+pub extern "C" fn lav_vfont2_to_psf2(file: &[u8], out: &mut [u8]) -> LavNumber
+    ensures answer { λ r. ⌜ r ≡ convertedAnswer (vfont2ToPsf2 (now (file .entry)) (length (now (out .entry)))) ⌝ }
+    ensures buffer { λ r. ⌜ now (out .exit) ≡ vfont2ToPsf2Into (now (file .entry)) (now (out .entry)) ⌝ }
+{
+    let c = convert::vfont2_to_psf2(file, out);
+    converted_answer(c)
 }

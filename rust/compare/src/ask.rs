@@ -67,6 +67,27 @@ pub fn checked(file: &[u8]) -> (Answer<Shape>, Answer<Shape>, Option<second::Fon
     (a, b, font.ok())
 }
 
+struct Conversion {
+    name: &'static str,
+    ours: fn(&[u8], &mut [u8]) -> Result<usize, lavandol::Refusal>,
+    theirs: fn(&[u8], &mut [u8]) -> Result<usize, second::Refusal>,
+}
+
+const CONVERSIONS: [Conversion; 4] = [
+    Conversion { name: "psf1_to_psf2", ours: lavandol::psf1_to_psf2, theirs: second::psf1_to_psf2 },
+    Conversion { name: "psf2_to_psf1", ours: lavandol::psf2_to_psf1, theirs: second::psf2_to_psf1 },
+    Conversion {
+        name: "psf2_to_vfont2",
+        ours: lavandol::psf2_to_vfont2,
+        theirs: second::psf2_to_vfont2,
+    },
+    Conversion {
+        name: "vfont2_to_psf2",
+        ours: lavandol::vfont2_to_psf2,
+        theirs: second::vfont2_to_psf2,
+    },
+];
+
 /// The comparison on one file.
 pub struct Asking<'a> {
     pub file: &'a [u8],
@@ -257,5 +278,30 @@ impl Asking<'_> {
         self.conversions(random);
     }
 
-    pub fn conversions(&mut self, _: &mut Random) {}
+    /// A conversion into a buffer of a length, and the whole buffer after it.
+    fn convert(&mut self, c: &Conversion, room: usize) {
+        let before: Vec<u8> = (0..room).map(|i| (i * 29 + 7) as u8).collect();
+        let (mut left, mut right) = (before.clone(), before);
+        let a = ours((c.ours)(self.file, &mut left));
+        let b = theirs((c.theirs)(self.file, &mut right));
+        // the first place where the buffers differ, with what stands there
+        let at = (0..room).find(|&i| left[i] != right[i]);
+        let (left, right) = (at.map(|i| (i, left[i])), at.map(|i| (i, right[i])));
+        self.same(Ok((a, left)), Ok((b, right)), || format!("{} {room}", c.name));
+    }
+
+    /// Each conversion, into buffers around the length that it needs.
+    pub fn conversions(&mut self, random: &mut Random) {
+        for c in &CONVERSIONS {
+            match (c.theirs)(self.file, &mut []) {
+                Err(r) if r.number == second::ROOM => {
+                    let need = r.place;
+                    for room in [random.below(need), need - 1, need, need + 1 + random.below(40)] {
+                        self.convert(c, room);
+                    }
+                }
+                _ => self.convert(c, random.of(&[0, 4, 90])),
+            }
+        }
+    }
 }

@@ -51,4 +51,8 @@ extern "C" {
         values: *const u32,
         count: usize,
     ) -> LavNumber;
+    pub fn lav_psf1_to_psf2(file: *const u8, len: usize, out: *mut u8, room: usize) -> LavNumber;
+    pub fn lav_psf2_to_psf1(file: *const u8, len: usize, out: *mut u8, room: usize) -> LavNumber;
+    pub fn lav_psf2_to_vfont2(file: *const u8, len: usize, out: *mut u8, room: usize) -> LavNumber;
+    pub fn lav_vfont2_to_psf2(file: *const u8, len: usize, out: *mut u8, room: usize) -> LavNumber;
 }

@@ -117,8 +117,9 @@ fn number(n: LavNumber) -> Result<usize, Refusal> {
 
 /// Checks a font. Refusals: 1 to 12, in their order.
 pub fn check(file: &[u8]) -> Result<Font, Refusal> {
-    // SAFETY (here and below): the library reads the slices it is lent, within
-    // their lengths and during the call only, and asks nothing of its arguments.
+    // SAFETY (here and below): the library reads the slices it is lent, writes to
+    // none but a conversion's `out`, within their lengths and during the call only,
+    // and asks nothing of its arguments.
     let f = unsafe { lav_check(file.as_ptr(), file.len()) };
     let kind = match f.kind {
         1 => Kind::Psf1,
@@ -190,6 +191,34 @@ pub fn find_value(file: &[u8], v: u32) -> Result<usize, Refusal> {
 /// UNMAPPED.
 pub fn find_sequence(file: &[u8], values: &[u32]) -> Result<usize, Refusal> {
     number(unsafe { lav_find_sequence(file.as_ptr(), file.len(), values.as_ptr(), values.len()) })
+}
+
+/// PSF1 to PSF2, to the front of `out`: how many bytes were written. A refused call
+/// leaves `out` as it was; ROOM's place is the size needed. Refusals: 1 to 12, WRONG KIND,
+/// VALUE, SIZE, ROOM.
+pub fn psf1_to_psf2(file: &[u8], out: &mut [u8]) -> Result<usize, Refusal> {
+    number(unsafe { lav_psf1_to_psf2(file.as_ptr(), file.len(), out.as_mut_ptr(), out.len()) })
+}
+
+/// PSF2 to PSF1, to the front of `out`: how many bytes were written. A refused call
+/// leaves `out` as it was; ROOM's place is the size needed. Refusals: 1 to 12, WRONG KIND,
+/// GLYPHS, VALUE, SIZE, ROOM.
+pub fn psf2_to_psf1(file: &[u8], out: &mut [u8]) -> Result<usize, Refusal> {
+    number(unsafe { lav_psf2_to_psf1(file.as_ptr(), file.len(), out.as_mut_ptr(), out.len()) })
+}
+
+/// PSF2 to vfont2, to the front of `out`: how many bytes were written. A refused call
+/// leaves `out` as it was; ROOM's place is the size needed. Refusals: 1 to 12, WRONG KIND,
+/// SIZE, ROOM.
+pub fn psf2_to_vfont2(file: &[u8], out: &mut [u8]) -> Result<usize, Refusal> {
+    number(unsafe { lav_psf2_to_vfont2(file.as_ptr(), file.len(), out.as_mut_ptr(), out.len()) })
+}
+
+/// vfont2 to PSF2, to the front of `out`: how many bytes were written. A refused call
+/// leaves `out` as it was; ROOM's place is the size needed. Refusals: 1 to 12, WRONG KIND,
+/// GLYPHS, SIZE, ROOM.
+pub fn vfont2_to_psf2(file: &[u8], out: &mut [u8]) -> Result<usize, Refusal> {
+    number(unsafe { lav_vfont2_to_psf2(file.as_ptr(), file.len(), out.as_mut_ptr(), out.len()) })
 }
 
 /// A font of 45 bytes: glyph 0 lists A, glyph 1 lists Å and the sequence A, ring
