@@ -1,2 +1,4 @@
--- Both codings keep the laws of a coding.
+-- Both codings keep the laws of a coding; what a first byte decides.
 pub mod Codings
+pub mod Firsts
+pub mod Written

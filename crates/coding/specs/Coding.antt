@@ -1,9 +1,11 @@
 -- What each coding has: how a token is read, its values, their bytes, and the marks.
 use mathlib.Core.List.{List, [], _∷_}
 use Prim.Native.Nat.{ℕ}
+use mathlib.Core.Bool.{Bool}
+use lib.Dec.{ltb}
 use Rattle.token.specs.declared.Token.{Token}
 use Rattle.utf8.specs.Utf8.{readUtf8}
-use Rattle.utf8.specs.Scalar.{Scalar, utf8Bytes}
+use Rattle.utf8.specs.Scalar.{Scalar, isScalar, utf8Bytes}
 use Rattle.ucs2.specs.Ucs2.{readUcs2}
 use Rattle.ucs2.specs.Word.{Word, wordBytes}
 use Rattle.coding.specs.declared.Coding.{Coding}
@@ -23,6 +25,11 @@ markLen Ucs2 = 2
 unfoldable pub valueOf : Coding → ℕ → Type 0
 valueOf Utf8 = Scalar
 valueOf Ucs2 = Word
+
+-- the same as a test
+unfoldable pub carriesOf : Coding → ℕ → Bool
+carriesOf Utf8 v = isScalar v
+carriesOf Ucs2 v = ltb v 0xFFFE
 
 -- the bytes of a value
 unfoldable pub valueBytes : Coding → ℕ → List ℕ

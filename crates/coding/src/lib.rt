@@ -1,6 +1,10 @@
-// Inner layer: the two codings of a table's values, as one. Definitions: specs/Coding.antt.
+// Inner layer: the two codings of a table's values, as one, read and written. Definitions: specs/Coding.antt.
 ghost use mathlib.Core.Path.{_≡_};
-ghost use Rattle.coding.specs.Coding.{readToken, markLen};
+ghost use Rattle.coding.specs.First.{firstOfUtf8, firstOf};
+ghost use Prim.Native.Nat.{_≤_};
+ghost use lib.ListN.{length};
+ghost use Rattle.base.specs.Over.{over};
+ghost use Rattle.coding.specs.Coding.{readToken, markLen, valueOf, carriesOf, valueBytes, startBytes, endBytes};
 use token::Token;
 
 // PSF2 and vfont2 write values in UTF-8, PSF1 in two bytes.
@@ -26,5 +30,108 @@ pub fn mark_len(c: Coding) -> usize
     match c {
         Coding::Utf8 => 1,
         Coding::Ucs2 => 2,
+    }
+}
+
+// What a token's first byte alone decides: a value of one byte, a mark of one byte, or that more has to be read.
+pub enum First {
+    One,
+    Start,
+    End,
+    More,
+}
+
+// What the first byte decides. Loops over a table ask this first, since most bytes of most tables need no more.
+pub fn first_of(c: Coding, b: u8) -> First
+    ensures { λ r. ⌜ r ≡ firstOf c b ⌝ }
+{
+    match c {
+        Coding::Utf8 => first_of_utf8(b),
+        Coding::Ucs2 => First::More,
+    }
+}
+
+fn first_of_utf8(b: u8) -> First
+    ensures { λ r. ⌜ r ≡ firstOfUtf8 b ⌝ }
+{
+    if b < 0x80 {
+        return First::One;
+    }
+    if b == 0xFF {
+        return First::End;
+    }
+    if b == 0xFE {
+        return First::Start;
+    }
+    First::More
+}
+
+// Whether a number is one of the coding's values.
+pub fn carries(c: Coding, v: u32) -> bool
+    ensures { λ r. ⌜ r ≡ carriesOf c v ⌝ }
+{
+    match c {
+        Coding::Utf8 => utf8::is_scalar(v),
+        Coding::Ucs2 => v < 0xFFFE,
+    }
+}
+
+// How many bytes a value has.
+pub fn value_len(c: Coding, v: u32) -> usize
+    ensures { λ r. ⌜ (r ≡ length (valueBytes c v)) × (r ≤ 4) ⌝ }
+{
+    match c {
+        Coding::Utf8 => utf8::len_utf8(v),
+        Coding::Ucs2 => 2,
+    }
+}
+
+// A value's bytes to the front. Asks for a value of the coding and for room: the caller has tested both.
+pub fn put_value(c: Coding, v: u32, out: &mut [u8]) -> usize
+    requires { ⌜ valueOf c v × (length (valueBytes c v) ≤ length (now out)) ⌝ }
+    ensures { λ r. ⌜ (r ≡ length (valueBytes c v)) × (now (out .exit) ≡ over (valueBytes c v) (now (out .entry))) ⌝ }
+{
+    match c {
+        Coding::Utf8 => utf8::put_utf8(v, out),
+        Coding::Ucs2 => {
+            ucs2::put_ucs2(v, out);
+            2
+        }
+    }
+}
+
+// A start mark to the front. Asks for room: the caller has worked out the size.
+pub fn put_start(c: Coding, out: &mut [u8]) -> usize
+    requires { ⌜ length (startBytes c) ≤ length (now out) ⌝ }
+    ensures { λ r. ⌜ (r ≡ length (startBytes c)) × (now (out .exit) ≡ over (startBytes c) (now (out .entry))) ⌝ }
+{
+    match c {
+        Coding::Utf8 => {
+            out[0] = 0xFE;
+            1
+        }
+        Coding::Ucs2 => {
+            out[0] = 0xFE;
+            out[1] = 0xFF;
+            2
+        }
+    }
+}
+
+// An end mark to the front. Asks for room: the caller has worked out the size.
+pub fn put_end(c: Coding, out: &mut [u8]) -> usize
+    requires { ⌜ length (endBytes c) ≤ length (now out) ⌝ }
+    ensures { λ r. ⌜ (r ≡ length (endBytes c)) × (now (out .exit) ≡ over (endBytes c) (now (out .entry))) ⌝ }
+{
+    match c {
+        Coding::Utf8 => {
+            out[0] = 0xFF;
+            1
+        }
+        Coding::Ucs2 => {
+            out[0] = 0xFF;
+            out[1] = 0xFF;
+            2
+        }
     }
 }

@@ -16,7 +16,7 @@ use Rattle.coding.specs.declared.Coding.{Coding}
 use Rattle.table.specs.declared.TableAnswer.{TableAnswer}
 use Rattle.table.specs.declared.TableAnswer.the-variants.{Complete, Cut, Bad, Trailing as Over}
 use Rattle.table.specs.Check.{tableOf, placeOf}
-use Rattle.table.proofs.Meaning.{cut-exactly, bad-exactly, trailing-exactly}
+use Rattle.table.proofs.Meaning.{place-within}
 use Rattle.header.specs.declared.Font.{Font}
 use Rattle.header.specs.declared.Checked.{Checked}
 use Rattle.header.specs.declared.Checked.the-variants.{Sound, Refused}
@@ -25,17 +25,7 @@ use Rattle.header.specs.Placed.{Placed}
 use Rattle.header.proofs.Inverse.{placed, never}
 use Rattle.font.specs.Check.{codingOf, tailOf, answered, bareOf, bodyOf, afterHeader, checkOf, CheckedPlaced}
 
--- a table's place lies in the tail
-pub place-within : (c : Coding) (n : ℕ) (t : List ℕ) → Bytes t → placeOf (tableOf c n t) ≤ length t
-place-within c n t y = go (tableOf c n t) refl
-  where
-    go : (a : TableAnswer) → tableOf c n t ≡ a → placeOf a ≤ length t
-    go Complete e = omega arith
-    go (Cut k) e = let h = cut-exactly c n t k y .0 e in omega (arith, h .0)
-    go (Bad k) e = let h = bad-exactly c n t k y .0 e in omega (arith, h .1)
-    go (Over k) e = let h = trailing-exactly c n t k y .0 e in omega (arith, h .1)
-
--- and so an offset within the file
+-- a table's place lies in the tail, and so is an offset within the file
 pub place-fits : (s : List ℕ) (f : Font) → Bytes s → Placed s f → (c : Coding) → f .end + placeOf (tableOf c (f .count) (tailOf s f)) ≤ length s
 place-fits s f y p c =
     omega (arith, p .7, place-within c (f .count) (tailOf s f) (bytes-drop (f .end) s y), length-drop (f .end) s)

@@ -1,7 +1,3 @@
--- Laws of the public calls; those to read first are in Rows and Tables.
-pub mod Rows
-pub mod Magic
-pub mod Tables
-pub mod Reading
+-- Laws of the public calls that their proofs cite. What the calls mean is in the crate `laws`.
 pub mod Views
 pub mod Answers

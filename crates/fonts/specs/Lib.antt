@@ -1,3 +1,2 @@
 -- What the public calls answer.
 pub mod Questions
-pub mod Rows

@@ -85,8 +85,9 @@ module _ (s : List ℕ) where
     pub psf1-body-cut : Sized × (length s < 4 + n * b) → Refused (BodyCut (length s)) ≡ psf1Of s
     psf1-body-cut h = psf1-body (rw (en, eb) at h)
 
-    pub psf1-read : (t : Bool) → t ≡ psf1Table (getD s 2 0) → Sized × (4 + n * b ≤ length s) → Sound (psf1Font n b t) ≡ psf1Of s
-    psf1-read t et h = rw (en, eb, et) (psf1-sound (rw (en, eb) at h))
+    pub psf1-read : (t : Bool) (m : ℕ) → t ≡ psf1Table (getD s 2 0) → m ≡ 4 → Sized × (4 + n * b ≤ length s) →
+        Sound (record { kind = Psf1; count = n; entries = 4; bitmaps = m; size = b; height = b; width = 8; end = 4 + n * b; table = t }) ≡ psf1Of s
+    psf1-read t m et em h = rw (en, eb, et, em) (psf1-sound (rw (en, eb) at h))
 
 -- the header of 32 bytes
 module _ (s : List ℕ) where
@@ -178,6 +179,20 @@ module _ (s : List ℕ) (f : Fields) where
   unfolding psf2Body
   psf2-sound h = search chain depth 30
 
+  pub psf2-read : (m : ℕ) → m ≡ f .header → Shaped × (f .header + f .count * f .size ≤ length s) →
+      Sound (record {
+        kind = Psf2;
+        count = f .count;
+        entries = f .header;
+        bitmaps = m;
+        size = f .size;
+        height = f .height;
+        width = f .width;
+        end = f .header + f .count * f .size;
+        table = f .table;
+      }) ≡ psf2Body s f
+  psf2-read m e h = rw e (psf2-sound h)
+
 -- vfont2
 module _ (s : List ℕ) (f : Fields) where
   abbrev pub Small : Type 0
@@ -216,6 +231,20 @@ module _ (s : List ℕ) (f : Fields) where
 
     pub vfont2-sound : (f .height ≡ h) × (f .width ≡ w) → Sound (vfont2Font f) ≡ entriesOf s f
     vfont2-sound p = let g : Sound (vfont2Font f) ≡ greatestOf f h w = search chain depth 30 in g ∙ scanned
+
+    pub vfont2-read : (m : ℕ) → m ≡ f .header + f .count * 18 → (f .height ≡ h) × (f .width ≡ w) →
+        Sound (record {
+          kind = Vfont2;
+          count = f .count;
+          entries = f .header;
+          bitmaps = m;
+          size = f .size;
+          height = f .height;
+          width = f .width;
+          end = m + f .size;
+          table = f .table;
+        }) ≡ entriesOf s f
+    vfont2-read m e p = rw e (vfont2-sound p)
 
 -- the whole
 module _ (s : List ℕ) where

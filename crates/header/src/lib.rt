@@ -69,8 +69,16 @@ impl Psf1 {
     pub const MAGIC: u32 = 0x0436;
 
     pub const HEADER_LEN: usize = 4;
-    // first bitmap rule: bitmaps begin at the header's end plus so many bytes for each glyph
+    // first bitmap rule: the bitmaps begin at the header's end, after so many bytes for each glyph
     pub const ENTRY_LEN: usize = 0;
+
+    // Where the bitmaps of n glyphs begin, after a header of that length. Asks for small numbers: the checks have bounded both.
+    fn first_bitmap(header: usize, n: usize) -> usize
+        requires { ⌜ (header ≤ 4096) × (n ≤ 4096) ⌝ }
+        ensures { λ r. ⌜ r ≡ header ⌝ }
+    {
+        header + n * Psf1::ENTRY_LEN
+    }
 
     // "256 glyphs, or 512 if bit 0 of the mode is set"
     fn count_of(mode: u8) -> usize
@@ -114,7 +122,7 @@ impl Psf1 {
             kind: Kind::Psf1,
             count: count,
             entries: Psf1::HEADER_LEN,
-            bitmaps: Psf1::HEADER_LEN,
+            bitmaps: Psf1::first_bitmap(Psf1::HEADER_LEN, count),
             size: size,
             height: size,
             width: 8,
@@ -133,7 +141,16 @@ impl Psf2 {
 
     pub const HEADER_LEN: usize = 32;
 
+    // first bitmap rule, as for PSF1
     pub const ENTRY_LEN: usize = 0;
+
+    // As for PSF1.
+    fn first_bitmap(header: usize, n: usize) -> usize
+        requires { ⌜ (header ≤ 4096) × (n ≤ 4096) ⌝ }
+        ensures { λ r. ⌜ r ≡ header ⌝ }
+    {
+        header + n * Psf2::ENTRY_LEN
+    }
 
     // Checks 7 and 8 of a PSF2 file.
     fn body(file: &[u8], f: Fields) -> Checked
@@ -164,7 +181,7 @@ impl Psf2 {
             kind: Kind::Psf2,
             count: f.count,
             entries: f.header,
-            bitmaps: f.header,
+            bitmaps: Psf2::first_bitmap(f.header, f.count),
             size: f.size,
             height: f.height,
             width: f.width,
@@ -194,7 +211,16 @@ impl Vfont2 {
 
     pub const HEADER_LEN: usize = 32;
 
+    // first bitmap rule: the dispatch table stands between the header's end and the bitmaps
     pub const ENTRY_LEN: usize = 18;
+
+    // As for PSF1.
+    fn first_bitmap(header: usize, n: usize) -> usize
+        requires { ⌜ (header ≤ 4096) × (n ≤ 4096) ⌝ }
+        ensures { λ r. ⌜ r ≡ header + n * 18 ⌝ }
+    {
+        header + n * Vfont2::ENTRY_LEN
+    }
 
     // Check 9 of a vfont2 file.
     fn check_entries(file: &[u8], f: Fields) -> Checked
@@ -211,7 +237,7 @@ impl Vfont2 {
                 if f.width != w {
                     return Checked::Refused(Refusal::Entry(28));
                 }
-                let bitmaps = f.header + f.count * Vfont2::ENTRY_LEN;
+                let bitmaps = Vfont2::first_bitmap(f.header, f.count);
                 Checked::Sound(Font {
                     kind: Kind::Vfont2,
                     count: f.count,

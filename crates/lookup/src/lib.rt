@@ -86,7 +86,7 @@ pub fn find_value(c: Coding, tail: &[u8], v: u32) -> Found
     let mut inside = false;
     let mut at: usize = 0;
     while at < tail.len() {
-        let t = table::step_at(c, tail, at);
+        let t = table::next_step(c, tail, at);
         match t {
             Step::Value(w, next) => {
                 if !inside {

@@ -2,6 +2,7 @@
 pub mod Meaning
 pub mod Vectors
 pub mod Stepping
+pub mod Firsts
 pub mod Telling
 pub mod Checking
 pub mod Accepts

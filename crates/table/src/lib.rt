@@ -6,6 +6,7 @@ ghost use Rattle.table.specs.declared.TableAnswer.the-variants.{Bad as T
 ghost use Rattle.table.specs.Steps.{stepAt, StepSays};
 ghost use Rattle.table.specs.Check.{tableOf};
 use coding::Coding;
+use coding::First;
 use token::Token;
 
 // What stands in a description, one after the other: a single value, a start mark, a value in a sequence, the end mark.
@@ -43,6 +44,23 @@ pub fn step_at(c: Coding, s: &[u8], at: usize) -> Step
     }
 }
 
+// The same step, by its first byte where that decides: what a loop over a whole table asks.
+pub fn next_step(c: Coding, s: &[u8], at: usize) -> Step
+    ensures { λ r. ⌜ (r ≡ stepAt c (now (s .entry)) at) × StepSays c (now (s .entry)) at r ⌝ }
+{
+    if s.len() <= at {
+        return Step::Cut;
+    }
+    let b = s[at];
+    let f = coding::first_of(c, b);
+    match f {
+        First::One => Step::Value(base::wide(b), at + 1),
+        First::Start => Step::Start(at + 1),
+        First::End => Step::End(at + 1),
+        First::More => step_at(c, s, at),
+    }
+}
+
 // What the check of a table says. Places are counted from the table's first byte.
 pub enum TableAnswer {
     Complete,
@@ -72,7 +90,7 @@ pub fn check_table(c: Coding, tail: &[u8], n: usize) -> TableAnswer
         if left == 0 {
             return TableAnswer::Trailing(at);
         }
-        let t = step_at(c, tail, at);
+        let t = next_step(c, tail, at);
         match t {
             Step::Value(_, next) => {
                 opened = false;

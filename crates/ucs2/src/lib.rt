@@ -1,6 +1,11 @@
-// Inner layer: one token at the front of some bytes, in PSF1's two-byte coding. Definitions: specs/Ucs2.antt.
+// Inner layer: one token at the front of some bytes, in PSF1's two-byte coding, and a value written. Definitions: specs/Ucs2.antt,
+// specs/Word.antt.
 ghost use mathlib.Core.Path.{_≡_};
+ghost use Prim.Native.Nat.{_≤_};
+ghost use lib.ListN.{length};
+ghost use Rattle.base.specs.Over.{over};
 ghost use Rattle.ucs2.specs.Ucs2.{readUcs2};
+ghost use Rattle.ucs2.specs.Word.{Word, wordBytes};
 use token::Token;
 
 // The token at the front of some bytes: FFFE starts a sequence, FFFF ends a description, every other
@@ -19,4 +24,13 @@ pub fn read_ucs2(s: &[u8]) -> Token
         return Token::End;
     }
     Token::Value(v, 2)
+}
+
+// A value's two bytes to the front, the low one first. Asks for a value of PSF1's coding and for room: the caller has tested both.
+pub fn put_ucs2(v: u32, out: &mut [u8])
+    requires { ⌜ Word v × (2 ≤ length (now out)) ⌝ }
+    ensures { λ _. ⌜ now (out .exit) ≡ over (wordBytes v) (now (out .entry)) ⌝ }
+{
+    out[0] = (v % 256) as u8;
+    out[1] = (v / 256) as u8;
 }

@@ -1,14 +1,15 @@
 -- `readUtf8` by the length of the list and its first element.
 use mathlib.Core.Path.{_≡_, refl}
 use mathlib.Core.List.{List, [], _∷_}
-use Prim.Native.Nat.{ℕ, _-_, _%_, _<_}
+use Prim.Native.Nat.{ℕ, _-_, _%_, _<_, _≤_}
 use native.Mathlib.Omega.{arith}
 use lib.ListN.{length, getD, drop}
 use lib.Dec.{eqb}
 use borrow.Author.Tests.{eq-eqb, ne-eqb}
 use Rattle.base.specs.Choice.{pick}
-use Rattle.token.specs.declared.Token.the-variants.{Start, End, Cut, Bad}
+use Rattle.token.specs.declared.Token.the-variants.{Value, Start, End, Cut, Bad}
 use Rattle.utf8.specs.declared.Lead.{Lead}
+use Rattle.utf8.proofs.Rows.{row-1}
 use Rattle.utf8.specs.Utf8.{conts, leadOf, readUtf8}
 
 pub empty : (s : List ℕ) → length s ≡ 0 → Cut ≡ readUtf8 s
@@ -40,3 +41,11 @@ module _ (s : List ℕ) (h : 0 < length s) where
 
       pub as-value : (l .len ≡ 0 → ⊥) → conts (l .len - 1) (l .lo) (l .hi) (getD s 0 0 % l .modulus) 1 (drop 1 s) ≡ readUtf8 s
       as-value z = rw (first s h, ne-eqb (getD s 0 0) 254 a, ne-eqb (getD s 0 0) 255 b, ← e, ne-eqb (l .len) 0 z)
+
+-- a first byte below 80 gives itself, one byte long, whatever follows
+pub ascii : (s : List ℕ) → 0 < length s → getD s 0 0 < 128 → Value (getD s 0 0) 1 ≡ readUtf8 s
+unfolding conts
+ascii s h k =
+    let r = row-1 (getD s 0 0) (omega arith) k in
+    let m : getD s 0 0 % 128 ≡ getD s 0 0 = omega arith in
+    rw (first s h, ne-eqb (getD s 0 0) 254 (λ z. absurd (omega arith)), ne-eqb (getD s 0 0) 255 (λ z. absurd (omega arith)), ← r, m)

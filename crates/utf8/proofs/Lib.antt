@@ -1,5 +1,6 @@
 -- The laws of the reader, and UTF-8 as an instance of a coding's laws.
 pub mod Rows
+pub mod Written
 pub mod Conts
 pub mod First
 pub mod Sizes

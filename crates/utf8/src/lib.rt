@@ -1,8 +1,11 @@
-// Inner layer: one token at the front of some bytes, in UTF-8 with FE and FF as marks. Definitions: specs/Utf8.antt.
+// Inner layer: one token at the front of some bytes, in UTF-8 with FE and FF as marks, and a value written. Definitions: specs/Utf8.antt,
+// specs/Scalar.antt.
 ghost use mathlib.Core.Path.{_≡_};
 ghost use Prim.Native.Nat.{_+_, _-_, _≤_, _<_};
 ghost use lib.ListN.{length, drop};
+ghost use Rattle.base.specs.Over.{over};
 ghost use Rattle.utf8.specs.Utf8.{leadOf, readUtf8, conts};
+ghost use Rattle.utf8.specs.Scalar.{Scalar, isScalar, utf8Bytes};
 use base::wide;
 use token::Token;
 
@@ -143,4 +146,60 @@ pub fn read_utf8(s: &[u8]) -> Token
     }
     let m = l.modulus;
     rest_of(s, n, wide(b % m), l.lo, l.hi)
+}
+
+// Whether a number is a value of UTF-8: a code point that is no surrogate.
+pub fn is_scalar(v: u32) -> bool
+    ensures { λ r. ⌜ r ≡ isScalar v ⌝ }
+{
+    if v < 0xD800 {
+        return true;
+    }
+    if v < 0xE000 {
+        return false;
+    }
+    v < 0x110000
+}
+
+// How many bytes a value has.
+pub fn len_utf8(v: u32) -> usize
+    ensures { λ r. ⌜ (r ≡ length (utf8Bytes v)) × (r ≤ 4) ⌝ }
+{
+    if v < 0x80 {
+        return 1;
+    }
+    if v < 0x800 {
+        return 2;
+    }
+    if v < 0x10000 {
+        return 3;
+    }
+    4
+}
+
+// A value's bytes to the front, and how many they are. Asks for a value of UTF-8 and for room: the caller has tested both.
+pub fn put_utf8(v: u32, out: &mut [u8]) -> usize
+    requires { ⌜ Scalar v × (length (utf8Bytes v) ≤ length (now out)) ⌝ }
+    ensures { λ r. ⌜ (r ≡ length (utf8Bytes v)) × (now (out .exit) ≡ over (utf8Bytes v) (now (out .entry))) ⌝ }
+{
+    if v < 0x80 {
+        out[0] = v as u8;
+        return 1;
+    }
+    if v < 0x800 {
+        out[0] = (0xC0 + v / 64) as u8;
+        out[1] = (0x80 + v % 64) as u8;
+        return 2;
+    }
+    if v < 0x10000 {
+        out[0] = (0xE0 + v / 4096) as u8;
+        out[1] = (0x80 + v / 64 % 64) as u8;
+        out[2] = (0x80 + v % 64) as u8;
+        return 3;
+    }
+    out[0] = (0xF0 + v / 262144) as u8;
+    out[1] = (0x80 + v / 4096 % 64) as u8;
+    out[2] = (0x80 + v / 64 % 64) as u8;
+    out[3] = (0x80 + v % 64) as u8;
+    4
 }

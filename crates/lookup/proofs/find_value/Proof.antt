@@ -21,26 +21,26 @@ abbrev μ-loop : tie.MeasureT-loop
 loop-holds : tie.Need-loop-holds Inv-loop μ-loop
 loop-holds c = search needs
 
-step-at-requires : tie.Need-step-at-requires Inv-loop μ-loop
-step-at-requires c κs = search needs
+next-step-requires : tie.Need-next-step-requires Inv-loop μ-loop
+next-step-requires c κs = search needs
 
 enum-known-t : tie.Need-enum-known-t Inv-loop μ-loop
 enum-known-t c = search needs
 
 returns : tie.Need-returns Inv-loop μ-loop
 returns c =
-    let w = rw (c .before .before .before .t .given .1) at (c .before .before .before .before .before .step-at .ensures .1) in
+    let w = rw (c .before .before .before .t .given .1) at (c .before .before .before .before .before .next-step .ensures .1) in
     sym (ap (findValue _ _) (told-value _ _ _ _ _ (w .2)) ∙ hit _ _ _ _ _ (c .before .if1 .taken) (c .if2 .taken))
     ∙ c .before .before .before .before .before .before .before .loop .inv .2
 
 loop-less : tie.Need-loop-less Inv-loop μ-loop
 loop-less c =
-    let w = rw (c .before .before .before .t .given .1) at (c .before .before .before .before .before .step-at .ensures .1) in
+    let w = rw (c .before .before .before .t .given .1) at (c .before .before .before .before .before .next-step .ensures .1) in
     omega (arith, w .0, w .1)
 
 loop-again : tie.Need-loop-again Inv-loop μ-loop
 loop-again c =
-    let w = rw (c .before .before .before .t .given .1) at (c .before .before .before .before .before .step-at .ensures .1) in (
+    let w = rw (c .before .before .before .t .given .1) at (c .before .before .before .before .before .next-step .ensures .1) in (
       w .1,
       omega (arith, w .0),
       sym (ap (findValue _ _) (told-value _ _ _ _ _ (w .2)) ∙ miss _ _ _ _ _ (c .before .if1 .taken) (c .if2 .left))
@@ -49,12 +49,12 @@ loop-again c =
 
 loop-less-2 : tie.Need-loop-less-2 Inv-loop μ-loop
 loop-less-2 c =
-    let w = rw (c .before .before .t .given .1) at (c .before .before .before .before .step-at .ensures .1) in
+    let w = rw (c .before .before .t .given .1) at (c .before .before .before .before .next-step .ensures .1) in
     omega (arith, w .0, w .1)
 
 loop-again-2 : tie.Need-loop-again-2 Inv-loop μ-loop
 loop-again-2 c =
-    let w = rw (c .before .before .t .given .1) at (c .before .before .before .before .step-at .ensures .1) in (
+    let w = rw (c .before .before .t .given .1) at (c .before .before .before .before .next-step .ensures .1) in (
       w .1,
       omega (arith, w .0),
       sym (ap (findValue _ _) (told-value _ _ _ _ _ (w .2)) ∙ pass _ _ _ _ _ (c .if1 .left))
@@ -66,12 +66,12 @@ enum-known-t-2 c = search needs
 
 loop-less-3 : tie.Need-loop-less-3 Inv-loop μ-loop
 loop-less-3 c =
-    let w = rw (c .before .t2 .given .1) at (c .before .before .before .step-at .ensures .1) in
+    let w = rw (c .before .t2 .given .1) at (c .before .before .before .next-step .ensures .1) in
     omega (arith, w .0, w .1)
 
 loop-again-3 : tie.Need-loop-again-3 Inv-loop μ-loop
 loop-again-3 c =
-    let w = rw (c .before .t2 .given .1) at (c .before .before .before .step-at .ensures .1) in (
+    let w = rw (c .before .t2 .given .1) at (c .before .before .before .next-step .ensures .1) in (
       w .1,
       omega (arith, w .0),
       sym (ap (findValue _ _) (told-start _ _ _ _ (w .2)) ∙ value-start _ _ _)
@@ -86,12 +86,12 @@ add-g c = search needs
 
 loop-less-4 : tie.Need-loop-less-4 Inv-loop μ-loop
 loop-less-4 c =
-    let w = rw (c .before .t3 .given .1) at (c .before .before .before .step-at .ensures .1) in
+    let w = rw (c .before .t3 .given .1) at (c .before .before .before .next-step .ensures .1) in
     omega (arith, w .0, w .1)
 
 loop-again-4 : tie.Need-loop-again-4 Inv-loop μ-loop
 loop-again-4 c =
-    let w = rw (c .before .t3 .given .1) at (c .before .before .before .step-at .ensures .1) in (
+    let w = rw (c .before .t3 .given .1) at (c .before .before .before .next-step .ensures .1) in (
       w .1,
       omega (arith, w .0),
       sym (ap (findValue _ _) (told-end _ _ _ _ (w .2)) ∙ value-end _ _ _)
@@ -103,7 +103,7 @@ enum-told c = search needs
 
 returns-2 : tie.Need-returns-2 Inv-loop μ-loop
 returns-2 c =
-    let w = rw (c .enum-told .given .1) at (c .before .before .step-at .ensures .1) in
+    let w = rw (c .enum-told .given .1) at (c .before .before .next-step .ensures .1) in
     sym (ap (findValue _ _) (told-cut _ _ _ (w (omega arith))) ∙ value-none _ _) ∙ c .before .before .before .before .loop .inv .2
 
 enum-told-2 : tie.Need-enum-told-2 Inv-loop μ-loop
@@ -111,7 +111,7 @@ enum-told-2 c = search needs
 
 returns-3 : tie.Need-returns-3 Inv-loop μ-loop
 returns-3 c =
-    let w = rw (c .enum-told2 .given .1) at (c .before .before .step-at .ensures .1) in
+    let w = rw (c .enum-told2 .given .1) at (c .before .before .next-step .ensures .1) in
     sym (ap (findValue _ _) (told-bad _ _ _ _ (w .2)) ∙ value-none _ _) ∙ c .before .before .before .before .loop .inv .2
 
 returns-4 : tie.Need-returns-4 Inv-loop μ-loop
@@ -124,7 +124,7 @@ find-value-spec =
     Inv-loop
     μ-loop
     loop-holds
-    step-at-requires
+    next-step-requires
     enum-known-t
     returns
     loop-less

@@ -1,6 +1,4 @@
 -- `header::Psf1::header` meets its contract: each return is one case of the definition. Assumes nothing.
-use lib.ListN.{getD}
-use mathlib.Core.Path.{_≡_, _∙_}
 use Prim.Native.Nat.{_≤_}
 use native.Mathlib.Nat.{mul-le-mul}
 use native.Mathlib.Omega.{arith}
@@ -13,6 +11,7 @@ use Rattle.header.proofs.Psf1.header.Lts as lts
 use Rattle.base.proofs.size.Reads as size-reads
 use Rattle.base.proofs.wide.Reads as wide-reads
 use Rattle.header.proofs.Psf1.count_of.Reads as count-of-reads
+use Rattle.header.proofs.Psf1.first_bitmap.Reads as first-bitmap-reads
 use Rattle.header.proofs.Psf1.table_of.Reads as table-of-reads
 
 returns : tie.Need-returns
@@ -48,11 +47,14 @@ add-end c = let h : c .count-of .result ≤ 512 = omega arith in let w : c .befo
 returns-4 : tie.Need-returns-4
 returns-4 c = cases.psf1-body-cut (c .before .before .before .before .before .before .before .before .before .before .args .file .now) (c .before .count-of .result) (c .before .before .before .size .result) (c .before .count-of .ensures .0) (omega arith) (omega arith)
 
+first-bitmap-requires : tie.Need-first-bitmap-requires
+first-bitmap-requires c κs = search needs
+
 table-of-requires : tie.Need-table-of-requires
 table-of-requires c κs = search needs
 
 returns-5 : tie.Need-returns-5
-returns-5 c = cases.psf1-read (c .before .before .before .before .before .before .before .before .before .before .before .args .file .now) (c .before .before .count-of .result) (c .before .before .before .before .size .result) (c .before .before .count-of .ensures .0) (omega arith) _ (c .table-of .ensures) (omega arith)
+returns-5 c = cases.psf1-read (c .before .before .before .before .before .before .before .before .before .before .before .before .args .file .now) (c .before .before .before .count-of .result) (c .before .before .before .before .before .size .result) (c .before .before .before .count-of .ensures .0) (omega arith) _ _ (c .table-of .ensures) (c .before .first-bitmap .ensures) (omega arith)
 
 pub header-spec : {M : Type 1} → statement M
 header-spec =
@@ -69,5 +71,6 @@ header-spec =
     mul-end
     add-end
     returns-4
+    first-bitmap-requires
     table-of-requires
     returns-5)

@@ -9,6 +9,7 @@ use Rattle.header.proofs.Psf2.body.Tie as tie
 use Rattle.header.proofs.Psf2.body.Reads as reads
 use Rattle.header.proofs.Psf2.body.Lts as lts
 use Rattle.entries.proofs.glyph_bytes.Reads as glyph-bytes-reads
+use Rattle.header.proofs.Psf2.first_bitmap.Reads as first-bitmap-reads
 
 returns : tie.Need-returns
 returns c = cases.height-low (c .before .before .before .args .file .now) (c .before .before .before .args .f) (omega arith)
@@ -37,8 +38,11 @@ add-end c = let h : c .before .before .before .before .before .before .before .b
 returns-6 : tie.Need-returns-6
 returns-6 c = cases.psf2-cut (c .before .before .before .before .before .before .before .before .before .before .before .before .before .before .before .args .file .now) (c .before .before .before .before .before .before .before .before .before .before .before .before .before .before .before .args .f) (omega arith)
 
+first-bitmap-requires : tie.Need-first-bitmap-requires
+first-bitmap-requires c κs = search needs
+
 returns-7 : tie.Need-returns-7
-returns-7 c = cases.psf2-sound (c .before .before .before .before .before .before .before .before .before .before .before .before .before .before .before .args .file .now) (c .before .before .before .before .before .before .before .before .before .before .before .before .before .before .before .args .f) (omega arith)
+returns-7 c = cases.psf2-read (c .before .before .before .before .before .before .before .before .before .before .before .before .before .before .before .before .args .file .now) (c .before .before .before .before .before .before .before .before .before .before .before .before .before .before .before .before .args .f) _ (c .first-bitmap .ensures) (omega arith)
 
 pub body-spec : {M : Type 1} → statement M
 body-spec =
@@ -53,4 +57,5 @@ body-spec =
     mul-end
     add-end
     returns-6
+    first-bitmap-requires
     returns-7)

@@ -31,10 +31,10 @@ use Rattle.header.specs.Headers.{limit, kindOf, psf1Count, psf1Table, psf1Font,
 use Rattle.header.proofs.Cases as cases
 use Rattle.font.specs.Check.{codingOf, tailOf, answered, bodyOf, checkOf}
 use Rattle.font.proofs.Cases.{header-sound, header-refused, bare-trailing, bare-sound}
-use Rattle.fonts.specs.Rows.{row, rowAt, TableRows, BareRows, TailRows, Psf1Rows, HeadRows, Psf2Rows, Vfont2Rows, Begins, psf1Magic, psf2Magic, vfont2Magic, KindRows, Rows}
-use Rattle.fonts.proofs.Magic.{kind-says}
-use Rattle.fonts.proofs.Tables.{accepted-exactly, cut-exactly, bad-exactly, trailing-exactly}
-use Rattle.fonts.proofs.Reading.{checked}
+use Rattle.laws.specs.Rows.{row, rowAt, TableRows, BareRows, TailRows, Psf1Rows, HeadRows, Psf2Rows, Vfont2Rows, Begins, psf1Magic, psf2Magic, vfont2Magic, KindRows, Rows}
+use Rattle.laws.proofs.Magic.{kind-says}
+use Rattle.laws.proofs.Tables.{accepted-exactly, cut-exactly, bad-exactly, trailing-exactly}
+use Rattle.laws.proofs.Reading.{checked}
 
 -- a row that can be decided
 row-by : (P : Type 0) (r : Refusal) (rest : Checked → Type 0) (a : Checked) → P ⊎ (P → ⊥) → (P → Refused r ≡ a) → ((P → ⊥) → rest a) → row P r rest a
@@ -181,7 +181,7 @@ module _ (s : List ℕ) (y : Bytes s) (short : length s ≤ limit) where
       row-by _ (BodyCut (length s)) _ (checkOf s) (less (length s) (4 + psf1Count (getD s 2 0) * getD s 3 0))
       (λ h. refused (Is Psf1) _ k (sym (cases.psf1-body-cut s _ _ refl refl (((omega arith, omega arith), d), h)))) (λ e.
       tail-rows s y (psf1Font (psf1Count (getD s 2 0)) (getD s 3 0) (psf1Table (getD s 2 0)))
-      (passes (Is Psf1) _ k (sym (cases.psf1-read s _ _ refl refl _ refl (((omega arith, omega arith), d), omega arith)))) (psf1Table (getD s 2 0)) refl))))
+      (passes (Is Psf1) _ k (sym (cases.psf1-read s _ _ refl refl _ _ refl refl (((omega arith, omega arith), d), omega arith)))) (psf1Table (getD s 2 0)) refl))))
 
   -- rows 3 to 6, whatever rows follow
   head-rows : (rest : Checked → Type 0) → ((r : Refusal) → headOf s ≡ Stop r → Refused r ≡ checkOf s) → (headOf s ≡ Read (fieldsOf s) → rest (checkOf s)) →

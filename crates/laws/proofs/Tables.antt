@@ -21,10 +21,10 @@ use Rattle.header.specs.declared.Font.{Font}
 use Rattle.header.specs.declared.Checked.the-variants.{Sound, Refused}
 use Rattle.header.specs.Headers.{headerOf}
 use Rattle.font.specs.Check.{codingOf, tailOf, checkOf}
 use Rattle.fonts.specs.declared.Walk.the-variants.{Is, NoWalk}
 use Rattle.fonts.specs.declared.Lookup.the-variants.{Glyph, NoLookup}
 use Rattle.fonts.specs.Questions.{itemOf, valueGlyph, askable, sequenceGlyph}
-use Rattle.fonts.proofs.Reading as inner
+use Rattle.laws.proofs.Reading as inner
 
 module _ (s : List ℕ) (y : Bytes s) (f : Font) (passed : headerOf s ≡ Sound f) (marked : f .table ≡ true) where
   -- (a) accepted exactly when the tail is n descriptions end to end, nothing over

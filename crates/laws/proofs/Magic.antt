@@ -14,7 +14,7 @@ use Rattle.header.specs.declared.Named.{Named}
 use Rattle.header.specs.declared.Named.the-variants.{Is, Unknown}
 use Rattle.header.specs.Headers.{kindOf}
 use Rattle.header.proofs.Cases.{under-two, is-psf1, under-four, is-psf2, is-vfont2, no-kind}
-use Rattle.fonts.specs.Rows.{Begins, psf1Magic, psf2Magic, vfont2Magic}
+use Rattle.laws.specs.Rows.{Begins, psf1Magic, psf2Magic, vfont2Magic}
 
 two : (a b c d : ℕ) → a ≡ c → b ≡ d → a ∷ b ∷ [] ≡ c ∷ d ∷ []
 two a b c d e f = cc

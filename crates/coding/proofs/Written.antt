@@ -1,0 +1,88 @@
+-- What each coding writes: the test for a value holds of its values and of nothing else, and the lengths of what is written.
+use mathlib.Core.Path.{_≡_, refl, sym, _∙_, ap}
+use mathlib.Core.Bool.{true, false}
+use mathlib.Core.List.{List, [], _∷_}
+use Prim.Native.Nat.{ℕ, _≤_, _<_}
+use native.Mathlib.Omega.{arith}
+use lib.Dec.{ltb}
+use lib.ListN.{length}
+use lib.Seq.{sets}
+use borrow.Author.Tests.{ltb-true, ltb-false}
+use Rattle.base.specs.Over.{over}
+use Rattle.base.proofs.Over.{stores}
+use Rattle.utf8.specs.Scalar.{Scalar, isScalar, utf8Bytes}
+use Rattle.ucs2.specs.Word.{Word, wordBytes}
+use Rattle.utf8.proofs.Written.{scalar-yes, scalar-no}
+use Rattle.coding.specs.Coding.{markLen, valueOf, carriesOf, valueBytes, startBytes, endBytes}
+use Rattle.coding.specs.declared.Coding.{Coding}
+use Rattle.coding.specs.declared.Coding.the-variants.{Utf8, Ucs2}
+
+pub carries-yes : (c : Coding) (v : ℕ) → carriesOf c v ≡ true → valueOf c v
+unfolding carriesOf valueOf
+carries-yes Utf8 v e = scalar-yes v e
+carries-yes Ucs2 v e = ltb-true v 0xFFFE e
+
+pub carries-no : (c : Coding) (v : ℕ) → carriesOf c v ≡ false → valueOf c v → ⊥
+unfolding carriesOf valueOf
+carries-no Utf8 v e p = scalar-no v e p
+carries-no Ucs2 v e p = let h = ltb-false v 0xFFFE e in omega arith
+
+pub start-len : (c : Coding) → markLen c ≡ length (startBytes c)
+unfolding markLen startBytes
+start-len Utf8 = refl
+start-len Ucs2 = refl
+
+pub end-len : (c : Coding) → markLen c ≡ length (endBytes c)
+unfolding markLen endBytes
+end-len Utf8 = refl
+end-len Ucs2 = refl
+
+-- bytes stored one by one
+pub stored : (p xs vs : List ℕ) → vs ≡ p → length p ≤ length xs → (length vs ≡ length p) × (sets xs 0 vs ≡ over p xs)
+stored p xs vs e h = rw (← e) (refl, stores vs xs (rw (← e) at h))
+
+-- in UTF-8, and in PSF1's two bytes
+module _ (c : Coding) where
+  pub utf8-carries : (v : ℕ) → c ≡ Utf8 → isScalar v ≡ carriesOf c v
+  unfolding carriesOf
+  utf8-carries v e = rw e
+
+  pub ucs2-carries : (v : ℕ) → c ≡ Ucs2 → ltb v 0xFFFE ≡ carriesOf c v
+  unfolding carriesOf
+  ucs2-carries v e = rw e
+
+  pub utf8-value : (v : ℕ) → c ≡ Utf8 → utf8Bytes v ≡ valueBytes c v
+  unfolding valueBytes
+  utf8-value v e = rw e
+
+  pub ucs2-value : (v : ℕ) → c ≡ Ucs2 → wordBytes v ≡ valueBytes c v
+  unfolding valueBytes
+  ucs2-value v e = rw e
+
+  pub utf8-scalar : (v : ℕ) → c ≡ Utf8 → valueOf c v → Scalar v
+  unfolding valueOf
+  utf8-scalar v e p = rw e at p
+
+  pub ucs2-word : (v : ℕ) → c ≡ Ucs2 → valueOf c v → Word v
+  unfolding valueOf
+  ucs2-word v e p = rw e at p
+
+  pub utf8-start : c ≡ Utf8 → 0xFE ∷ [] ≡ startBytes c
+  unfolding startBytes
+  utf8-start e = rw e
+
+  pub ucs2-start : c ≡ Ucs2 → 0xFE ∷ 0xFF ∷ [] ≡ startBytes c
+  unfolding startBytes
+  ucs2-start e = rw e
+
+  pub utf8-end : c ≡ Utf8 → 0xFF ∷ [] ≡ endBytes c
+  unfolding endBytes
+  utf8-end e = rw e
+
+  pub ucs2-end : c ≡ Ucs2 → 0xFF ∷ 0xFF ∷ [] ≡ endBytes c
+  unfolding endBytes
+  ucs2-end e = rw e
+
+-- what a writer said of some bytes, said of the same bytes under another name
+pub renamed : (p q xs ys : List ℕ) (k : ℕ) → p ≡ q → k ≡ length p → ys ≡ over p xs → (k ≡ length q) × (ys ≡ over q xs)
+renamed p q xs ys k e f g = rw (← e) (f, g)

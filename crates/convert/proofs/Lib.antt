@@ -1,0 +1,5 @@
+-- The laws of the conversions.
+pub mod Cases
+pub mod Tails
+pub mod Stretches
+pub mod Pixels

@@ -1,0 +1,41 @@
+-- What a conversion keeps: the meaning that the conversions are held to, in the terms that the questions answer by.
+use Prim.Native.Nat.{ℕ, _+_, _*_, _<_}
+use mathlib.Core.Path.{_≡_}
+use mathlib.Core.List.{List}
+use lib.ListN.{length}
+use Rattle.entries.specs.Entries.{Metrics, metricsAt}
+use Rattle.table.specs.Grammar.{Desc, encode, Readable}
+use Rattle.header.specs.declared.Kind.{Kind}
+use Rattle.header.specs.declared.Kind.the-variants.{Psf1, Psf2, Vfont2}
+use Rattle.header.specs.declared.Font.{Font}
+use Rattle.header.specs.declared.Checked.the-variants.{Sound}
+use Rattle.bitmap.specs.Bitmaps.{bitmapOf, wholeOf, pixelOf, viewOf}
+use Rattle.font.specs.Check.{codingOf, tailOf, checkOf}
+use Rattle.plan.specs.Evens.{evenMetrics}
+
+-- a glyph's five metrics: those of its entry; in PSF1 and PSF2, where a glyph fills its height and width, (height, 0, 0, width, width)
+abbrev pub kindMetrics : List ℕ → Font → ℕ → Kind → Metrics
+kindMetrics s f g Psf1 = evenMetrics (f .height) (f .width)
+kindMetrics s f g Psf2 = evenMetrics (f .height) (f .width)
+kindMetrics s f g Vfont2 = metricsAt s (f .entries + g * 18)
+
+abbrev pub metricsOf : List ℕ → Font → ℕ → Metrics
+metricsOf s f g = kindMetrics s f g (f .kind)
+
+-- o is a sound font of kind k with all that font f of s has: its count, height, width and whether it has a table, every glyph's bytes,
+-- pixels and metrics, and every description
+pub record Keeps (s : List ℕ) (f : Font) (o : List ℕ) (k : Kind) : Type 0 where
+  pub font : Font
+  pub sound : checkOf o ≡ Sound font
+  pub kind : font .kind ≡ k
+  pub count : font .count ≡ f .count
+  pub height : font .height ≡ f .height
+  pub width : font .width ≡ f .width
+  pub table : font .table ≡ f .table
+  -- every byte of every glyph, filler bits among them
+  pub glyphs : (g : ℕ) → viewOf o (wholeOf (bitmapOf o font g)) ≡ viewOf s (wholeOf (bitmapOf s f g))
+  pub pixels : (g y x : ℕ) → pixelOf o (bitmapOf o font g) y x ≡ pixelOf s (bitmapOf s f g) y x
+  pub metrics : (g : ℕ) → g < f .count → metricsOf o font g ≡ metricsOf s f g
+  -- the descriptions that the tail of s is, are those that the tail of o is
+  pub reading : (ds : List Desc) → Readable (codingOf (f .kind)) ds → tailOf s f ≡ encode (codingOf (f .kind)) ds →
+      Readable (codingOf k) ds × (tailOf o font ≡ encode (codingOf k) ds)

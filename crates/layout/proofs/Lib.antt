@@ -1,0 +1,2 @@
+-- The laws of the written parts.
+pub mod Parts

@@ -1,0 +1,2 @@
+-- The parts of a written font.
+pub mod Layout

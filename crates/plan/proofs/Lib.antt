@@ -1,0 +1,4 @@
+-- Laws of the plans.
+pub mod Cases
+pub mod Inverse
+pub mod Evens
