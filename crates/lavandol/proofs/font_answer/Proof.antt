@@ -1,0 +1,48 @@
+-- `lavandol::font_answer` meets its contract: by cases on the check. Assumes nothing.
+use mathlib.Core.Path.{_≡_, sym, _∙_, ap}
+use borrow.Author.Needs.{needs}
+use Rattle.lavandol.proofs.font_answer.Statement.{statement}
+use Rattle.lavandol.proofs.font_answer.Tie as tie
+use Rattle.lavandol.proofs.font_answer.Reads as reads
+use Rattle.lavandol.proofs.font_answer.Lts as lts
+use Rattle.lavandol.proofs.flag_number.Reads as flag-number-reads
+use Rattle.lavandol.proofs.kind_number.Reads as kind-number-reads
+use Rattle.refusal.proofs.number.Reads as number-reads
+use Rattle.refusal.proofs.place.Reads as place-reads
+
+enum-known-a : tie.Need-enum-known-a
+enum-known-a c = search needs
+
+kind-number-requires : tie.Need-kind-number-requires
+kind-number-requires c κs = search needs
+
+flag-number-requires : tie.Need-flag-number-requires
+flag-number-requires c κs = search needs
+
+enum-known-a-2 : tie.Need-enum-known-a-2
+enum-known-a-2 c = search needs
+
+number-requires : tie.Need-number-requires
+number-requires c κs = search needs
+
+place-requires : tie.Need-place-requires
+place-requires c κs = search needs
+
+returns : tie.Need-returns
+returns c = rw (c .before .before .before .a .given .1, c .before .kind-number .ensures, c .flag-number .ensures)
+
+returns-2 : tie.Need-returns-2
+returns-2 c = rw (c .before .before .before .a2 .given .1, c .before .number .ensures, c .place .ensures)
+
+pub font-answer-spec : {M : Type 1} → statement M
+font-answer-spec =
+    tie.close
+    (tie.spec
+    enum-known-a
+    kind-number-requires
+    flag-number-requires
+    enum-known-a-2
+    number-requires
+    place-requires
+    returns
+    returns-2)

@@ -1,0 +1,26 @@
+-- `lavandol::lav_psf1_to_psf2` meets its contract: the public call's answer, as C reads it, and the buffer that it leaves. Assumes nothing.
+use Rattle.lavandol.specs.Boundary.{convertedAnswer}
+use mathlib.Core.Path.{_≡_, sym, _∙_, ap}
+use borrow.Author.Needs.{needs}
+use Rattle.lavandol.proofs.lav_psf1_to_psf2.Statement.{statement}
+use Rattle.lavandol.proofs.lav_psf1_to_psf2.Tie as tie
+use Rattle.lavandol.proofs.lav_psf1_to_psf2.Reads as reads
+use Rattle.lavandol.proofs.lav_psf1_to_psf2.Lts as lts
+use Rattle.convert.proofs.psf1_to_psf2.Reads as psf1-to-psf2-reads
+use Rattle.lavandol.proofs.converted_answer.Reads as converted-answer-reads
+
+psf1-to-psf2-requires : tie.Need-psf1-to-psf2-requires
+psf1-to-psf2-requires c κs = search needs
+
+converted-answer-requires : tie.Need-converted-answer-requires
+converted-answer-requires c κs = search needs
+
+same-length : tie.Need-same-length
+same-length c = search needs
+
+returns : tie.Need-returns
+returns c = (c .converted-answer .ensures ∙ ap convertedAnswer (c .before .before .before .psf1-to-psf2 .ensures .0), c .before .before .before .psf1-to-psf2 .ensures .1)
+
+pub lav-psf1-to-psf2-spec : {M : Type 1} → statement M
+lav-psf1-to-psf2-spec =
+    tie.close (tie.spec psf1-to-psf2-requires converted-answer-requires same-length returns)

@@ -1,0 +1,108 @@
+-- Each answer of the public calls as the struct that C reads: `refusal` 0 and the answer's numbers, or the refusal's number and place
+-- and zeros. include/lavandol.h says the same in C.
+use Prim.Native.Nat.{ℕ}
+use mathlib.Core.Bool.{Bool, true, false}
+use Rattle.refusal.specs.declared.Refusal.{Refusal}
+use Rattle.refusal.specs.Refusals.{numberOf, placeOf}
+use Rattle.header.specs.declared.Kind.{Kind}
+use Rattle.header.specs.declared.Kind.the-variants.{Psf1, Psf2, Vfont2}
+use Rattle.header.specs.declared.Font.{Font}
+use Rattle.header.specs.declared.Checked.{Checked}
+use Rattle.header.specs.declared.Checked.the-variants.{Sound, Refused}
+use Rattle.bitmap.specs.declared.Part.{Part}
+use Rattle.bitmap.specs.declared.Part.the-variants.{At, Refused as NoPart}
+use Rattle.bitmap.specs.declared.Pixel.{Pixel}
+use Rattle.bitmap.specs.declared.Pixel.the-variants.{Bit, NoPixel}
+use Rattle.table.specs.declared.Item as I
+use Rattle.table.specs.declared.Item.the-variants.{Single, Start, Value, End}
+use Rattle.fonts.specs.declared.Walk.{Walk}
+use Rattle.fonts.specs.declared.Walk.the-variants.{Is, NoWalk}
+use Rattle.fonts.specs.declared.Lookup.{Lookup}
+use Rattle.fonts.specs.declared.Lookup.the-variants.{Glyph, NoLookup}
+use Rattle.convert.specs.declared.Converted.{Converted}
+use Rattle.convert.specs.declared.Converted.the-variants.{Wrote, Refused as NoOutput}
+use Rattle.lavandol.specs.declared.LavFont.{LavFont}
+use Rattle.lavandol.specs.declared.LavPart.{LavPart}
+use Rattle.lavandol.specs.declared.LavItem.{LavItem}
+use Rattle.lavandol.specs.declared.LavNumber.{LavNumber}
+
+-- LAV_PSF1, LAV_PSF2, LAV_VFONT2
+abbrev pub kindNumber : Kind → ℕ
+kindNumber Psf1 = 1
+kindNumber Psf2 = 2
+kindNumber Vfont2 = 3
+
+-- a yes or no as C's 1 or 0
+abbrev pub flagNumber : Bool → ℕ
+flagNumber true = 1
+flagNumber false = 0
+
+-- the check's answer
+abbrev pub fontAnswer : Checked → LavFont
+fontAnswer (Sound f) =
+    record {
+      refusal = 0;
+      kind = kindNumber (f .kind);
+      place = 0;
+      count = f .count;
+      height = f .height;
+      width = f .width;
+      table = flagNumber (f .table);
+      entries = f .entries;
+      bitmaps = f .bitmaps;
+      size = f .size;
+      end = f .end;
+    }
+fontAnswer (Refused r) =
+    record {
+      refusal = numberOf r;
+      kind = 0;
+      place = placeOf r;
+      count = 0;
+      height = 0;
+      width = 0;
+      table = 0;
+      entries = 0;
+      bitmaps = 0;
+      size = 0;
+      end = 0;
+    }
+
+-- a part of the file
+abbrev pub partAnswer : Part → LavPart
+partAnswer (At start len) = record { refusal = 0; place = 0; offset = start; length = len }
+partAnswer (NoPart r) = record { refusal = numberOf r; place = placeOf r; offset = 0; length = 0 }
+
+-- one number, and the refusals of the calls that answer so
+abbrev pub numberAnswer : ℕ → LavNumber
+numberAnswer n = record { refusal = 0; place = 0; number = n }
+
+abbrev pub refusedNumber : Refusal → LavNumber
+refusedNumber r = record { refusal = numberOf r; place = placeOf r; number = 0 }
+
+-- a pixel, 1 is drawn
+abbrev pub pixelAnswer : Pixel → LavNumber
+pixelAnswer (Bit b) = numberAnswer b
+pixelAnswer (NoPixel r) = refusedNumber r
+
+-- the glyph found
+abbrev pub lookupAnswer : Lookup → LavNumber
+lookupAnswer (Glyph g) = numberAnswer g
+lookupAnswer (NoLookup r) = refusedNumber r
+
+-- LAV_SINGLE, LAV_START, LAV_VALUE, LAV_END; a mark has the value 0
+abbrev pub itemAnswer : I.Item → LavItem
+itemAnswer (Single v) = record { refusal = 0; kind = 1; place = 0; value = v }
+itemAnswer Start = record { refusal = 0; kind = 2; place = 0; value = 0 }
+itemAnswer (Value v) = record { refusal = 0; kind = 3; place = 0; value = v }
+itemAnswer End = record { refusal = 0; kind = 4; place = 0; value = 0 }
+
+-- an item of a description
+abbrev pub walkAnswer : Walk → LavItem
+walkAnswer (Is i) = itemAnswer i
+walkAnswer (NoWalk r) = record { refusal = numberOf r; kind = 0; place = placeOf r; value = 0 }
+
+-- how many bytes a conversion wrote
+abbrev pub convertedAnswer : Converted → LavNumber
+convertedAnswer (Wrote n) = numberAnswer n
+convertedAnswer (NoOutput r) = refusedNumber r

@@ -1,0 +1,2 @@
+-- The answers as C reads them.
+pub mod Boundary

@@ -1,0 +1,163 @@
+/*
+ * lavandol.h: bitmap fonts in the formats PSF1, PSF2 and vfont2, read from memory.
+ *
+ * Link with target/staticlib/liblavandol.a, which `rt staticlib lavandol` makes (x86-64). Every function is proved to answer as its
+ * comment says on any bytes and any numbers, to end, and to read nothing outside the slices that it is lent. The proof ends at this
+ * header: nothing checks the declarations below against the library, and the caller must keep the three rules that follow.
+ *
+ * - A slice is a pointer and a number of elements: `file, file_len` are bytes, `values, value_count` are uint32_t. The pointer is not
+ *   NULL, also where the length is 0, and so many elements can be read there (written, for a buffer). A slice of uint32_t is aligned.
+ * - A lent slice does not change during the call, and a buffer overlaps nothing else that the call is lent.
+ * - The pointers are not kept: memory may be moved or freed after the call.
+ *
+ * The functions allocate nothing, have no global state and no locks, and call nothing, so they may run in an interrupt handler or in
+ * several threads at once. Each is one or two passes over the file at most: each call checks the font first.
+ *
+ * Numbers in the files are little endian. Glyphs, rows, columns and items are counted from 0.
+ */
+#ifndef LAVANDOL_H
+#define LAVANDOL_H
+
+#include <stddef.h>
+#include <stdint.h>
+
+#ifdef __cplusplus
+extern "C" {
+#endif
+
+/*
+ * Refusals. Each answer has the members `refusal` and `place`. `refusal` is 0 where the question is answered; then `place` is 0. Else
+ * `refusal` is one of the numbers below, `place` tells where, and all other members are 0.
+ *
+ * Every call gives the font's own refusal, 1 to 12, before any other. They are tried in this order and the first that applies is
+ * given, so a font that is refused is refused by all calls alike. Places 1 to 12 are offsets in the file.
+ */
+enum {
+    LAV_OK = 0,
+    LAV_TOO_LONG = 1,    /* the file is over 1,048,576 bytes; place 1048576 */
+    LAV_KIND = 2,        /* it begins with none of the three magics; place 0 */
+    LAV_HEADER_CUT = 3,  /* it is shorter than 4 (PSF1) or 32 bytes; place: its length */
+    LAV_VERSION = 4,     /* mode above 5 (place 2); version not 0 (place 4); flags above 1 (place 12) */
+    LAV_HEADER_SIZE = 5, /* header size below 32 or above 4,096; place 8 */
+    LAV_COUNT = 6,       /* no glyph, or over 4,096; place 16 */
+    LAV_SHAPE = 7,       /* PSF1 size 0 (place 3); PSF2 height (24), then width (28) not in 1 to 255, then a wrong byte count (20);
+                            vfont2 greatest height (24), then width (28), above 255 */
+    LAV_BODY_CUT = 8,    /* the file ends before the bitmaps do; place: its length */
+    LAV_ENTRY = 9,       /* a vfont2 entry breaks a rule (place: the first such entry's start); then the greatest height (24) or
+                            width (28) in the header is not the entries' */
+    LAV_TABLE_CUT = 10,  /* the Unicode table ends too early, but more bytes could complete it; place: the file's length */
+    LAV_TABLE_BAD = 11,  /* no table begins so; place: the first byte after the longest part that could still be completed */
+    LAV_TRAILING = 12,   /* bytes after a complete table, or after the bitmaps of a font without one; place: the first such byte */
+
+    LAV_ASK = 13,        /* the question's fault: glyph, item, row or column number too high, value above 10FFFF, empty sequence */
+    LAV_NO_TABLE = 14,   /* a walk or lookup on a font without a Unicode table */
+    LAV_UNMAPPED = 15,   /* no glyph lists it */
+    LAV_NO_GLYPH = 16,   /* a bitmap asked of a vfont2 entry of size 0 */
+
+    LAV_WRONG_KIND = 17, /* the conversion wants another kind; place 0 */
+    LAV_GLYPHS = 18,     /* the target can't have these glyphs; to PSF1: not 256 or 512 of them (place 16), then width not 8 (28);
+                            vfont2 to PSF2: place is the start of the first entry that has no glyph, or not the greatest height and
+                            width with nothing below the line or left of the origin */
+    LAV_VALUE = 19,      /* the target can't have a value: a surrogate (PSF1 to PSF2), above FFFD (to PSF1); place: its first byte */
+    LAV_SIZE = 20,       /* the output would be over 1,048,576 bytes; place 0 */
+    LAV_ROOM = 21        /* the lent buffer is shorter than the output; place: the size needed */
+};
+
+/* Kinds of font (`kind` of lav_font). */
+enum { LAV_PSF1 = 1, LAV_PSF2 = 2, LAV_VFONT2 = 3 };
+
+/* Kinds of item in a glyph's description (`kind` of lav_item_answer). */
+enum { LAV_SINGLE = 1, LAV_START = 2, LAV_VALUE_IN_SEQUENCE = 3, LAV_END = 4 };
+
+/* What a sound font's header says. */
+typedef struct {
+    uint32_t refusal;
+    uint32_t kind;  /* LAV_PSF1, LAV_PSF2 or LAV_VFONT2 */
+    size_t place;
+    size_t count;   /* glyphs */
+    size_t height;  /* greatest height and width of a glyph, in pixels */
+    size_t width;
+    size_t table;   /* 1 where the font has a Unicode table, else 0 */
+    size_t entries; /* offset of the dispatch table (vfont2); of the bitmaps (PSF1, PSF2) */
+    size_t bitmaps; /* offset of the bitmaps */
+    size_t size;    /* bytes per glyph (PSF1, PSF2); bytes of all bitmaps (vfont2) */
+    size_t end;     /* offset of the first byte after the bitmaps: the Unicode table, if there is one */
+} lav_font;
+
+/* A part of the file: `length` bytes from `offset` on. Both are 0 where the question is refused. */
+typedef struct {
+    uint32_t refusal;
+    size_t place;
+    size_t offset;
+    size_t length;
+} lav_part;
+
+/* One item of a glyph's description. A mark has the value 0. */
+typedef struct {
+    uint32_t refusal;
+    uint32_t kind; /* LAV_SINGLE, LAV_START, LAV_VALUE_IN_SEQUENCE or LAV_END */
+    size_t place;
+    uint32_t value;
+} lav_item_answer;
+
+/* One number; what it counts is said at each call. */
+typedef struct {
+    uint32_t refusal;
+    size_t place;
+    size_t number;
+} lav_number;
+
+/* Checks a font. Refusals: 1 to 12. A font that passes is refused by no later call on the same bytes with 1 to 12. */
+lav_font lav_check(const uint8_t *file, size_t file_len);
+
+/*
+ * Where glyph g's bitmap stands in the file: rows from the top, each row so many whole bytes as its pixels fill, pixels from a byte's
+ * top bit on, 1 is drawn. Bits after a row's last pixel may be anything. Refusals: 1 to 12, ASK (no glyph g), NO_GLYPH.
+ */
+lav_part lav_glyph(const uint8_t *file, size_t file_len, size_t g);
+
+/* Where row y of glyph g stands. Refusals: 1 to 12, ASK (no glyph g), NO_GLYPH, ASK (no row y in this glyph). */
+lav_part lav_row(const uint8_t *file, size_t file_len, size_t g, size_t y);
+
+/* The pixel of row y and column x of glyph g: 1 is drawn, 0 not. Refusals: as lav_row, and ASK (no column x in this glyph). */
+lav_number lav_pixel(const uint8_t *file, size_t file_len, size_t g, size_t y, size_t x);
+
+/*
+ * Item k of glyph g's description, in the order of the file: its singles, then for each sequence a start mark and its values, last the
+ * end mark. So a walk asks k = 0, 1, .. up to LAV_END. Refusals: 1 to 12, NO_TABLE, ASK (no glyph g, or no item k).
+ */
+lav_item_answer lav_item(const uint8_t *file, size_t file_len, size_t g, size_t k);
+
+/* The lowest glyph that lists value v as a single. Refusals: 1 to 12, NO_TABLE, ASK (v above 10FFFF), UNMAPPED. */
+lav_number lav_find_value(const uint8_t *file, size_t file_len, uint32_t v);
+
+/*
+ * The lowest glyph that lists the sequence: after some start mark, exactly these values up to the next mark. A sequence of one value
+ * is not a single. Refusals: 1 to 12, NO_TABLE, ASK (no values, or one above 10FFFF), UNMAPPED.
+ */
+lav_number lav_find_sequence(const uint8_t *file, size_t file_len, const uint32_t *values, size_t value_count);
+
+/*
+ * Conversions. Each writes the whole output to the front of the lent buffer `out` and answers how many bytes that is; what stands
+ * behind them in the buffer stays. A refused conversion leaves the buffer as it was. To learn the size needed, lend a buffer of length
+ * 0: ROOM gives it as its place. The written header has 32 bytes (4 for PSF1) and version 0; extra header bytes are dropped.
+ * Refusals, tried in this order: 1 to 12, WRONG_KIND, GLYPHS, VALUE, SIZE, ROOM; a conversion that can't meet one is named so.
+ */
+
+/* GLYPHS does not occur. VALUE: a surrogate, which UTF-8 can't have. */
+lav_number lav_psf1_to_psf2(const uint8_t *file, size_t file_len, uint8_t *out, size_t out_len);
+
+/* GLYPHS: not 256 or 512 glyphs, or width not 8. VALUE: above FFFD. */
+lav_number lav_psf2_to_psf1(const uint8_t *file, size_t file_len, uint8_t *out, size_t out_len);
+
+/* GLYPHS and VALUE do not occur. */
+lav_number lav_psf2_to_vfont2(const uint8_t *file, size_t file_len, uint8_t *out, size_t out_len);
+
+/* GLYPHS: an entry without a glyph, or with other metrics than (greatest height, 0, 0, greatest width, greatest width). */
+lav_number lav_vfont2_to_psf2(const uint8_t *file, size_t file_len, uint8_t *out, size_t out_len);
+
+#ifdef __cplusplus
+}
+#endif
+
+#endif

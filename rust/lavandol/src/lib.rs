@@ -1,0 +1,229 @@
+//! Bitmap fonts in the formats PSF1, PSF2 and vfont2, read from a slice: a safe
+//! wrapper over the proved library `lavandol`. A call answers, or gives one
+//! refusal with its place. Nothing is allocated.
+//!
+//! ```
+//! # let file = lavandol::SMALL;
+//! let font = lavandol::check(file)?;
+//! let g = lavandol::find_value(file, 0xC5)?;
+//! assert_eq!((font.count, g), (2, 1));
+//! assert_eq!(lavandol::glyph(file, g)?, [0xE0, 0x20]);
+//! # Ok::<(), lavandol::Refusal>(())
+//! ```
+
+use std::fmt;
+use std::ops::Range;
+
+mod boundary;
+use boundary::*;
+
+/// Why a call is refused. `place` is an offset in the file; for ROOM it is the size
+/// needed.
+#[derive(Debug, Clone, Copy, PartialEq, Eq)]
+pub struct Refusal {
+    pub number: u32,
+    pub place: usize,
+}
+
+/// The refusals' names; number 1 comes first.
+const NAMES: [&str; 21] = [
+    "too long",
+    "kind",
+    "header cut",
+    "version",
+    "header size",
+    "count",
+    "shape",
+    "body cut",
+    "entry",
+    "table cut",
+    "table bad",
+    "trailing",
+    "ask",
+    "no table",
+    "unmapped",
+    "no glyph",
+    "wrong kind",
+    "glyphs",
+    "value",
+    "size",
+    "room",
+];
+
+impl Refusal {
+    pub fn name(&self) -> &'static str {
+        NAMES[self.number as usize - 1]
+    }
+}
+
+impl fmt::Display for Refusal {
+    fn fmt(&self, f: &mut fmt::Formatter) -> fmt::Result {
+        write!(f, "refused {} {} ({})", self.number, self.place, self.name())
+    }
+}
+
+impl std::error::Error for Refusal {}
+
+#[derive(Debug, Clone, Copy, PartialEq, Eq)]
+pub enum Kind {
+    Psf1,
+    Psf2,
+    Vfont2,
+}
+
+/// What a sound font's header says. Offsets are in the file.
+#[derive(Debug, Clone, Copy, PartialEq, Eq)]
+pub struct Font {
+    pub kind: Kind,
+    pub count: usize,
+    /// The greatest height and width of a glyph.
+    pub height: usize,
+    pub width: usize,
+    /// Whether the font has a Unicode table.
+    pub table: bool,
+    /// Where the dispatch table begins (vfont2), else the bitmaps.
+    pub entries: usize,
+    pub bitmaps: usize,
+    /// Bytes per glyph (PSF1, PSF2) or of all bitmaps (vfont2).
+    pub size: usize,
+    /// Where the bitmaps end and the Unicode table begins.
+    pub end: usize,
+}
+
+/// An item of a glyph's description.
+#[derive(Debug, Clone, Copy, PartialEq, Eq)]
+pub enum Item {
+    Single(u32),
+    Start,
+    Value(u32),
+    End,
+}
+
+fn unless_refused<T>(number: u32, place: usize, answer: T) -> Result<T, Refusal> {
+    if number == 0 {
+        Ok(answer)
+    } else {
+        Err(Refusal { number, place })
+    }
+}
+
+fn part(p: LavPart) -> Result<Range<usize>, Refusal> {
+    unless_refused(p.refusal, p.place, p.offset..p.offset + p.length)
+}
+
+fn number(n: LavNumber) -> Result<usize, Refusal> {
+    unless_refused(n.refusal, n.place, n.number)
+}
+
+/// Checks a font. Refusals: 1 to 12, in their order.
+pub fn check(file: &[u8]) -> Result<Font, Refusal> {
+    // SAFETY (here and below): the library reads the slices it is lent, writes to
+    // none but a conversion's `out`, within their lengths and during the call only,
+    // and asks nothing of its arguments.
+    let f = unsafe { lav_check(file.as_ptr(), file.len()) };
+    let kind = match f.kind {
+        1 => Kind::Psf1,
+        2 => Kind::Psf2,
+        _ => Kind::Vfont2,
+    };
+    let font = Font {
+        kind,
+        count: f.count,
+        height: f.height,
+        width: f.width,
+        table: f.table != 0,
+        entries: f.entries,
+        bitmaps: f.bitmaps,
+        size: f.size,
+        end: f.end,
+    };
+    unless_refused(f.refusal, f.place, font)
+}
+
+/// Where glyph g's bytes stand in the file. Refusals: 1 to 12, ASK, NO GLYPH.
+pub fn glyph_part(file: &[u8], g: usize) -> Result<Range<usize>, Refusal> {
+    part(unsafe { lav_glyph(file.as_ptr(), file.len(), g) })
+}
+
+/// Glyph g's bytes. Refusals: as `glyph_part`.
+pub fn glyph(file: &[u8], g: usize) -> Result<&[u8], Refusal> {
+    Ok(&file[glyph_part(file, g)?])
+}
+
+/// Where row y of glyph g stands. Refusals: 1 to 12, ASK for the glyph, NO GLYPH,
+/// ASK for the row.
+pub fn row_part(file: &[u8], g: usize, y: usize) -> Result<Range<usize>, Refusal> {
+    part(unsafe { lav_row(file.as_ptr(), file.len(), g, y) })
+}
+
+/// The bytes of row y of glyph g. Refusals: as `row_part`.
+pub fn row(file: &[u8], g: usize, y: usize) -> Result<&[u8], Refusal> {
+    Ok(&file[row_part(file, g, y)?])
+}
+
+/// Whether the pixel of row y and column x of glyph g is drawn. Refusals: as
+/// `row_part`, and ASK for the column.
+pub fn pixel(file: &[u8], g: usize, y: usize, x: usize) -> Result<bool, Refusal> {
+    let bit = number(unsafe { lav_pixel(file.as_ptr(), file.len(), g, y, x) })?;
+    Ok(bit == 1)
+}
+
+/// Item k of glyph g's description, in the order of the file; the end mark comes
+/// last. Refusals: 1 to 12, NO TABLE, ASK.
+pub fn item(file: &[u8], g: usize, k: usize) -> Result<Item, Refusal> {
+    let i = unsafe { lav_item(file.as_ptr(), file.len(), g, k) };
+    let item = match i.kind {
+        1 => Item::Single(i.value),
+        2 => Item::Start,
+        3 => Item::Value(i.value),
+        _ => Item::End,
+    };
+    unless_refused(i.refusal, i.place, item)
+}
+
+/// The lowest glyph that lists v as a single. Refusals: 1 to 12, NO TABLE, ASK,
+/// UNMAPPED.
+pub fn find_value(file: &[u8], v: u32) -> Result<usize, Refusal> {
+    number(unsafe { lav_find_value(file.as_ptr(), file.len(), v) })
+}
+
+/// The lowest glyph that lists the sequence. Refusals: 1 to 12, NO TABLE, ASK,
+/// UNMAPPED.
+pub fn find_sequence(file: &[u8], values: &[u32]) -> Result<usize, Refusal> {
+    number(unsafe { lav_find_sequence(file.as_ptr(), file.len(), values.as_ptr(), values.len()) })
+}
+
+/// PSF1 to PSF2, to the front of `out`: how many bytes were written. A refused call
+/// leaves `out` as it was; ROOM's place is the size needed. Refusals: 1 to 12, WRONG KIND,
+/// VALUE, SIZE, ROOM.
+pub fn psf1_to_psf2(file: &[u8], out: &mut [u8]) -> Result<usize, Refusal> {
+    number(unsafe { lav_psf1_to_psf2(file.as_ptr(), file.len(), out.as_mut_ptr(), out.len()) })
+}
+
+/// PSF2 to PSF1, to the front of `out`: how many bytes were written. A refused call
+/// leaves `out` as it was; ROOM's place is the size needed. Refusals: 1 to 12, WRONG KIND,
+/// GLYPHS, VALUE, SIZE, ROOM.
+pub fn psf2_to_psf1(file: &[u8], out: &mut [u8]) -> Result<usize, Refusal> {
+    number(unsafe { lav_psf2_to_psf1(file.as_ptr(), file.len(), out.as_mut_ptr(), out.len()) })
+}
+
+/// PSF2 to vfont2, to the front of `out`: how many bytes were written. A refused call
+/// leaves `out` as it was; ROOM's place is the size needed. Refusals: 1 to 12, WRONG KIND,
+/// SIZE, ROOM.
+pub fn psf2_to_vfont2(file: &[u8], out: &mut [u8]) -> Result<usize, Refusal> {
+    number(unsafe { lav_psf2_to_vfont2(file.as_ptr(), file.len(), out.as_mut_ptr(), out.len()) })
+}
+
+/// vfont2 to PSF2, to the front of `out`: how many bytes were written. A refused call
+/// leaves `out` as it was; ROOM's place is the size needed. Refusals: 1 to 12, WRONG KIND,
+/// GLYPHS, SIZE, ROOM.
+pub fn vfont2_to_psf2(file: &[u8], out: &mut [u8]) -> Result<usize, Refusal> {
+    number(unsafe { lav_vfont2_to_psf2(file.as_ptr(), file.len(), out.as_mut_ptr(), out.len()) })
+}
+
+/// A font of 45 bytes: glyph 0 lists A, glyph 1 lists Å and the sequence A, ring
+/// above.
+pub const SMALL: &[u8] = &[
+    0x72, 0xB5, 0x4A, 0x86, 0, 0, 0, 0, 32, 0, 0, 0, 1, 0, 0, 0, 2, 0, 0, 0, 2, 0, 0, 0, 2, 0, 0,
+    0, 3, 0, 0, 0, 0xA0, 0x40, 0xE0, 0x20, 0x41, 0xFF, 0xC3, 0x85, 0xFE, 0x41, 0xCC, 0x8A, 0xFF,
+];
