@@ -76,11 +76,11 @@ pub fn row_part(file: &[u8], g: usize, y: usize) -> Part
 pub fn row<'a>(file: &'a [u8], g: usize, y: usize) -> &'a [u8]
     ensures { λ r. ⌜ now r ≡ viewOf (now (file .entry)) (rowPartOf (now (file .entry)) g y) ⌝ }
 {
-    let Part::At(start, len) = row_part(file, g, y) else {
+    let Part::At(from, len) = row_part(file, g, y) else {
         return &file[..0];
     };
-    let end = start + len;
-    &file[start..end]
+    let to = from + len;
+    &file[from..to]
 }
 
 // The pixel of row y and column x of glyph g: 1 is drawn.

@@ -12,8 +12,8 @@ use Rattle.fonts.proofs.row_part.Reads as row-part-reads
 row-part-requires : tie.Need-row-part-requires
 row-part-requires c κs = search needs
 
-enum-known-start : tie.Need-enum-known-start
-enum-known-start c = search needs
+enum-known-from : tie.Need-enum-known-from
+enum-known-from c = search needs
 
 enum-told : tie.Need-enum-told
 enum-told c = search needs
@@ -24,8 +24,8 @@ slice-aggregate-result c = search needs
 returns : tie.Need-returns
 returns c = view-none _ _ _ (sym (c .before .before .before .row-part .ensures .0) ∙ c .before .enum-told .given .1)
 
-add-end : tie.Need-add-end
-add-end c = omega (arith, rw (c .before .start .given .1) at (c .before .before .before .row-part .ensures .1))
+add-to : tie.Need-add-to
+add-to c = omega (arith, rw (c .before .from .given .1) at (c .before .before .before .row-part .ensures .1))
 
 sub-result : tie.Need-sub-result
 sub-result c = search needs
@@ -34,21 +34,21 @@ part-result-start : tie.Need-part-result-start
 part-result-start c = search needs
 
 part-result-end : tie.Need-part-result-end
-part-result-end c = omega (arith, rw (c .before .start .given .1) at (c .before .before .before .row-part .ensures .1))
+part-result-end c = omega (arith, rw (c .before .from .given .1) at (c .before .before .before .row-part .ensures .1))
 
 returns-2 : tie.Need-returns-2
-returns-2 c = view-at _ _ _ _ (sym (c .before .before .before .before .row-part .ensures .0) ∙ c .before .before .start .given .1)
+returns-2 c = view-at _ _ _ _ (sym (c .before .before .before .before .row-part .ensures .0) ∙ c .before .before .from .given .1)
 
 pub row-spec : {M : Type 1} → statement M
 row-spec =
     tie.close
     (tie.spec
     row-part-requires
-    enum-known-start
+    enum-known-from
     enum-told
     slice-aggregate-result
     returns
-    add-end
+    add-to
     sub-result
     part-result-start
     part-result-end
