@@ -3,3 +3,4 @@ pub mod Cases
 pub mod Tails
 pub mod Stretches
 pub mod Pixels
+pub mod Written
