@@ -4,3 +4,4 @@ pub mod Tails
 pub mod Stretches
 pub mod Pixels
 pub mod Written
+pub mod Dispatch
