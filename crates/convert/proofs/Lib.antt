@@ -5,3 +5,4 @@ pub mod Stretches
 pub mod Pixels
 pub mod Written
 pub mod Dispatch
+pub mod Sounds
