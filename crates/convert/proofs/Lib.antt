@@ -6,3 +6,5 @@ pub mod Pixels
 pub mod Written
 pub mod Dispatch
 pub mod Sounds
+pub mod Shapes
+pub mod Tables
