@@ -8,3 +8,4 @@ pub mod Dispatch
 pub mod Sounds
 pub mod Shapes
 pub mod Tables
+pub mod Keeping
