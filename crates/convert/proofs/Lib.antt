@@ -9,3 +9,4 @@ pub mod Sounds
 pub mod Shapes
 pub mod Tables
 pub mod Keeping
+pub mod Exactly
