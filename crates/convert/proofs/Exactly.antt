@@ -173,6 +173,52 @@ module _ (from to : Coding) (header : ℕ) (s : List ℕ) (f : Font) (ds : List 
           let w : j ≡ k = omega arith in
           subst (FirstUncarried from to (items ds) 0) w u
 
+-- the first entry that is not even
+module _ (s : List ℕ) (h w : ℕ) where
+  abbrev First : ℕ → ℕ → ℕ → Type 0
+  First k at p = (i : ℕ) × (i < k) × (p ≡ entryAt at i) × (isEven s h w p ≡ false) × ((j : ℕ) → j < i → isEven s h w (entryAt at j) ≡ true)
+
+  shift : (at i : ℕ) → entryAt (at + 18) i ≡ entryAt at (suc i)
+  shift at i = omega arith
+
+  start : (at : ℕ) → at ≡ entryAt at 0
+  start at = omega arith
+
+  first-uneven : (k at p : ℕ) → evenness s h w k at ≡ Uneven p → First k at p
+  unfolding evenness when
+  first-uneven zero at p e = let z : _≡_ {A = ℕ} 0 1 = cc in absurd (omega arith)
+  first-uneven (suc k) at p e = go (isEven s h w at) refl (first-uneven k (at + 18) p) e
+    where
+      go : (t : Bool) → isEven s h w at ≡ t → (evenness s h w k (at + 18) ≡ Uneven p → First k (at + 18) p) → when t (evenness s h w k (at + 18)) (Uneven at) ≡ Uneven p → First (suc k) at p
+      go true q ih e =
+          let r = ih e in
+          (suc (r .0), omega (arith, r .1), r .2 ∙ shift at (r .0), r .3, before (r .0) (r .4))
+        where
+          before : (i : ℕ) → ((j : ℕ) → j < i → isEven s h w (entryAt (at + 18) j) ≡ true) → (j : ℕ) → j < suc i → isEven s h w (entryAt at j) ≡ true
+          before i f zero l = ap (isEven s h w) (sym (start at)) ∙ q
+          before i f (suc j) l = ap (isEven s h w) (sym (shift at j)) ∙ f j (omega arith)
+      go false q ih e =
+          let z : at ≡ p = cc in
+          (0, omega arith, sym z ∙ start at, ap (isEven s h w) (sym z) ∙ q, λ j l. absurd (omega arith))
+
+  uneven-found : (k at i : ℕ) → i < k → isEven s h w (entryAt at i) ≡ false → ((j : ℕ) → j < i → isEven s h w (entryAt at j) ≡ true) → evenness s h w k at ≡ Uneven (entryAt at i)
+  unfolding evenness when
+  uneven-found zero at i l e f = absurd (omega arith)
+  uneven-found (suc k) at zero l e f =
+      let z : isEven s h w at ≡ false = ap (isEven s h w) (start at) ∙ e in
+      rw z (ap Uneven (start at))
+  uneven-found (suc k) at (suc i) l e f =
+      let z : isEven s h w at ≡ true = ap (isEven s h w) (start at) ∙ f 0 (omega arith) in
+      rw z (uneven-found k (at + 18) i (omega arith) (ap (isEven s h w) (shift at i) ∙ e) (λ j q. ap (isEven s h w) (shift at j) ∙ f (suc j) (omega arith)) ∙ ap Uneven (shift at i))
+
+-- a test that fails, and one that does not hold
+test-false : {A : Type 0} (t : Bool) → (t ≡ true) ↔ A → (A → ⊥) → t ≡ false
+test-false true p n = absurd (n (p .0 refl))
+test-false false p n = refl
+
+false-not : {A : Type 0} (t : Bool) → (t ≡ true) ↔ A → t ≡ false → A → ⊥
+false-not t p e a = let q : false ≡ true = sym e ∙ p .1 a in let z : _≡_ {A = ℕ} 0 1 = cc in omega arith
+
 -- PSF1 to PSF2
 module _ (s : List ℕ) (f : Font) (sound : checkOf s ≡ Sound f) (m : ℕ) where
   module _ (q : f .kind ≡ Psf1) (ds : List Desc) (o : Readable Ucs2 ds) (e : tailOf s f ≡ encode Ucs2 ds) where
@@ -248,3 +294,62 @@ module _ (s : List ℕ) (f : Font) (sound : checkOf s ≡ Sound f) (m : ℕ) whe
         gather-planned
         ∙ ap (λ (p : Plan). converted p m) (sym (plan-cases.gathered s f (evenSize f) refl (each-even s (f .height) (f .width) (f .count) (f .entries) (λ i l. even-is (entryAt (f .entries) i) .1 (h i l)))))
         ∙ fit-outcome f (32 + f .count * evenSize f + (length s - f .end)) m
+
+    -- GLYPHS is given exactly at the first entry that hasn't
+    pub vfont2-to-psf2-glyphs : (p : ℕ) → (vfont2ToPsf2 s m ≡ Refused (Glyphs p)) ↔ FirstUneven s (f .height) (f .width) (f .count) (f .entries) p
+    vfont2-to-psf2-glyphs p = (λ e. go (evenness s (f .height) (f .width) (f .count) (f .entries)) refl e, back)
+      where
+        stop : (j : ℕ) → evenness s (f .height) (f .width) (f .count) (f .entries) ≡ Uneven j → vfont2ToPsf2 s m ≡ Refused (Glyphs j)
+        stop j v = gather-planned ∙ ap (λ (x : Plan). converted x m) (sym (plan-cases.gathered-not s f j v))
+
+        found : (j : ℕ) → evenness s (f .height) (f .width) (f .count) (f .entries) ≡ Uneven j → FirstUneven s (f .height) (f .width) (f .count) (f .entries) j
+        found j v =
+            let r = first-uneven s (f .height) (f .width) (f .count) (f .entries) j v in
+            record {
+              index = r .0;
+              within = r .1;
+              place = r .2;
+              uneven = false-not (isEven s (f .height) (f .width) j) (even-is j) (r .3);
+              first = λ i l. even-is (entryAt (f .entries) i) .0 (r .4 i l);
+            }
+
+        go : (x : Evenness) → evenness s (f .height) (f .width) (f .count) (f .entries) ≡ x → vfont2ToPsf2 s m ≡ Refused (Glyphs p) → FirstUneven s (f .height) (f .width) (f .count) (f .entries) p
+        go Even v e =
+            absurd (no-glyphs (32 + f .count * evenSize f + (length s - f .end)) m p
+            (sym (vfont2-to-psf2-else (λ i l. even-is (entryAt (f .entries) i) .0 (even-each s (f .height) (f .width) (f .count) (f .entries) v i l))) ∙ e))
+        go (Uneven j) v e = let z : j ≡ p = ap placed-at (sym (stop j v) ∙ e) in subst (FirstUneven s (f .height) (f .width) (f .count) (f .entries)) z (found j v)
+
+        back : FirstUneven s (f .height) (f .width) (f .count) (f .entries) p → vfont2ToPsf2 s m ≡ Refused (Glyphs p)
+        back u =
+            let at = entryAt (f .entries) (u .index) in
+            let n : isEven s (f .height) (f .width) at ≡ false =
+                test-false (isEven s (f .height) (f .width) at) (even-is at) (subst (λ (x : ℕ). EvenGlyph s (f .height) (f .width) x → ⊥) (u .place) (u .uneven)) in
+            stop at (uneven-found s (f .height) (f .width) (f .count) (f .entries) (u .index) (u .within) n (λ j l. even-is (entryAt (f .entries) j) .1 (u .first j l)))
+            ∙ ap (λ (x : ℕ). Refused (Glyphs x)) (sym (u .place))
+
+-- the font's own refusal comes first, then WRONG KIND, in all four
+module _ (s : List ℕ) (m : ℕ) where
+  unopened : (k : Kind) (r : Refusal) (go : Font → Plan) → openedOf k s ≡ Unsound r → converted (onward (openedOf k s) go) m ≡ Refused r
+  unopened k r go e = ap (λ (x : Checked). converted (onward x go) m) e
+
+  module _ (r : Refusal) (e : checkOf s ≡ Unsound r) where
+    pub own-refusal : (psf1ToPsf2 s m ≡ Refused r) × (psf2ToPsf1 s m ≡ Refused r) × (psf2ToVfont2 s m ≡ Refused r) × (vfont2ToPsf2 s m ≡ Refused r)
+    unfolding psf1ToPsf2 psf1ToPsf2Plan psf2ToPsf1 psf2ToPsf1Plan psf2ToVfont2 psf2ToVfont2Plan vfont2ToPsf2 vfont2ToPsf2Plan
+    own-refusal =
+        (unopened Psf1 r _ (sym (plan-cases.opened-refused Psf1 s r e)), unopened Psf2 r _ (sym (plan-cases.opened-refused Psf2 s r e)),
+        unopened Psf2 r _ (sym (plan-cases.opened-refused Psf2 s r e)), unopened Vfont2 r _ (sym (plan-cases.opened-refused Vfont2 s r e)))
+
+  module _ (f : Font) (e : checkOf s ≡ Sound f) where
+    differs : (k : Kind) → (f .kind ≡ k → ⊥) → openedOf k s ≡ Unsound WrongKind
+    differs k n = sym (plan-cases.opened-other k s f e (go (sameKind k (f .kind)) refl))
+      where
+        go : (t : Bool) → sameKind k (f .kind) ≡ t → sameKind k (f .kind) ≡ false
+        go true q = absurd (n (plan-cases.same-kind k (f .kind) q))
+        go false q = q
+
+    pub wrong-kind : ((f .kind ≡ Psf1 → ⊥) → psf1ToPsf2 s m ≡ Refused WrongKind) × ((f .kind ≡ Psf2 → ⊥) → psf2ToPsf1 s m ≡ Refused WrongKind)
+        × ((f .kind ≡ Psf2 → ⊥) → psf2ToVfont2 s m ≡ Refused WrongKind) × ((f .kind ≡ Vfont2 → ⊥) → vfont2ToPsf2 s m ≡ Refused WrongKind)
+    unfolding psf1ToPsf2 psf1ToPsf2Plan psf2ToPsf1 psf2ToPsf1Plan psf2ToVfont2 psf2ToVfont2Plan vfont2ToPsf2 vfont2ToPsf2Plan
+    wrong-kind =
+        (λ n. unopened Psf1 WrongKind _ (differs Psf1 n), λ n. unopened Psf2 WrongKind _ (differs Psf2 n),
+        λ n. unopened Psf2 WrongKind _ (differs Psf2 n), λ n. unopened Vfont2 WrongKind _ (differs Vfont2 n))
