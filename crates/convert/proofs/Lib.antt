@@ -10,3 +10,4 @@ pub mod Shapes
 pub mod Tables
 pub mod Keeping
 pub mod Exactly
+pub mod Selves
