@@ -73,7 +73,7 @@ module _ (s : List ℕ) (f : Font) (ee : f .end ≡ f .bitmaps + f .count * f .s
 
 -- PSF1 to PSF2
 module _ (s : List ℕ) (f : Font) (n : ℕ) (y : Bytes s) (ready : psf1ToPsf2Plan s ≡ Ready f n) where
-  psf1-to-psf2-is : psf1ToPsf2Bytes s f ≡ header32 0x864AB572 (f .table) (f .count) (f .size) (f .height) (f .width) ++ bitmapsOf s f ++ recoded Ucs2 Utf8 (tailOf s f)
+  pub psf1-to-psf2-is : psf1ToPsf2Bytes s f ≡ header32 0x864AB572 (f .table) (f .count) (f .size) (f .height) (f .width) ++ bitmapsOf s f ++ recoded Ucs2 Utf8 (tailOf s f)
   unfolding psf1ToPsf2Bytes
   psf1-to-psf2-is = refl
 
@@ -85,6 +85,38 @@ module _ (s : List ℕ) (f : Font) (n : ℕ) (y : Bytes s) (ready : psf1ToPsf2Pl
       let h = header32 0x864AB572 (f .table) (f .count) (f .size) (f .height) (f .width) in
       omega (arith, ap length psf1-to-psf2-is, length-append (h ++ bitmapsOf s f) (recoded Ucs2 Utf8 (tailOf s f)), length-append h (bitmapsOf s f),
       header32-length 0x864AB572 (f .table) (f .count) (f .size) (f .height) (f .width), bitmaps-length s f (k .0) (p .7), r .2 .1)
+
+  pub psf1-to-psf2-tail : tailOf (psf1ToPsf2Bytes s f) (psf2Font (written (f .table) (f .count) (f .size) (f .height) (f .width))) ≡ recoded Ucs2 Utf8 (tailOf s f)
+  psf1-to-psf2-tail =
+      let r = psf1-to-psf2-ready s f n ready in
+      let p = is-placed s f y (r .0) in
+      let k : Even f = is-kind s f y (r .0) Psf1 (r .1) in
+      let sh = psf1-shape s f y (r .0) (r .1) .0 in
+      let o = psf1ToPsf2Bytes s f in
+      let h = header32 0x864AB572 (f .table) (f .count) (f .size) (f .height) (f .width) in
+      let tl = recoded Ucs2 Utf8 (tailOf s f) in
+      let lb = bitmaps-length s f (k .0) (p .7) in
+      let short : length o ≤ limit = omega (arith, psf1-to-psf2-length, r .2 .2) in
+      let ct : codingOf (f .kind) ≡ Ucs2 = ap codingOf (r .1) in
+      let ts = subst (λ (c : Coding). Tail (f .table) c (f .count) (tailOf s f)) ct (tail-known s f y (r .0)) in
+      let tt' = carried-tail Ucs2 Utf8 (tailOf s f) _ (r .2 .0) (f .table) (f .count) ts in
+      psf2-tail (f .table) (f .count) (f .size) (f .height) (f .width) (bitmapsOf s f) tl o psf1-to-psf2-is sh (k .1) lb short
+
+  pub psf1-to-psf2-sound : checkOf (psf1ToPsf2Bytes s f) ≡ Sound (psf2Font (written (f .table) (f .count) (f .size) (f .height) (f .width)))
+  psf1-to-psf2-sound =
+      let r = psf1-to-psf2-ready s f n ready in
+      let p = is-placed s f y (r .0) in
+      let k : Even f = is-kind s f y (r .0) Psf1 (r .1) in
+      let sh = psf1-shape s f y (r .0) (r .1) .0 in
+      let o = psf1ToPsf2Bytes s f in
+      let h = header32 0x864AB572 (f .table) (f .count) (f .size) (f .height) (f .width) in
+      let tl = recoded Ucs2 Utf8 (tailOf s f) in
+      let lb = bitmaps-length s f (k .0) (p .7) in
+      let short : length o ≤ limit = omega (arith, psf1-to-psf2-length, r .2 .2) in
+      let ct : codingOf (f .kind) ≡ Ucs2 = ap codingOf (r .1) in
+      let ts = subst (λ (c : Coding). Tail (f .table) c (f .count) (tailOf s f)) ct (tail-known s f y (r .0)) in
+      let tt' = carried-tail Ucs2 Utf8 (tailOf s f) _ (r .2 .0) (f .table) (f .count) ts in
+      psf2-file-sound (f .table) (f .count) (f .size) (f .height) (f .width) (bitmapsOf s f) tl o psf1-to-psf2-is sh (k .1) lb short (tt' .1) (tt' .0)
 
   pub psf1-to-psf2-keeps : Keeps s f (psf1ToPsf2Bytes s f) Psf2
   psf1-to-psf2-keeps =
@@ -100,12 +132,11 @@ module _ (s : List ℕ) (f : Font) (n : ℕ) (y : Bytes s) (ready : psf1ToPsf2Pl
       let ct : codingOf (f .kind) ≡ Ucs2 = ap codingOf (r .1) in
       let ts = subst (λ (c : Coding). Tail (f .table) c (f .count) (tailOf s f)) ct (tail-known s f y (r .0)) in
       let tt' = carried-tail Ucs2 Utf8 (tailOf s f) _ (r .2 .0) (f .table) (f .count) ts in
-      let td = psf2-tail (f .table) (f .count) (f .size) (f .height) (f .width) (bitmapsOf s f) tl o psf1-to-psf2-is sh (k .1) lb short in
       let f' = psf2Font (written (f .table) (f .count) (f .size) (f .height) (f .width)) in
       let moved = glyph-moved s f (k .0) (p .7) 32 h tl o (header32-length 0x864AB572 (f .table) (f .count) (f .size) (f .height) (f .width)) psf1-to-psf2-is in
       record {
         font = f';
-        sound = psf2-file-sound (f .table) (f .count) (f .size) (f .height) (f .width) (bitmapsOf s f) tl o psf1-to-psf2-is sh (k .1) lb short (tt' .1) (tt' .0);
+        sound = psf1-to-psf2-sound;
         kind = refl;
         count = refl;
         height = refl;
@@ -114,7 +145,7 @@ module _ (s : List ℕ) (f : Font) (n : ℕ) (y : Bytes s) (ready : psf1ToPsf2Pl
         glyphs = glyphs-kept o s f' f (f .size) (f .height) (f .width) (λ g. 32 + g * f .size) (λ g. f .bitmaps + g * f .size) refl (k .1) (λ g l. located o f' g Psf2 refl l) (λ g l. located s f g Psf1 (r .1) l) moved;
         pixels = pixels-kept o s f' f (f .size) (f .height) (f .width) (λ g. 32 + g * f .size) (λ g. f .bitmaps + g * f .size) refl (k .1) (λ g l. located o f' g Psf2 refl l) (λ g l. located s f g Psf1 (r .1) l) moved;
         metrics = λ g l. sym (ap (kindMetrics s f g) (r .1));
-        reading = λ ds q e. let c = carried-reading Ucs2 Utf8 (tailOf s f) _ (r .2 .0) ds (subst (λ (c : Coding). Readable c ds) ct q) (subst (λ (c : Coding). tailOf s f ≡ encode c ds) ct e) in (c .0, td ∙ c .1);
+        reading = λ ds q e. let c = carried-reading Ucs2 Utf8 (tailOf s f) _ (r .2 .0) ds (subst (λ (c : Coding). Readable c ds) ct q) (subst (λ (c : Coding). tailOf s f ≡ encode c ds) ct e) in (c .0, psf1-to-psf2-tail ∙ c .1);
       }
 
 -- PSF2 to PSF1
@@ -131,7 +162,7 @@ two-counts n e = go (eqb n 256) refl e
     go false q e = inr (eqb-true n 512 e)
 
 module _ (s : List ℕ) (f : Font) (n : ℕ) (y : Bytes s) (ready : psf2ToPsf1Plan s ≡ Ready f n) where
-  psf2-to-psf1-is : psf2ToPsf1Bytes s f ≡ header4 (f .count) (f .table) (f .height) ++ bitmapsOf s f ++ recoded Utf8 Ucs2 (tailOf s f)
+  pub psf2-to-psf1-is : psf2ToPsf1Bytes s f ≡ header4 (f .count) (f .table) (f .height) ++ bitmapsOf s f ++ recoded Utf8 Ucs2 (tailOf s f)
   unfolding psf2ToPsf1Bytes
   psf2-to-psf1-is = refl
 
@@ -151,6 +182,40 @@ module _ (s : List ℕ) (f : Font) (n : ℕ) (y : Bytes s) (ready : psf2ToPsf1Pl
       let k : Even f = is-kind s f y (r .0) Psf2 (r .1) in
       k .1 ∙ ap (glyphBytes (f .height)) (r .2 .1) ∙ eight (f .height)
 
+  pub psf2-to-psf1-tail : tailOf (psf2ToPsf1Bytes s f) (psf1Font (f .count) (f .height) (f .table)) ≡ recoded Utf8 Ucs2 (tailOf s f)
+  psf2-to-psf1-tail =
+      let r = psf2-to-psf1-ready s f n ready in
+      let p = is-placed s f y (r .0) in
+      let k : Even f = is-kind s f y (r .0) Psf2 (r .1) in
+      let sh = psf2-shape s f y (r .0) (r .1) in
+      let o = psf2ToPsf1Bytes s f in
+      let h = header4 (f .count) (f .table) (f .height) in
+      let tl = recoded Utf8 Ucs2 (tailOf s f) in
+      let two = two-counts (f .count) (r .2 .0) in
+      let lb : length (bitmapsOf s f) ≡ f .count * f .height = bitmaps-length s f (k .0) (p .7) ∙ ap (λ (x : ℕ). f .count * x) as-many in
+      let short : length o ≤ limit = omega (arith, psf2-to-psf1-length, r .2 .2 .2) in
+      let ct : codingOf (f .kind) ≡ Utf8 = ap codingOf (r .1) in
+      let ts = subst (λ (c : Coding). Tail (f .table) c (f .count) (tailOf s f)) ct (tail-known s f y (r .0)) in
+      let tt' = carried-tail Utf8 Ucs2 (tailOf s f) _ (r .2 .2 .0) (f .table) (f .count) ts in
+      psf1-tail (f .count) (f .table) (f .height) (bitmapsOf s f) tl o psf2-to-psf1-is two (sh .2) lb short
+
+  pub psf2-to-psf1-sound : checkOf (psf2ToPsf1Bytes s f) ≡ Sound (psf1Font (f .count) (f .height) (f .table))
+  psf2-to-psf1-sound =
+      let r = psf2-to-psf1-ready s f n ready in
+      let p = is-placed s f y (r .0) in
+      let k : Even f = is-kind s f y (r .0) Psf2 (r .1) in
+      let sh = psf2-shape s f y (r .0) (r .1) in
+      let o = psf2ToPsf1Bytes s f in
+      let h = header4 (f .count) (f .table) (f .height) in
+      let tl = recoded Utf8 Ucs2 (tailOf s f) in
+      let two = two-counts (f .count) (r .2 .0) in
+      let lb : length (bitmapsOf s f) ≡ f .count * f .height = bitmaps-length s f (k .0) (p .7) ∙ ap (λ (x : ℕ). f .count * x) as-many in
+      let short : length o ≤ limit = omega (arith, psf2-to-psf1-length, r .2 .2 .2) in
+      let ct : codingOf (f .kind) ≡ Utf8 = ap codingOf (r .1) in
+      let ts = subst (λ (c : Coding). Tail (f .table) c (f .count) (tailOf s f)) ct (tail-known s f y (r .0)) in
+      let tt' = carried-tail Utf8 Ucs2 (tailOf s f) _ (r .2 .2 .0) (f .table) (f .count) ts in
+      psf1-file-sound (f .count) (f .table) (f .height) (bitmapsOf s f) tl o psf2-to-psf1-is two (sh .2) lb short (tt' .1) (tt' .0)
+
   pub psf2-to-psf1-keeps : Keeps s f (psf2ToPsf1Bytes s f) Psf1
   psf2-to-psf1-keeps =
       let r = psf2-to-psf1-ready s f n ready in
@@ -166,7 +231,6 @@ module _ (s : List ℕ) (f : Font) (n : ℕ) (y : Bytes s) (ready : psf2ToPsf1Pl
       let ct : codingOf (f .kind) ≡ Utf8 = ap codingOf (r .1) in
       let ts = subst (λ (c : Coding). Tail (f .table) c (f .count) (tailOf s f)) ct (tail-known s f y (r .0)) in
       let tt' = carried-tail Utf8 Ucs2 (tailOf s f) _ (r .2 .2 .0) (f .table) (f .count) ts in
-      let td = psf1-tail (f .count) (f .table) (f .height) (bitmapsOf s f) tl o psf2-to-psf1-is two (sh .2) lb short in
       let f' = psf1Font (f .count) (f .height) (f .table) in
       let ez = sym as-many in
       let ew = sym (r .2 .1) in
@@ -175,7 +239,7 @@ module _ (s : List ℕ) (f : Font) (n : ℕ) (y : Bytes s) (ready : psf2ToPsf1Pl
           λ g l. located o f' g Psf1 refl l ∙ λ j. bitmapAt (4 + g * ez j) (ez j) (f .height) (ew j) in
       record {
         font = f';
-        sound = psf1-file-sound (f .count) (f .table) (f .height) (bitmapsOf s f) tl o psf2-to-psf1-is two (sh .2) lb short (tt' .1) (tt' .0);
+        sound = psf2-to-psf1-sound;
         kind = refl;
         count = refl;
         height = refl;
@@ -184,7 +248,7 @@ module _ (s : List ℕ) (f : Font) (n : ℕ) (y : Bytes s) (ready : psf2ToPsf1Pl
         glyphs = glyphs-kept o s f' f (f .size) (f .height) (f .width) (λ g. 4 + g * f .size) (λ g. f .bitmaps + g * f .size) refl (k .1) lo (λ g l. located s f g Psf2 (r .1) l) moved;
         pixels = pixels-kept o s f' f (f .size) (f .height) (f .width) (λ g. 4 + g * f .size) (λ g. f .bitmaps + g * f .size) refl (k .1) lo (λ g l. located s f g Psf2 (r .1) l) moved;
         metrics = λ g l. (λ j. evenMetrics (f .height) (ew j)) ∙ sym (ap (kindMetrics s f g) (r .1));
-        reading = λ ds q e. let c = carried-reading Utf8 Ucs2 (tailOf s f) _ (r .2 .2 .0) ds (subst (λ (c : Coding). Readable c ds) ct q) (subst (λ (c : Coding). tailOf s f ≡ encode c ds) ct e) in (c .0, td ∙ c .1);
+        reading = λ ds q e. let c = carried-reading Utf8 Ucs2 (tailOf s f) _ (r .2 .2 .0) ds (subst (λ (c : Coding). Readable c ds) ct q) (subst (λ (c : Coding). tailOf s f ≡ encode c ds) ct e) in (c .0, psf2-to-psf1-tail ∙ c .1);
       }
 
 -- PSF2 to vfont2
@@ -233,6 +297,34 @@ module _ (s : List ℕ) (f : Font) (n : ℕ) (y : Bytes s) (ready : psf2ToVfont2
         (located o f' g Vfont2 refl l ∙ ap (entryBitmap o f' (32 + g * 18)) en ∙ (λ j. bitmapAt (32 + f .count * 18 + ad .0 j) (ad .1 j) (f .height) (f .width)),
         even-metrics o (f .height) (f .width) (32 + g * 18) (omega (arith, sh .3)) (omega (arith, sh .5)) fs)
 
+  pub psf2-to-vfont2-tail : tailOf (psf2ToVfont2Bytes s f) (vfont2Font (written (f .table) (f .count) (f .count * f .size) (f .height) (f .width))) ≡ tailOf s f
+  psf2-to-vfont2-tail =
+      let r = psf2-to-vfont2-ready s f n ready in
+      let p = is-placed s f y (r .0) in
+      let k : Even f = is-kind s f y (r .0) Psf2 (r .1) in
+      let sh = psf2-shape s f y (r .0) (r .1) in
+      let o = psf2ToVfont2Bytes s f in
+      let h = header32 0x68A45B27 (f .table) (f .count) (f .count * f .size) (f .height) (f .width) ++ entriesFrom (f .size) (f .height) (f .width) 0 (f .count) in
+      let lb = bitmaps-length s f (k .0) (p .7) in
+      let short : length o ≤ limit = omega (arith, psf2-to-vfont2-length, r .2 .1) in
+      let ct : codingOf (f .kind) ≡ Utf8 = ap codingOf (r .1) in
+      let ts = subst (λ (c : Coding). Tail (f .table) c (f .count) (tailOf s f)) ct (tail-known s f y (r .0)) in
+      vfont2-tail (f .table) (f .count) (f .size) (f .height) (f .width) (bitmapsOf s f) (tailOf s f) o psf2-to-vfont2-is sh (k .1) lb short
+
+  pub psf2-to-vfont2-sound : checkOf (psf2ToVfont2Bytes s f) ≡ Sound (vfont2Font (written (f .table) (f .count) (f .count * f .size) (f .height) (f .width)))
+  psf2-to-vfont2-sound =
+      let r = psf2-to-vfont2-ready s f n ready in
+      let p = is-placed s f y (r .0) in
+      let k : Even f = is-kind s f y (r .0) Psf2 (r .1) in
+      let sh = psf2-shape s f y (r .0) (r .1) in
+      let o = psf2ToVfont2Bytes s f in
+      let h = header32 0x68A45B27 (f .table) (f .count) (f .count * f .size) (f .height) (f .width) ++ entriesFrom (f .size) (f .height) (f .width) 0 (f .count) in
+      let lb = bitmaps-length s f (k .0) (p .7) in
+      let short : length o ≤ limit = omega (arith, psf2-to-vfont2-length, r .2 .1) in
+      let ct : codingOf (f .kind) ≡ Utf8 = ap codingOf (r .1) in
+      let ts = subst (λ (c : Coding). Tail (f .table) c (f .count) (tailOf s f)) ct (tail-known s f y (r .0)) in
+      vfont2-file-sound (f .table) (f .count) (f .size) (f .height) (f .width) (bitmapsOf s f) (tailOf s f) o psf2-to-vfont2-is sh (k .1) lb short (bytes-drop (f .end) s y) ts
+
   pub psf2-to-vfont2-keeps : Keeps s f (psf2ToVfont2Bytes s f) Vfont2
   psf2-to-vfont2-keeps =
       let r = psf2-to-vfont2-ready s f n ready in
@@ -245,12 +337,11 @@ module _ (s : List ℕ) (f : Font) (n : ℕ) (y : Bytes s) (ready : psf2ToVfont2
       let short : length o ≤ limit = omega (arith, psf2-to-vfont2-length, r .2 .1) in
       let ct : codingOf (f .kind) ≡ Utf8 = ap codingOf (r .1) in
       let ts = subst (λ (c : Coding). Tail (f .table) c (f .count) (tailOf s f)) ct (tail-known s f y (r .0)) in
-      let td = vfont2-tail (f .table) (f .count) (f .size) (f .height) (f .width) (bitmapsOf s f) (tailOf s f) o psf2-to-vfont2-is sh (k .1) lb short in
       let f' = vfont2Font (written (f .table) (f .count) (f .count * f .size) (f .height) (f .width)) in
       let moved = glyph-moved s f (k .0) (p .7) (32 + f .count * 18) h (tailOf s f) o entries-front psf2-to-vfont2-is in
       record {
         font = f';
-        sound = vfont2-file-sound (f .table) (f .count) (f .size) (f .height) (f .width) (bitmapsOf s f) (tailOf s f) o psf2-to-vfont2-is sh (k .1) lb short (bytes-drop (f .end) s y) ts;
+        sound = psf2-to-vfont2-sound;
         kind = refl;
         count = refl;
         height = refl;
@@ -259,7 +350,7 @@ module _ (s : List ℕ) (f : Font) (n : ℕ) (y : Bytes s) (ready : psf2ToVfont2
         glyphs = glyphs-kept o s f' f (f .size) (f .height) (f .width) (λ g. 32 + f .count * 18 + g * f .size) (λ g. f .bitmaps + g * f .size) refl (k .1) (λ g l. written-glyph g l .0) (λ g l. located s f g Psf2 (r .1) l) moved;
         pixels = pixels-kept o s f' f (f .size) (f .height) (f .width) (λ g. 32 + f .count * 18 + g * f .size) (λ g. f .bitmaps + g * f .size) refl (k .1) (λ g l. written-glyph g l .0) (λ g l. located s f g Psf2 (r .1) l) moved;
         metrics = λ g l. written-glyph g l .1 ∙ sym (ap (kindMetrics s f g) (r .1));
-        reading = λ ds q e. (subst (λ (c : Coding). Readable c ds) ct q, td ∙ subst (λ (c : Coding). tailOf s f ≡ encode c ds) ct e);
+        reading = λ ds q e. (subst (λ (c : Coding). Readable c ds) ct q, psf2-to-vfont2-tail ∙ subst (λ (c : Coding). tailOf s f ≡ encode c ds) ct e);
       }
 
 -- vfont2 to PSF2: the i-th of the glyphs that are gathered
@@ -307,6 +398,34 @@ module _ (s : List ℕ) (f : Font) (n : ℕ) (y : Bytes s) (ready : vfont2ToPsf2
       omega (arith, ap length vfont2-to-psf2-is, length-append (h ++ g) (tailOf s f), length-append h g,
       header32-length 0x864AB572 (f .table) (f .count) (evenSize f) (f .height) (f .width), gathered-length, length-drop (f .end) s, r .2 .1)
 
+  pub vfont2-to-psf2-tail : tailOf (vfont2ToPsf2Bytes s f) (psf2Font (written (f .table) (f .count) (evenSize f) (f .height) (f .width))) ≡ tailOf s f
+  vfont2-to-psf2-tail =
+      let r = vfont2-to-psf2-ready s f n ready in
+      let p = is-placed s f y (r .0) in
+      let sh = vfont2-shape s f y (r .0) (r .1) (r .2 .0) in
+      let o = vfont2ToPsf2Bytes s f in
+      let c = evenSize f in
+      let h = header32 0x864AB572 (f .table) (f .count) c (f .height) (f .width) in
+      let gs = glyphsFrom s (f .entries) (f .bitmaps) c 0 (f .count) in
+      let short : length o ≤ limit = omega (arith, vfont2-to-psf2-length, r .2 .2) in
+      let ct : codingOf (f .kind) ≡ Utf8 = ap codingOf (r .1) in
+      let ts = subst (λ (c : Coding). Tail (f .table) c (f .count) (tailOf s f)) ct (tail-known s f y (r .0)) in
+      psf2-tail (f .table) (f .count) c (f .height) (f .width) gs (tailOf s f) o vfont2-to-psf2-is sh refl gathered-length short
+
+  pub vfont2-to-psf2-sound : checkOf (vfont2ToPsf2Bytes s f) ≡ Sound (psf2Font (written (f .table) (f .count) (evenSize f) (f .height) (f .width)))
+  vfont2-to-psf2-sound =
+      let r = vfont2-to-psf2-ready s f n ready in
+      let p = is-placed s f y (r .0) in
+      let sh = vfont2-shape s f y (r .0) (r .1) (r .2 .0) in
+      let o = vfont2ToPsf2Bytes s f in
+      let c = evenSize f in
+      let h = header32 0x864AB572 (f .table) (f .count) c (f .height) (f .width) in
+      let gs = glyphsFrom s (f .entries) (f .bitmaps) c 0 (f .count) in
+      let short : length o ≤ limit = omega (arith, vfont2-to-psf2-length, r .2 .2) in
+      let ct : codingOf (f .kind) ≡ Utf8 = ap codingOf (r .1) in
+      let ts = subst (λ (c : Coding). Tail (f .table) c (f .count) (tailOf s f)) ct (tail-known s f y (r .0)) in
+      psf2-file-sound (f .table) (f .count) c (f .height) (f .width) gs (tailOf s f) o vfont2-to-psf2-is sh refl gathered-length short (bytes-drop (f .end) s y) ts
+
   pub vfont2-to-psf2-keeps : Keeps s f (vfont2ToPsf2Bytes s f) Psf2
   vfont2-to-psf2-keeps =
       let r = vfont2-to-psf2-ready s f n ready in
@@ -319,7 +438,6 @@ module _ (s : List ℕ) (f : Font) (n : ℕ) (y : Bytes s) (ready : vfont2ToPsf2
       let short : length o ≤ limit = omega (arith, vfont2-to-psf2-length, r .2 .2) in
       let ct : codingOf (f .kind) ≡ Utf8 = ap codingOf (r .1) in
       let ts = subst (λ (c : Coding). Tail (f .table) c (f .count) (tailOf s f)) ct (tail-known s f y (r .0)) in
-      let td = psf2-tail (f .table) (f .count) c (f .height) (f .width) gs (tailOf s f) o vfont2-to-psf2-is sh refl gathered-length short in
       let f' = psf2Font (written (f .table) (f .count) c (f .height) (f .width)) in
       let a : ℕ → ℕ = λ g. 32 + g * c in
       let b : ℕ → ℕ = λ g. f .bitmaps + addressAt s (f .entries + g * 18) in
@@ -333,7 +451,7 @@ module _ (s : List ℕ) (f : Font) (n : ℕ) (y : Bytes s) (ready : vfont2ToPsf2
           ∙ ap (λ (z : ℕ). bitmapAt (f .bitmaps + addressAt s (f .entries + g * 18)) z (f .height) (f .width)) (its-size s f y (r .0) (r .1) (r .2 .0) g l) in
       record {
         font = f';
-        sound = psf2-file-sound (f .table) (f .count) c (f .height) (f .width) gs (tailOf s f) o vfont2-to-psf2-is sh refl gathered-length short (bytes-drop (f .end) s y) ts;
+        sound = vfont2-to-psf2-sound;
         kind = refl;
         count = refl;
         height = refl;
@@ -342,7 +460,7 @@ module _ (s : List ℕ) (f : Font) (n : ℕ) (y : Bytes s) (ready : vfont2ToPsf2
         glyphs = glyphs-kept o s f' f c (f .height) (f .width) a b refl refl (λ g l. located o f' g Psf2 refl l) ls moved;
         pixels = pixels-kept o s f' f c (f .height) (f .width) a b refl refl (λ g l. located o f' g Psf2 refl l) ls moved;
         metrics = λ g l. sym (ap (kindMetrics s f g) (r .1) ∙ even-metrics s (f .height) (f .width) (f .entries + g * 18) (omega (arith, sh .3)) (omega (arith, sh .5)) (its-fields s f y (r .0) (r .1) (r .2 .0) g l));
-        reading = λ ds q e. (subst (λ (c : Coding). Readable c ds) ct q, td ∙ subst (λ (c : Coding). tailOf s f ≡ encode c ds) ct e);
+        reading = λ ds q e. (subst (λ (c : Coding). Readable c ds) ct q, vfont2-to-psf2-tail ∙ subst (λ (c : Coding). tailOf s f ≡ encode c ds) ct e);
       }
     where
       zero-left : (x : ℕ) → 0 + x ≡ x
