@@ -274,7 +274,7 @@ module _ (s : List ℕ) (f : Font) (n : ℕ) (y : Bytes s) (ready : psf2ToVfont2
       entries-front, bitmaps-length s f (k .0) (p .7), length-drop (f .end) s, r .2 .0)
 
   module _ (g : ℕ) (l : g < f .count) where
-    flat : psf2ToVfont2Bytes s f ≡ header32 0x68A45B27 (f .table) (f .count) (f .count * f .size) (f .height) (f .width)
+    pub flat : psf2ToVfont2Bytes s f ≡ header32 0x68A45B27 (f .table) (f .count) (f .count * f .size) (f .height) (f .width)
         ++ (entriesFrom (f .size) (f .height) (f .width) 0 (f .count) ++ (bitmapsOf s f ++ tailOf s f))
     flat =
         let p = header32 0x68A45B27 (f .table) (f .count) (f .count * f .size) (f .height) (f .width) in

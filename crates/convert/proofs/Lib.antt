@@ -11,3 +11,4 @@ pub mod Tables
 pub mod Keeping
 pub mod Exactly
 pub mod Selves
+pub mod RoundTrips
