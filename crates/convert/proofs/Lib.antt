@@ -1,4 +1,6 @@
--- The laws of the conversions.
+-- The laws of the conversions; those to read first are in Meaning (what is written) and Exactly (what is refused).
+pub mod Meaning
+pub mod Exactly
 pub mod Cases
 pub mod Tails
 pub mod Stretches
@@ -9,6 +11,6 @@ pub mod Sounds
 pub mod Shapes
 pub mod Tables
 pub mod Keeping
-pub mod Exactly
 pub mod Selves
 pub mod RoundTrips
+pub mod Octets

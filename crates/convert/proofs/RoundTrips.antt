@@ -36,7 +36,7 @@ use Rattle.convert.proofs.Tables.{back-again}
 use Rattle.convert.proofs.Keeping.{bitmaps-length, glyph-moved, as-many, flat, entries-front, psf1-to-psf2-is, psf1-to-psf2-sound, psf1-to-psf2-tail, psf2-to-psf1-is, psf2-to-psf1-sound, psf2-to-psf1-tail, psf2-to-vfont2-is, psf2-to-vfont2-sound, psf2-to-vfont2-tail}
 use Rattle.convert.proofs.Selves.{psf2-self, psf1-self}
 
-one-font : (o : List ℕ) (a b : Font) → checkOf o ≡ Sound a → checkOf o ≡ Sound b → a ≡ b
+pub one-font : (o : List ℕ) (a b : Font) → checkOf o ≡ Sound a → checkOf o ≡ Sound b → a ≡ b
 one-font o a b p q = let e : Sound a ≡ Sound b = sym p ∙ q in cc
 
 -- the middle of three
