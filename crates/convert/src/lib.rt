@@ -169,12 +169,12 @@ pub fn vfont2_to_psf2(file: &[u8], out: &mut [u8]) -> Converted
 {
     let p = plan::vfont2_to_psf2(file);
     match p {
-        Plan::Ready(f, need) => {
-            if out.len() < need {
-                return Converted::Refused(Refusal::Room(need));
+        Plan::Ready(f, size) => {
+            if out.len() < size {
+                return Converted::Refused(Refusal::Room(size));
             }
             write_vfont2_to_psf2(file, f, out);
-            Converted::Wrote(need)
+            Converted::Wrote(size)
         }
         Plan::Stop(r) => Converted::Refused(r),
     }
