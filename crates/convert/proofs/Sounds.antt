@@ -85,7 +85,7 @@ module _ (n : ℕ) (t : Bool) (z : ℕ) (b tl o : List ℕ) (e : o ≡ header4 n
       let l = psf1-long n t z (b ++ tl) o psf1-flat in
       let m = mode-back n t two in
       sym (header-cases.named-as o (Is Psf1) (psf1-named n t z (b ++ tl) o psf1-flat) short)
-      ∙ sym (header-cases.psf1-read o n z (sym (ap psf1Count (f .1) ∙ m .0)) (sym (f .2)) t (sym (ap psf1Table (f .1) ∙ m .1))
+      ∙ sym (header-cases.psf1-read o n z (sym (ap psf1Count (f .1) ∙ m .0)) (sym (f .2)) t 4 (sym (ap psf1Table (f .1) ∙ m .1)) refl
       (((l, omega (arith, f .1, m .2)), (λ q. omega (arith, f .2))), psf1-whole))
 
   pub psf1-file-sound : Bytes tl → Tail t Ucs2 n tl → checkOf o ≡ Sound (psf1Font n z t)
