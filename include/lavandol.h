@@ -10,8 +10,10 @@
  * - A lent slice does not change during the call, and a buffer overlaps nothing else that the call is lent.
  * - The pointers are not kept: memory may be moved or freed after the call.
  *
- * The functions allocate nothing, have no global state and no locks, and call nothing, so they may run in an interrupt handler or in
- * several threads at once. Each is one or two passes over the file at most: each call checks the font first.
+ * The functions allocate nothing, have no global state and no locks, and call nothing: the archive needs no C library. So they may run
+ * in an interrupt handler or in several threads at once. They need at most about 600 bytes of stack (docs/BENCHMARK.md), whatever the
+ * font. Each call checks the font first, one pass over the header, the vfont2 entries and the Unicode table; a walk or a lookup is
+ * another pass over the Unicode table at most, a conversion two.
  *
  * Numbers in the files are little endian. Glyphs, rows, columns and items are counted from 0.
  */

@@ -71,11 +71,31 @@ fn damage(random: &mut Random, file: &mut Vec<u8>, tail: usize) {
     }
 }
 
+/// A PSF2 font that PSF1 could have, but for some of its values.
+fn random_narrow(random: &mut Random) -> Vec<u8> {
+    let n = random.of(&[256, 256, 512]);
+    let mut texts = vec![Text::default(); n];
+    for _ in 0..random.below(5) {
+        let g = random.of(&[0, 1, 254, 255, n - 2, n - 1, 77]);
+        texts[g] = random_text(random, false);
+        let most = random.of(&[0xFFFC, 0xFFFD, 0xFFFE, 0xFFFF, 0x10FFFF]);
+        let Text { singles, sequences } = &mut texts[g];
+        for v in singles.iter_mut().chain(sequences.iter_mut().flatten()) {
+            *v = (*v).min(most);
+        }
+    }
+    let with = random.below(4) != 0;
+    let width = random.of(&[8, 8, 8, 8, 7, 9]);
+    let bitmaps: Vec<u8> = (0..n * area(1, width)).map(|_| random.byte()).collect();
+    psf2(n, 1, width, &bitmaps, with.then_some(&table(&texts)[..]))
+}
+
 /// A random font, most of them small, about half of them damaged.
 pub fn random_font(random: &mut Random) -> Vec<u8> {
-    let mut file = match random.below(10) {
+    let mut file = match random.below(12) {
         0 => random_psf1(random),
-        1..=5 => random_psf2(random),
+        1 => random_narrow(random),
+        2..=6 => random_psf2(random),
         _ => random_vfont2(random),
     };
     let tail = match second::check(&file) {

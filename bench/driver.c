@@ -1,0 +1,84 @@
+/*
+ * Calls the library once for each figure of tools/bench, each from a function of its own whose instructions callgrind counts:
+ *   driver FONT       prints the value of the last glyph that is looked up, and the stack that each call used
+ *   driver FONT CALL OUT   converts by CALL (psf2_to_vfont2, ..) and writes the file OUT
+ */
+#include <lavandol.h>
+#include <stdio.h>
+#include <stdlib.h>
+#include <string.h>
+#include <ucontext.h>
+
+#define ROOM 1048576
+static uint8_t file[ROOM + 1], out[ROOM];
+static size_t length;
+static uint32_t last;
+static volatile size_t kept; /* so that no call is left out */
+
+#define FIGURE(name, call) __attribute__((noinline)) void bench_##name(void) { kept += (call); }
+FIGURE(check, lav_check(file, length).count)
+FIGURE(none, lav_find_value(file, length, 0x10FFF0).refusal)
+FIGURE(last, lav_find_value(file, length, last).number)
+FIGURE(psf1_to_psf2, lav_psf1_to_psf2(file, length, out, ROOM).number)
+FIGURE(psf2_to_psf1, lav_psf2_to_psf1(file, length, out, ROOM).number)
+FIGURE(psf2_to_vfont2, lav_psf2_to_vfont2(file, length, out, ROOM).number)
+FIGURE(vfont2_to_psf2, lav_vfont2_to_psf2(file, length, out, ROOM).number)
+FIGURE(glyph, lav_glyph(file, length, 0).length)
+FIGURE(row, lav_row(file, length, 0, 0).length)
+FIGURE(pixel, lav_pixel(file, length, 0, 0, 0).number)
+FIGURE(item, lav_item(file, length, 0, 0).value)
+FIGURE(sequence, lav_find_sequence(file, length, &last, 1).number)
+__attribute__((noinline)) void bench_copy(void) { memcpy(out, file, length); kept += out[length - 1]; }
+__attribute__((noinline)) void bench_empty(void) { kept += length; }
+
+static const struct { const char *name; void (*call)(void); } FIGURES[] = {
+    {"check", bench_check}, {"find_value, nothing found", bench_none}, {"find_value, last glyph", bench_last},
+    {"psf1_to_psf2", bench_psf1_to_psf2}, {"psf2_to_psf1", bench_psf2_to_psf1},
+    {"psf2_to_vfont2", bench_psf2_to_vfont2}, {"vfont2_to_psf2", bench_vfont2_to_psf2},
+    {"glyph", bench_glyph}, {"row", bench_row}, {"pixel", bench_pixel}, {"item", bench_item}, {"find_sequence", bench_sequence},
+};
+
+/* The stack that a call used, from a painted stack of its own. */
+static uint8_t stack[65536];
+static ucontext_t here, there;
+
+static size_t stack_of(void (*call)(void)) {
+    memset(stack, 0xA5, sizeof stack);
+    getcontext(&there);
+    there.uc_stack.ss_sp = stack;
+    there.uc_stack.ss_size = sizeof stack;
+    there.uc_link = &here;
+    makecontext(&there, call, 0);
+    swapcontext(&here, &there);
+    size_t untouched = 0;
+    while (untouched < sizeof stack && stack[untouched] == 0xA5) untouched++;
+    return sizeof stack - untouched;
+}
+
+int main(int argc, char **argv) {
+    FILE *in = argc > 1 ? fopen(argv[1], "rb") : NULL;
+    if (!in) return 2;
+    length = fread(file, 1, sizeof file, in);
+    fclose(in);
+    lav_font font = lav_check(file, length);
+    if (font.refusal) return 1;
+    last = lav_item(file, length, font.count - 1, 0).value;
+    if (argc == 4) {
+        for (size_t i = 3; i < 7; i++) {
+            if (strcmp(argv[2], FIGURES[i].name)) continue;
+            kept = 0;
+            FIGURES[i].call();
+            FILE *to = fopen(argv[3], "wb");
+            if (!kept || !to || fwrite(out, 1, kept, to) != kept || fclose(to)) return 1;
+        }
+        return 0;
+    }
+    printf("last %X\n", (unsigned)last);
+    bench_copy();
+    size_t base = stack_of(bench_empty);
+    for (size_t i = 0; i < sizeof FIGURES / sizeof *FIGURES; i++) {
+        size_t used = stack_of(FIGURES[i].call);
+        printf("stack %zu %s\n", used - base, FIGURES[i].name);
+    }
+    return 0;
+}
