@@ -3,3 +3,5 @@ pub mod Tests
 pub mod Chain
 pub mod Ranged
 pub mod Parts
+pub mod Over
+pub mod Numbers

@@ -1,0 +1,3 @@
+-- The laws of the listing; those to read first are in Meaning.
+pub mod Digits
+pub mod Putting

@@ -1,0 +1,2 @@
+-- The listing of a font.
+pub mod Text
