@@ -93,11 +93,7 @@ pub decimal-5 : (n : ℕ) → n < 100000 → length (decimal n) ≤ 5
 unfolding decimal
 decimal-5 n h = short 10 down10 4 n n (omega arith)
 
--- and at most 16 hexadecimal ones, one of 32 bits at most 8
-pub hexadecimal-16 : (v : ℕ) → v < 18446744073709551616 → length (hexadecimal v) ≤ 16
-unfolding hexadecimal
-hexadecimal-16 v h = short 16 down16 15 v v (omega arith)
-
+-- a value of 32 bits has at most 8
 pub hexadecimal-8 : (v : ℕ) → v < 4294967296 → length (hexadecimal v) ≤ 8
 unfolding hexadecimal
 hexadecimal-8 v h = short 16 down16 7 v v (omega arith)

@@ -1,3 +1,4 @@
 -- The laws of the listing; those to read first are in Meaning.
 pub mod Digits
 pub mod Putting
+pub mod Pieces

@@ -21,14 +21,14 @@ pub enum Listed {
 }
 
 // A digit up to F. Asks that it is one: each caller has divided.
-fn digit(d: usize) -> u8
+fn digit(d: u8) -> u8
     requires { ⌜ d < 16 ⌝ }
     ensures { λ r. ⌜ r ≡ digitOf d ⌝ }
 {
     if d < 10 {
-        return 48 + d as u8;
+        return 48 + d;
     }
-    55 + d as u8
+    55 + d
 }
 
 // How many digits a number has.
@@ -45,8 +45,8 @@ fn decimal_len(n: usize) -> usize
 }
 
 // How many digits a value has.
-fn hexadecimal_len(v: usize) -> usize
-    ensures { λ r. ⌜ (r ≡ length (hexadecimal v)) × (r ≤ 16) ⌝ }
+fn hexadecimal_len(v: u32) -> usize
+    ensures { λ r. ⌜ (r ≡ length (hexadecimal v)) × (r ≤ 8) ⌝ }
 {
     let mut k: usize = 1;
     let mut m = v;
@@ -63,24 +63,223 @@ fn put_decimal(n: usize, out: &mut [u8]) -> usize
     ensures { λ r. ⌜ (r ≡ length (decimal n)) × (now (out .exit) ≡ over (decimal n) (now (out .entry))) ⌝ }
 {
     if n < 10 {
-        out[0] = digit(n);
+        out[0] = digit(n as u8);
         return 1;
     }
     let l = put_decimal(n / 10, out);
-    out[l] = digit(n % 10);
+    out[l] = digit((n % 10) as u8);
     l + 1
 }
 
 // A value to the front, and how many bytes it is. Asks for room: the caller has measured.
-fn put_hexadecimal(v: usize, out: &mut [u8]) -> usize
+fn put_hexadecimal(v: u32, out: &mut [u8]) -> usize
     requires { ⌜ length (hexadecimal v) ≤ length (now out) ⌝ }
     ensures { λ r. ⌜ (r ≡ length (hexadecimal v)) × (now (out .exit) ≡ over (hexadecimal v) (now (out .entry))) ⌝ }
 {
     if v < 16 {
-        out[0] = digit(v);
+        out[0] = digit(v as u8);
         return 1;
     }
     let l = put_hexadecimal(v / 16, out);
-    out[l] = digit(v % 16);
+    out[l] = digit((v % 16) as u8);
     l + 1
+}
+
+// A text to the front, and how many bytes it is. Asks for room: the caller has measured.
+fn put_text(text: &[u8], out: &mut [u8]) -> usize
+    requires { ⌜ length (now text) ≤ length (now out) ⌝ }
+    ensures { λ r. ⌜ (r ≡ length (now (text .entry))) × (now (out .exit) ≡ over (now (text .entry)) (now (out .entry))) ⌝ }
+{
+    base::copy(text, out);
+    text.len()
+}
+
+// A number and the byte after it to the front, and how many bytes they are. Asks for room: the caller has measured.
+fn put_number(n: usize, after: u8, out: &mut [u8]) -> usize
+    requires { ⌜ length (numberText n after) ≤ length (now out) ⌝ }
+    ensures { λ r. ⌜ (r ≡ length (numberText n after)) × (now (out .exit) ≡ over (numberText n after) (now (out .entry))) ⌝ }
+{
+    let l = put_decimal(n, out);
+    out[l] = after;
+    l + 1
+}
+
+// The name of a kind and a blank. Asks for room: the caller has measured.
+fn put_kind(kind: Kind, out: &mut [u8]) -> usize
+    requires { ⌜ length (kindText kind) ≤ length (now out) ⌝ }
+    ensures { λ r. ⌜ (r ≡ length (kindText kind)) × (now (out .exit) ≡ over (kindText kind) (now (out .entry))) ⌝ }
+{
+    match kind {
+        Kind::Psf1 => put_text(b"psf1 ", out),
+        Kind::Psf2 => put_text(b"psf2 ", out),
+        Kind::Vfont2 => put_text(b"vfont2 ", out),
+    }
+}
+
+// `table` or `bare` and a newline. Asks for room: the caller has measured.
+fn put_word(table: bool, out: &mut [u8]) -> usize
+    requires { ⌜ length (tableWord table) ≤ length (now out) ⌝ }
+    ensures { λ r. ⌜ (r ≡ length (tableWord table)) × (now (out .exit) ≡ over (tableWord table) (now (out .entry))) ⌝ }
+{
+    if table {
+        return put_text(b"table\n", out);
+    }
+    put_text(b"bare\n", out)
+}
+
+// How many bytes an item's text is.
+fn item_len(i: Item) -> usize
+    ensures { λ r. ⌜ (r ≡ length (itemText i)) × (r ≤ 9) ⌝ }
+{
+    match i {
+        Item::Single(v) => 1 + hexadecimal_len(v),
+        Item::Start => 1,
+        Item::Value(v) => 1 + hexadecimal_len(v),
+        Item::End => 1,
+    }
+}
+
+// How many bytes an item's text is with the glyph's number in front, where it is fresh.
+fn piece_len(fresh: bool, g: usize, i: Item) -> usize
+    ensures { λ r. ⌜ (r ≡ length (pieceOf fresh g i)) × (g < 100000 → r ≤ 14) ⌝ }
+{
+    let l = item_len(i);
+    if fresh {
+        return decimal_len(g) + l;
+    }
+    l
+}
+
+// One byte to the front. Asks for room: the caller has measured.
+fn put_byte(b: u8, out: &mut [u8]) -> usize
+    requires { ⌜ length (b ∷ []) ≤ length (now out) ⌝ }
+    ensures { λ r. ⌜ (r ≡ length (b ∷ [])) × (now (out .exit) ≡ over (b ∷ []) (now (out .entry))) ⌝ }
+{
+    out[0] = b;
+    1
+}
+
+// A byte and a value behind it to the front, and how many bytes they are. Asks for room: the caller has measured.
+fn put_value(lead: u8, v: u32, out: &mut [u8]) -> usize
+    requires { ⌜ length (lead ∷ hexadecimal v) ≤ length (now out) ⌝ }
+    ensures { λ r. ⌜ (r ≡ length (lead ∷ hexadecimal v)) × (now (out .exit) ≡ over (lead ∷ hexadecimal v) (now (out .entry))) ⌝ }
+{
+    let a = put_byte(lead, out);
+    let l = put_hexadecimal(v, &mut out[a..]);
+    a + l
+}
+
+// An item's text to the front, and how many bytes it is. Asks for room: the caller has measured.
+fn put_item(i: Item, out: &mut [u8]) -> usize
+    requires { ⌜ length (itemText i) ≤ length (now out) ⌝ }
+    ensures { λ r. ⌜ (r ≡ length (itemText i)) × (now (out .exit) ≡ over (itemText i) (now (out .entry))) ⌝ }
+{
+    match i {
+        Item::Single(v) => put_value(32, v, out),
+        Item::Start => put_byte(32, out),
+        Item::Value(v) => put_value(43, v, out),
+        Item::End => put_byte(10, out),
+    }
+}
+
+// An item's text to the front, with the glyph's number in front of it where it is fresh. Asks for room: the caller has measured.
+fn put_piece(fresh: bool, g: usize, i: Item, out: &mut [u8]) -> usize
+    requires { ⌜ length (pieceOf fresh g i) ≤ length (now out) ⌝ }
+    ensures { λ r. ⌜ (r ≡ length (pieceOf fresh g i)) × (now (out .exit) ≡ over (pieceOf fresh g i) (now (out .entry))) ⌝ }
+{
+    if fresh {
+        let a = put_decimal(g, out);
+        let l = put_item(i, &mut out[a..]);
+        return a + l;
+    }
+    put_item(i, out)
+}
+
+// A value as an item: before the first start mark of its description it is a single.
+fn value_item(inside: bool, v: u32) -> Item
+    ensures { λ r. ⌜ r ≡ toldAs inside v ⌝ }
+{
+    if inside {
+        return Item::Value(v);
+    }
+    Item::Single(v)
+}
+
+// How many bytes the lines of a tail are: one pass. Asks for a tail no longer than a file that is listed, so that the sum can't wrap.
+fn table_len(c: Coding, tail: &[u8]) -> usize
+    requires { ⌜ length (now tail) ≤ 65536 ⌝ }
+    ensures { λ r. ⌜ (r ≡ length (tableText c (now (tail .entry)))) × (r ≤ 14 * length (now (tail .entry))) ⌝ }
+{
+    let mut g: usize = 0;
+    let mut fresh = true;
+    let mut inside = false;
+    let mut n: usize = 0;
+    let mut at: usize = 0;
+    while at < tail.len() {
+        let t = table::step_at(c, tail, at);
+        match t {
+            Step::Value(v, next) => {
+                n += piece_len(fresh, g, value_item(inside, v));
+                fresh = false;
+                at = next;
+            }
+            Step::Start(next) => {
+                n += piece_len(fresh, g, Item::Start);
+                fresh = false;
+                inside = true;
+                at = next;
+            }
+            Step::End(next) => {
+                n += piece_len(fresh, g, Item::End);
+                fresh = true;
+                inside = false;
+                g += 1;
+                at = next;
+            }
+            Step::Cut => return n,
+            Step::Bad(_) => return n,
+        }
+    }
+    n
+}
+
+// The lines of a tail to the front: one pass. Asks for room: `table_len` has measured.
+fn put_table(c: Coding, tail: &[u8], out: &mut [u8])
+    requires { ⌜ length (tableText c (now tail)) ≤ length (now out) ⌝ }
+    ensures { λ _. ⌜ now (out .exit) ≡ over (tableText c (now (tail .entry))) (now (out .entry)) ⌝ }
+{
+    let mut g: usize = 0;
+    let mut fresh = true;
+    let mut inside = false;
+    let mut n: usize = 0;
+    let mut at: usize = 0;
+    while at < tail.len() {
+        let t = table::step_at(c, tail, at);
+        match t {
+            Step::Value(v, next) => {
+                let i = value_item(inside, v);
+                let l = put_piece(fresh, g, i, &mut out[n..]);
+                n += l;
+                fresh = false;
+                at = next;
+            }
+            Step::Start(next) => {
+                let l = put_piece(fresh, g, Item::Start, &mut out[n..]);
+                n += l;
+                fresh = false;
+                inside = true;
+                at = next;
+            }
+            Step::End(next) => {
+                let l = put_piece(fresh, g, Item::End, &mut out[n..]);
+                n += l;
+                fresh = true;
+                inside = false;
+                g += 1;
+                at = next;
+            }
+            Step::Cut => return,
+            Step::Bad(_) => return,
+        }
+    }
 }

@@ -1,10 +1,9 @@
 -- `listing::put_decimal` meets its contract: the digits of the number divided, and one more. Assumes nothing.
-use Prim.Native.Nat.{_/_, _%_}
-use mathlib.Core.List.{List, [], _∷_, _++_}
--- `listing::put_decimal` meets its contract: the digits of the number divided, and one more. Assumes nothing.
 use borrow.Author.Needs.{needs}
 use native.Mathlib.Omega.{arith}
-use mathlib.Core.Path.{_≡_, sym, _∙_, ap, refl}
+use Prim.Native.Nat.{_/_}
+use mathlib.Core.List.{[], _∷_, _++_}
+use mathlib.Core.Path.{_≡_, sym, _∙_, ap}
 use lib.ListN.{length}
 use Rattle.base.proofs.Over.{length-over}
 use Rattle.listing.proofs.Putting.{put-one, put-more}
@@ -30,6 +29,14 @@ put-decimal-at t =
 abbrev put-decimal-below : ℕ → In 1 put-decimal-kinds.ps
 put-decimal-below t =
     and 1 put-decimal-kinds.ps (falls 1 put-decimal-kinds.ps _<_ μ-put-decimal t) put-decimal.Pre
+
+put-decimal-cast-digit : (t : ℕ) → put-decimal-lts.Need-cast-digit (
+  digit-reads.Asked,
+  digit-reads.Learnt,
+  put-decimal-below t,
+  put-decimal.Post,
+) (put-decimal-at t) put-decimal.Post
+put-decimal-cast-digit t c = search needs
 
 put-decimal-digit-requires : (t : ℕ) → put-decimal-lts.Need-digit-requires (
   digit-reads.Asked,
@@ -70,6 +77,14 @@ put-decimal-put-decimal-requires : (t : ℕ) → put-decimal-lts.Need-put-decima
   put-decimal.Post,
 ) (put-decimal-at t) put-decimal.Post
 put-decimal-put-decimal-requires t c κs = let z = decimal-length-more (c .before .before .before .args .n) (c .before .if1 .left) in (omega arith, omega arith)
+
+put-decimal-cast-digit-2 : (t : ℕ) → put-decimal-lts.Need-cast-digit-2 (
+  digit-reads.Asked,
+  digit-reads.Learnt,
+  put-decimal-below t,
+  put-decimal.Post,
+) (put-decimal-at t) put-decimal.Post
+put-decimal-cast-digit-2 t c = search needs
 
 put-decimal-digit-requires-2 : (t : ℕ) → put-decimal-lts.Need-digit-requires-2 (
   digit-reads.Asked,
@@ -120,11 +135,13 @@ pub +put-decimal-spec : {M : Type 1} → statement M
 )
     (put-decimal-at t)
     put-decimal.Post
+    (put-decimal-cast-digit t)
     (put-decimal-digit-requires t)
     (put-decimal-slice-write-out t)
     (put-decimal-same-length t)
     (put-decimal-returns t)
     (put-decimal-put-decimal-requires t)
+    (put-decimal-cast-digit-2 t)
     (put-decimal-digit-requires-2 t)
     (put-decimal-slice-write-out-2 t)
     (put-decimal-add-result t)

@@ -1,10 +1,9 @@
 -- `listing::put_hexadecimal` meets its contract: the digits of the number divided, and one more. Assumes nothing.
-use Prim.Native.Nat.{_/_, _%_}
-use mathlib.Core.List.{List, [], _∷_, _++_}
--- `listing::put_hexadecimal` meets its contract: the digits of the number divided, and one more. Assumes nothing.
 use borrow.Author.Needs.{needs}
 use native.Mathlib.Omega.{arith}
-use mathlib.Core.Path.{_≡_, sym, _∙_, ap, refl}
+use Prim.Native.Nat.{_/_}
+use mathlib.Core.List.{[], _∷_, _++_}
+use mathlib.Core.Path.{_≡_, sym, _∙_, ap}
 use lib.ListN.{length}
 use Rattle.base.proofs.Over.{length-over}
 use Rattle.listing.proofs.Putting.{put-one, put-more}
@@ -38,6 +37,14 @@ put-hexadecimal-below t =
     put-hexadecimal-kinds.ps
     (falls 1 put-hexadecimal-kinds.ps _<_ μ-put-hexadecimal t)
     put-hexadecimal.Pre
+
+put-hexadecimal-cast-digit : (t : ℕ) → put-hexadecimal-lts.Need-cast-digit (
+  digit-reads.Asked,
+  digit-reads.Learnt,
+  put-hexadecimal-below t,
+  put-hexadecimal.Post,
+) (put-hexadecimal-at t) put-hexadecimal.Post
+put-hexadecimal-cast-digit t c = search needs
 
 put-hexadecimal-digit-requires : (t : ℕ) → put-hexadecimal-lts.Need-digit-requires (
   digit-reads.Asked,
@@ -79,6 +86,14 @@ put-hexadecimal-put-hexadecimal-requires :
       put-hexadecimal.Post,
     ) (put-hexadecimal-at t) put-hexadecimal.Post
 put-hexadecimal-put-hexadecimal-requires t c κs = let z = hexadecimal-length-more (c .before .before .before .args .v) (c .before .if1 .left) in (omega arith, omega arith)
+
+put-hexadecimal-cast-digit-2 : (t : ℕ) → put-hexadecimal-lts.Need-cast-digit-2 (
+  digit-reads.Asked,
+  digit-reads.Learnt,
+  put-hexadecimal-below t,
+  put-hexadecimal.Post,
+) (put-hexadecimal-at t) put-hexadecimal.Post
+put-hexadecimal-cast-digit-2 t c = search needs
 
 put-hexadecimal-digit-requires-2 : (t : ℕ) → put-hexadecimal-lts.Need-digit-requires-2 (
   digit-reads.Asked,
@@ -129,11 +144,13 @@ pub +put-hexadecimal-spec : {M : Type 1} → statement M
 )
     (put-hexadecimal-at t)
     put-hexadecimal.Post
+    (put-hexadecimal-cast-digit t)
     (put-hexadecimal-digit-requires t)
     (put-hexadecimal-slice-write-out t)
     (put-hexadecimal-same-length t)
     (put-hexadecimal-returns t)
     (put-hexadecimal-put-hexadecimal-requires t)
+    (put-hexadecimal-cast-digit-2 t)
     (put-hexadecimal-digit-requires-2 t)
     (put-hexadecimal-slice-write-out-2 t)
     (put-hexadecimal-add-result t)

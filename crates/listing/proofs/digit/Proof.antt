@@ -9,18 +9,12 @@ use Rattle.listing.proofs.digit.Tie as tie
 use Rattle.listing.proofs.digit.Reads as reads
 use Rattle.listing.proofs.digit.Lts as lts
 
-cast-result : tie.Need-cast-result
-cast-result c = search needs
-
 add-result : tie.Need-add-result
 add-result c = search needs
 
 returns : tie.Need-returns
 unfolding digitOf
 returns c = rw (lt-ltb _ _ (c .if1 .taken))
-
-cast-result-2 : tie.Need-cast-result-2
-cast-result-2 c = search needs
 
 add-result-2 : tie.Need-add-result-2
 add-result-2 c = search needs
@@ -30,5 +24,4 @@ unfolding digitOf
 returns-2 c = rw (le-ltb _ _ (c .if1 .left))
 
 pub digit-spec : {M : Type 1} → statement M
-digit-spec =
-    tie.close (tie.spec cast-result add-result returns cast-result-2 add-result-2 returns-2)
+digit-spec = tie.close (tie.spec add-result returns add-result-2 returns-2)

@@ -4,7 +4,7 @@ use native.Mathlib.Omega.{arith}
 use mathlib.Core.Path.{_≡_}
 use Prim.Native.Nat.{_+_, _≤_}
 use lib.ListN.{length}
-use Rattle.listing.proofs.Digits.{hexadecimal-16, hexadecimal-length-one, hexadecimal-length-more}
+use Rattle.listing.proofs.Digits.{hexadecimal-8, hexadecimal-length-one, hexadecimal-length-more}
 use Rattle.listing.specs.Text.{hexadecimal}
 use Rattle.listing.proofs.hexadecimal_len.Statement.{statement}
 use Rattle.listing.proofs.hexadecimal_len.Tie as tie
@@ -12,13 +12,13 @@ use Rattle.listing.proofs.hexadecimal_len.Reads as reads
 use Rattle.listing.proofs.hexadecimal_len.Lts as lts
 
 abbrev Inv-loop : tie.InvT-loop
-Inv-loop v k₀ m₀ k m = (k + length (hexadecimal m) ≡ length (hexadecimal v) + 1) × (length (hexadecimal v) ≤ 16)
+Inv-loop v k₀ m₀ k m = (k + length (hexadecimal m) ≡ length (hexadecimal v) + 1) × (length (hexadecimal v) ≤ 8)
 
 abbrev μ-loop : tie.MeasureT-loop
 μ-loop v k₀ m₀ k m = m
 
 loop-holds : tie.Need-loop-holds Inv-loop μ-loop
-loop-holds c = (omega arith, hexadecimal-16 (c .args .v) (omega arith))
+loop-holds c = (omega arith, hexadecimal-8 (c .args .v) (omega arith))
 
 add-k : tie.Need-add-k Inv-loop μ-loop
 add-k c = search needs

@@ -1,0 +1,83 @@
+-- The pieces of the listing: a number and the byte after it, an item with or without its glyph's number, and the lines by the first step.
+use mathlib.Core.Path.{_≡_, refl, sym, _∙_, ap}
+use mathlib.Core.Bool.{Bool, true, false}
+use mathlib.Core.List.{List, [], _∷_, _++_}
+use Prim.Native.Nat.{ℕ, _+_, _-_, _≤_, _<_}
+use native.Mathlib.Omega.{arith}
+use lib.ListN.{length, length-append}
+use Rattle.table.specs.declared.Item.{Item}
+use Rattle.table.specs.declared.Item.the-variants.{Start, End}
+use Rattle.table.specs.declared.Step.{Step}
+use Rattle.table.specs.declared.Step.the-variants.{Value as StepValue, Start as StepStart, End as StepEnd, Cut as StepCut, Bad as StepBad}
+use Rattle.table.specs.Steps.{toldAs, told, stepsAt}
+use Rattle.table.proofs.Telling.{told-value, told-start, told-end, told-cut, told-bad, told-past}
+use Rattle.coding.specs.declared.Coding.{Coding}
+use Rattle.listing.specs.Text.{decimal, numberText, itemText, pieceOf, linesOf, tableText}
+
+pub number-text : (n b : ℕ) → numberText n b ≡ decimal n ++ (b ∷ [])
+unfolding numberText
+number-text n b = refl
+
+pub number-length : (n b : ℕ) → length (numberText n b) ≡ length (decimal n) + 1
+number-length n b = ap length (number-text n b) ∙ length-append (decimal n) (b ∷ [])
+
+module _ (fresh : Bool) (g : ℕ) (i : Item) where
+  pub piece-fresh : fresh ≡ true → pieceOf fresh g i ≡ decimal g ++ itemText i
+  unfolding pieceOf
+  piece-fresh e = rw e
+
+  pub piece-fresh-length : fresh ≡ true → length (pieceOf fresh g i) ≡ length (decimal g) + length (itemText i)
+  piece-fresh-length e = ap length (piece-fresh e) ∙ length-append (decimal g) (itemText i)
+
+  pub piece-plain : fresh ≡ false → pieceOf fresh g i ≡ itemText i
+  unfolding pieceOf
+  piece-plain e = rw e
+
+-- the lines, by the first item
+lines-value : (g : ℕ) (fresh inside : Bool) (v : ℕ) (is : List Item) → linesOf g fresh (toldAs inside v ∷ is) ≡ pieceOf fresh g (toldAs inside v) ++ linesOf g false is
+unfolding linesOf toldAs
+lines-value g fresh true v is = refl
+lines-value g fresh false v is = refl
+
+lines-start : (g : ℕ) (fresh : Bool) (is : List Item) → linesOf g fresh (Start ∷ is) ≡ pieceOf fresh g Start ++ linesOf g false is
+unfolding linesOf
+lines-start g fresh is = refl
+
+lines-end : (g : ℕ) (fresh : Bool) (is : List Item) → linesOf g fresh (End ∷ is) ≡ pieceOf fresh g End ++ linesOf (g + 1) true is
+unfolding linesOf
+lines-end g fresh is = refl
+
+lines-none : (g : ℕ) (fresh : Bool) → linesOf g fresh [] ≡ []
+unfolding linesOf
+lines-none g fresh = refl
+
+-- and by the first step
+module _ (g : ℕ) (fresh inside : Bool) (xs ys : List Step) where
+  pub on-value : (v next : ℕ) → xs ≡ StepValue v next ∷ ys → linesOf g fresh (told inside xs) ≡ pieceOf fresh g (toldAs inside v) ++ linesOf g false (told inside ys)
+  on-value v next e = ap (linesOf g fresh) (told-value inside xs ys v next e) ∙ lines-value g fresh inside v (told inside ys)
+
+  pub on-start : (next : ℕ) → xs ≡ StepStart next ∷ ys → linesOf g fresh (told inside xs) ≡ pieceOf fresh g Start ++ linesOf g false (told true ys)
+  on-start next e = ap (linesOf g fresh) (told-start inside xs ys next e) ∙ lines-start g fresh (told true ys)
+
+  pub on-end : (next : ℕ) → xs ≡ StepEnd next ∷ ys → linesOf g fresh (told inside xs) ≡ pieceOf fresh g End ++ linesOf (g + 1) true (told false ys)
+  on-end next e = ap (linesOf g fresh) (told-end inside xs ys next e) ∙ lines-end g fresh (told false ys)
+
+  pub on-cut : xs ≡ StepCut ∷ ys → linesOf g fresh (told inside xs) ≡ []
+  on-cut e = ap (linesOf g fresh) (told-cut inside xs ys e) ∙ lines-none g fresh
+
+  pub on-bad : (k : ℕ) → xs ≡ StepBad k ∷ ys → linesOf g fresh (told inside xs) ≡ []
+  on-bad k e = ap (linesOf g fresh) (told-bad inside xs ys k e) ∙ lines-none g fresh
+
+pub on-past : (g : ℕ) (fresh inside : Bool) (c : Coding) (s : List ℕ) (at : ℕ) → length s ≤ at → linesOf g fresh (told inside (stepsAt c s at)) ≡ []
+on-past g fresh inside c s at h = ap (linesOf g fresh) (told-past c s inside at h) ∙ lines-none g fresh
+
+pub on-all : (c : Coding) (s : List ℕ) → tableText c s ≡ linesOf 0 true (told false (stepsAt c s 0))
+unfolding tableText
+on-all c s = refl
+
+-- how long the lines are, where a piece of so many bytes stands in front
+pub length-turn : (z x y : List ℕ) (n l m : ℕ) → z ≡ x ++ y → l ≡ length x → n + length z ≡ m → n + l + length y ≡ m
+length-turn z x y n l m e q h = omega (arith, ap length e, length-append x y)
+
+pub length-none : (z : List ℕ) (n m : ℕ) → z ≡ [] → n + length z ≡ m → n ≡ m
+length-none z n m e h = omega (arith, ap length e)
