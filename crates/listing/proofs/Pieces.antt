@@ -12,6 +12,9 @@ use Rattle.table.specs.declared.Step.the-variants.{Value as StepValue, Start as
 use Rattle.table.specs.Steps.{toldAs, told, stepsAt}
 use Rattle.table.proofs.Telling.{told-value, told-start, told-end, told-cut, told-bad, told-past}
 use Rattle.coding.specs.declared.Coding.{Coding}
+use borrow.Rule.Slice.PartMut.{midOf, putMid}
+use Rattle.base.specs.Over.{over}
+use Rattle.listing.proofs.Putting.{Written, written-within, written-room, written-next}
 use Rattle.listing.specs.Text.{decimal, numberText, itemText, pieceOf, linesOf, tableText}
 
 pub number-text : (n b : ℕ) → numberText n b ≡ decimal n ++ (b ∷ [])
@@ -53,13 +56,13 @@ lines-none g fresh = refl
 
 -- and by the first step
 module _ (g : ℕ) (fresh inside : Bool) (xs ys : List Step) where
-  pub on-value : (v next : ℕ) → xs ≡ StepValue v next ∷ ys → linesOf g fresh (told inside xs) ≡ pieceOf fresh g (toldAs inside v) ++ linesOf g false (told inside ys)
+  on-value : (v next : ℕ) → xs ≡ StepValue v next ∷ ys → linesOf g fresh (told inside xs) ≡ pieceOf fresh g (toldAs inside v) ++ linesOf g false (told inside ys)
   on-value v next e = ap (linesOf g fresh) (told-value inside xs ys v next e) ∙ lines-value g fresh inside v (told inside ys)
 
-  pub on-start : (next : ℕ) → xs ≡ StepStart next ∷ ys → linesOf g fresh (told inside xs) ≡ pieceOf fresh g Start ++ linesOf g false (told true ys)
+  on-start : (next : ℕ) → xs ≡ StepStart next ∷ ys → linesOf g fresh (told inside xs) ≡ pieceOf fresh g Start ++ linesOf g false (told true ys)
   on-start next e = ap (linesOf g fresh) (told-start inside xs ys next e) ∙ lines-start g fresh (told true ys)
 
-  pub on-end : (next : ℕ) → xs ≡ StepEnd next ∷ ys → linesOf g fresh (told inside xs) ≡ pieceOf fresh g End ++ linesOf (g + 1) true (told false ys)
+  on-end : (next : ℕ) → xs ≡ StepEnd next ∷ ys → linesOf g fresh (told inside xs) ≡ pieceOf fresh g End ++ linesOf (g + 1) true (told false ys)
   on-end next e = ap (linesOf g fresh) (told-end inside xs ys next e) ∙ lines-end g fresh (told false ys)
 
   pub on-cut : xs ≡ StepCut ∷ ys → linesOf g fresh (told inside xs) ≡ []
@@ -75,9 +78,63 @@ pub on-all : (c : Coding) (s : List ℕ) → tableText c s ≡ linesOf 0 true (t
 unfolding tableText
 on-all c s = refl
 
--- how long the lines are, where a piece of so many bytes stands in front
-pub length-turn : (z x y : List ℕ) (n l m : ℕ) → z ≡ x ++ y → l ≡ length x → n + length z ≡ m → n + l + length y ≡ m
+length-turn : (z x y : List ℕ) (n l m : ℕ) → z ≡ x ++ y → l ≡ length x → n + length z ≡ m → n + l + length y ≡ m
 length-turn z x y n l m e q h = omega (arith, ap length e, length-append x y)
 
 pub length-none : (z : List ℕ) (n m : ℕ) → z ≡ [] → n + length z ≡ m → n ≡ m
 length-none z n m e h = omega (arith, ap length e)
+
+-- one turn of the loops, by the step: n bytes are counted or written, and the lines of the steps xs are left
+module _ (g : ℕ) (fresh inside : Bool) (xs ys : List Step) (n : ℕ) (i : Item) (u : ℕ) (next : ℕ) (e : xs ≡ StepValue u next ∷ ys) (q : i ≡ toldAs inside u) where
+  value-lines : linesOf g fresh (told inside xs) ≡ pieceOf fresh g i ++ linesOf g false (told inside ys)
+  value-lines = on-value g fresh inside xs ys u next e ∙ ap (λ (j : Item). pieceOf fresh g j ++ linesOf g false (told inside ys)) (sym q)
+
+  pub value-length : (l m : ℕ) → l ≡ length (pieceOf fresh g i) → n + length (linesOf g fresh (told inside xs)) ≡ m → n + l + length (linesOf g false (told inside ys)) ≡ m
+  value-length l m = length-turn (linesOf g fresh (told inside xs)) (pieceOf fresh g i) (linesOf g false (told inside ys)) n l m value-lines
+
+  module _ (w o v : List ℕ) (s : Written w o v n (linesOf g fresh (told inside xs))) where
+    pub value-within : n + length (pieceOf fresh g i) ≤ length w
+    value-within = written-within w o v n (linesOf g fresh (told inside xs)) s (pieceOf fresh g i) (linesOf g false (told inside ys)) value-lines
+
+    pub value-room : length (pieceOf fresh g i) ≤ length (midOf n (length v - n) v)
+    value-room = written-room w o v n (linesOf g fresh (told inside xs)) s (pieceOf fresh g i) (linesOf g false (told inside ys)) value-lines
+
+    pub value-next : (zs : List ℕ) (l : ℕ) → (l ≡ length (pieceOf fresh g i)) × (zs ≡ over (pieceOf fresh g i) (midOf n (length v - n) v)) →
+        Written w o (putMid n (length v - n) v zs) (n + l) (linesOf g false (told inside ys))
+    value-next = written-next w o v n (linesOf g fresh (told inside xs)) s (pieceOf fresh g i) (linesOf g false (told inside ys)) value-lines
+
+module _ (g : ℕ) (fresh inside : Bool) (xs ys : List Step) (n : ℕ) (next : ℕ) (e : xs ≡ StepStart next ∷ ys) where
+  start-lines : linesOf g fresh (told inside xs) ≡ pieceOf fresh g Start ++ linesOf g false (told true ys)
+  start-lines = on-start g fresh inside xs ys next e
+
+  pub start-length : (l m : ℕ) → l ≡ length (pieceOf fresh g Start) → n + length (linesOf g fresh (told inside xs)) ≡ m → n + l + length (linesOf g false (told true ys)) ≡ m
+  start-length l m = length-turn (linesOf g fresh (told inside xs)) (pieceOf fresh g Start) (linesOf g false (told true ys)) n l m start-lines
+
+  module _ (w o v : List ℕ) (s : Written w o v n (linesOf g fresh (told inside xs))) where
+    pub start-within : n + length (pieceOf fresh g Start) ≤ length w
+    start-within = written-within w o v n (linesOf g fresh (told inside xs)) s (pieceOf fresh g Start) (linesOf g false (told true ys)) start-lines
+
+    pub start-room : length (pieceOf fresh g Start) ≤ length (midOf n (length v - n) v)
+    start-room = written-room w o v n (linesOf g fresh (told inside xs)) s (pieceOf fresh g Start) (linesOf g false (told true ys)) start-lines
+
+    pub start-next : (zs : List ℕ) (l : ℕ) → (l ≡ length (pieceOf fresh g Start)) × (zs ≡ over (pieceOf fresh g Start) (midOf n (length v - n) v)) →
+        Written w o (putMid n (length v - n) v zs) (n + l) (linesOf g false (told true ys))
+    start-next = written-next w o v n (linesOf g fresh (told inside xs)) s (pieceOf fresh g Start) (linesOf g false (told true ys)) start-lines
+
+module _ (g : ℕ) (fresh inside : Bool) (xs ys : List Step) (n : ℕ) (next : ℕ) (e : xs ≡ StepEnd next ∷ ys) where
+  end-lines : linesOf g fresh (told inside xs) ≡ pieceOf fresh g End ++ linesOf (g + 1) true (told false ys)
+  end-lines = on-end g fresh inside xs ys next e
+
+  pub end-length : (l m : ℕ) → l ≡ length (pieceOf fresh g End) → n + length (linesOf g fresh (told inside xs)) ≡ m → n + l + length (linesOf (g + 1) true (told false ys)) ≡ m
+  end-length l m = length-turn (linesOf g fresh (told inside xs)) (pieceOf fresh g End) (linesOf (g + 1) true (told false ys)) n l m end-lines
+
+  module _ (w o v : List ℕ) (s : Written w o v n (linesOf g fresh (told inside xs))) where
+    pub end-within : n + length (pieceOf fresh g End) ≤ length w
+    end-within = written-within w o v n (linesOf g fresh (told inside xs)) s (pieceOf fresh g End) (linesOf (g + 1) true (told false ys)) end-lines
+
+    pub end-room : length (pieceOf fresh g End) ≤ length (midOf n (length v - n) v)
+    end-room = written-room w o v n (linesOf g fresh (told inside xs)) s (pieceOf fresh g End) (linesOf (g + 1) true (told false ys)) end-lines
+
+    pub end-next : (zs : List ℕ) (l : ℕ) → (l ≡ length (pieceOf fresh g End)) × (zs ≡ over (pieceOf fresh g End) (midOf n (length v - n) v)) →
+        Written w o (putMid n (length v - n) v zs) (n + l) (linesOf (g + 1) true (told false ys))
+    end-next = written-next w o v n (linesOf g fresh (told inside xs)) s (pieceOf fresh g End) (linesOf (g + 1) true (told false ys)) end-lines

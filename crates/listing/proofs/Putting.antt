@@ -42,27 +42,33 @@ module _ (p q xs w : List ℕ) (a : ℕ) (s : Stands p xs w a) (h : length p + l
       (omega (arith, s .0, e .0, length-append p q), ap length o ∙ length-over (p ++ q) xs (omega (arith, length-append p q)), o)
 
 -- a text w, written part by part over xs: its first n bytes stand in v, and y is left
-abbrev pub Written : List ℕ → List ℕ → List ℕ → ℕ → List ℕ → Type 0
-Written w xs v n y = (n ≤ length w) × (length w ≤ length xs) × (length v ≡ length xs) × (v ≡ over (take n w) xs) × (drop n w ≡ y)
+pub record Written (w xs v : List ℕ) (n : ℕ) (y : List ℕ) : Type 0 where
+  pub within : n ≤ length w
+  pub room : length w ≤ length xs
+  pub same : length v ≡ length xs
+  pub stands : v ≡ over (take n w) xs
+  pub left : drop n w ≡ y
 
-pub written-none : (w xs : List ℕ) → length w ≤ length xs → Written w xs xs 0 w
-written-none w xs h = (omega arith, h, refl, over-none xs, refl)
+pub written-none : (w xs y : List ℕ) → length w ≤ length xs → w ≡ y → Written w xs xs 0 y
+written-none w xs y h e = record { within = omega arith; room = h; same = refl; stands = over-none xs; left = e }
 
 module _ (w xs v : List ℕ) (n : ℕ) (z : List ℕ) (s : Written w xs v n z) (x y : List ℕ) (e : z ≡ x ++ y) where
   pub written-within : n + length x ≤ length w
-  written-within = turn-room w x y n (s .0) (s .4 ∙ e)
+  written-within = turn-room w x y n (s .within) (s .left ∙ e)
 
   pub written-room : length x ≤ length (midOf n (length v - n) v)
-  written-room = omega (arith, written-within, s .1, s .2, length-rest v n)
+  written-room = omega (arith, written-within, s .room, s .same, length-rest v n)
 
   pub written-next : (ys : List ℕ) (l : ℕ) → (l ≡ length x) × (ys ≡ over x (midOf n (length v - n) v)) → Written w xs (putMid n (length v - n) v ys) (n + l) y
-  written-next ys l o = (
-      turn-within w x y xs v ys n l (s .0) (s .4 ∙ e) (o .0),
-      s .1,
-      turn-length w x y xs v ys n l (s .0) (s .4 ∙ e) (o .0) (s .1) (s .3) (o .1),
-      turn-over w x y xs v ys n l (s .0) (s .4 ∙ e) (o .0) (s .3) (o .1),
-      turn-left w x y xs v ys n l (s .0) (s .4 ∙ e) (o .0),
-    )
+  written-next ys l o =
+      let d = s .left ∙ e in
+      record {
+        within = turn-within w x y xs v ys n l (s .within) d (o .0);
+        room = s .room;
+        same = turn-length w x y xs v ys n l (s .within) d (o .0) (s .room) (s .stands) (o .1);
+        stands = turn-over w x y xs v ys n l (s .within) d (o .0) (s .stands) (o .1);
+        left = turn-left w x y xs v ys n l (s .within) d (o .0);
+      }
 
 pub written-all : (w xs v : List ℕ) (n : ℕ) (z : List ℕ) → Written w xs v n z → z ≡ [] → v ≡ over w xs
-written-all w xs v n z s e = all-over w xs v n (s .4 ∙ e) (s .3)
+written-all w xs v n z s e = all-over w xs v n (s .left ∙ e) (s .stands)

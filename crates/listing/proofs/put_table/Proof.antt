@@ -1,3 +1,19 @@
+-- `listing::put_table` meets its contract:  Assumes nothing.
+use Rattle.listing.proofs.Putting.{Written, written-none, written-all}
+use Rattle.listing.proofs.Pieces.{value-within, value-room, value-next, start-within, start-room, start-next, end-within, end-room, end-next, on-cut, on-bad, on-past, on-all}
+-- `listing::put_table` meets its contract: at each turn the lines written so far stand in front, and those from the place on are left. Assumes nothing.
+use borrow.Author.Needs.{needs}
+use native.Mathlib.Omega.{arith}
+use mathlib.Core.Path.{_≡_, sym, _∙_, ap}
+use mathlib.Core.List.{List, _++_}
+use mathlib.Core.Bool.{true, false}
+use Prim.Native.Nat.{_+_, _-_, _*_, _≤_}
+use lib.ListN.{length}
+use Rattle.listing.specs.Text.{pieceOf, linesOf, tableText}
+use Rattle.table.specs.Steps.{stepsAt, told, toldAs}
+use Rattle.table.specs.declared.Item.the-variants.{Start, End}
+use Rattle.table.specs.declared.Item.{Item}
+use Rattle.base.specs.Over.{over}
 use Rattle.listing.proofs.put_table.Statement.{statement}
 use Rattle.listing.proofs.put_table.Tie as tie
 use Rattle.listing.proofs.put_table.Reads as reads
@@ -7,154 +23,118 @@ use Rattle.listing.proofs.value_item.Reads as value-item-reads
 use Rattle.table.proofs.step_at.Reads as step-at-reads
 
 abbrev Inv-loop : tie.InvT-loop
-Inv-loop c tail out₀ g₀ fresh₀ inside₀ n₀ at₀ out g fresh inside n at = ?
+Inv-loop c tail out₀ g₀ fresh₀ inside₀ n₀ at₀ out g fresh inside n at = (at ≤ length tail) × (g ≤ at) × Written (tableText c tail) out₀ out n (linesOf g fresh (told inside (stepsAt c tail at)))
 
 abbrev μ-loop : tie.MeasureT-loop
-μ-loop c tail out₀ g₀ fresh₀ inside₀ n₀ at₀ out g fresh inside n at = ?
+μ-loop c tail out₀ g₀ fresh₀ inside₀ n₀ at₀ out g fresh inside n at = length tail - at
 
--- src/lib.rt:256:5
 loop-holds : tie.Need-loop-holds Inv-loop μ-loop
-loop-holds c = ?
+loop-holds c = (omega arith, omega arith, written-none _ _ _ (c .before .before .pre) (on-all _ _))
 
--- src/lib.rt:257:13
 step-at-requires : tie.Need-step-at-requires Inv-loop μ-loop
-step-at-requires c κs = ?
+step-at-requires c κs = search needs
 
--- src/lib.rt:259:25
 enum-known-t : tie.Need-enum-known-t Inv-loop μ-loop
-enum-known-t c = ?
+enum-known-t c = search needs
 
--- src/lib.rt:260:21
 value-item-requires : tie.Need-value-item-requires Inv-loop μ-loop
-value-item-requires c κs = ?
+value-item-requires c κs = search needs
 
--- src/lib.rt:261:48
 sub-put-piece : tie.Need-sub-put-piece Inv-loop μ-loop
-sub-put-piece c = ?
+sub-put-piece c = search needs
 
--- src/lib.rt:261:48
 part-put-piece-start : tie.Need-part-put-piece-start Inv-loop μ-loop
-part-put-piece-start c = ?
+part-put-piece-start c = search needs
 
--- src/lib.rt:261:48
 part-put-piece-end : tie.Need-part-put-piece-end Inv-loop μ-loop
-part-put-piece-end c = ?
+part-put-piece-end c = search needs
 
--- src/lib.rt:261:21
 put-piece-requires : tie.Need-put-piece-requires Inv-loop μ-loop
-put-piece-requires c κs = ?
+put-piece-requires c κs = let w = rw (c .before .before .before .t .given .1) at (c .before .before .before .before .before .step-at .ensures .1) in value-room _ _ _ _ _ _ _ _ _ (w .2) (c .before .value-item .ensures) _ _ _ (c .before .before .before .before .before .before .before .loop .inv .2)
 
--- src/lib.rt:262:17
 add-n : tie.Need-add-n Inv-loop μ-loop
-add-n c = ?
+add-n c = let w = rw (c .before .before .before .before .before .before .t .given .1) at (c .before .before .before .before .before .before .before .before .step-at .ensures .1) in let k = value-within _ _ _ _ _ _ _ _ _ (w .2) (c .before .before .before .before .value-item .ensures) _ _ _ (c .before .before .before .before .before .before .before .before .before .before .loop .inv .2) in omega (arith, k, c .before .before .put-piece .ensures .0)
 
--- src/lib.rt:256:5
 loop-less : tie.Need-loop-less Inv-loop μ-loop
-loop-less c = ?
+loop-less c = let w = rw (c .before .before .before .before .before .before .t .given .1) at (c .before .before .before .before .before .before .before .before .step-at .ensures .1) in omega (arith, w .0, w .1)
 
--- src/lib.rt:256:5
 loop-again : tie.Need-loop-again Inv-loop μ-loop
-loop-again c = ?
+loop-again c = let w = rw (c .before .before .before .before .before .before .t .given .1) at (c .before .before .before .before .before .before .before .before .step-at .ensures .1) in (w .1, omega (arith, w .0), value-next _ _ _ _ _ _ _ _ _ (w .2) (c .before .before .before .before .value-item .ensures) _ _ _ (c .before .before .before .before .before .before .before .before .before .before .loop .inv .2) _ _ (c .before .before .put-piece .ensures))
 
--- src/lib.rt:266:25
 enum-known-t-2 : tie.Need-enum-known-t-2 Inv-loop μ-loop
-enum-known-t-2 c = ?
+enum-known-t-2 c = search needs
 
--- src/lib.rt:267:58
 sub-put-piece-2 : tie.Need-sub-put-piece-2 Inv-loop μ-loop
-sub-put-piece-2 c = ?
+sub-put-piece-2 c = search needs
 
--- src/lib.rt:267:58
 part-put-piece-start-2 : tie.Need-part-put-piece-start-2 Inv-loop μ-loop
-part-put-piece-start-2 c = ?
+part-put-piece-start-2 c = search needs
 
--- src/lib.rt:267:58
 part-put-piece-end-2 : tie.Need-part-put-piece-end-2 Inv-loop μ-loop
-part-put-piece-end-2 c = ?
+part-put-piece-end-2 c = search needs
 
--- src/lib.rt:267:21
 put-piece-requires-2 : tie.Need-put-piece-requires-2 Inv-loop μ-loop
-put-piece-requires-2 c κs = ?
+put-piece-requires-2 c κs = let w = rw (c .before .before .t2 .given .1) at (c .before .before .before .before .step-at .ensures .1) in start-room _ _ _ _ _ _ _ (w .2) _ _ _ (c .before .before .before .before .before .before .loop .inv .2)
 
--- src/lib.rt:268:17
 add-n-2 : tie.Need-add-n-2 Inv-loop μ-loop
-add-n-2 c = ?
+add-n-2 c = let w = rw (c .before .before .before .before .before .t2 .given .1) at (c .before .before .before .before .before .before .before .step-at .ensures .1) in let k = start-within _ _ _ _ _ _ _ (w .2) _ _ _ (c .before .before .before .before .before .before .before .before .before .loop .inv .2) in omega (arith, k, c .before .before .put-piece2 .ensures .0)
 
--- src/lib.rt:256:5
 loop-less-2 : tie.Need-loop-less-2 Inv-loop μ-loop
-loop-less-2 c = ?
+loop-less-2 c = let w = rw (c .before .before .before .before .before .t2 .given .1) at (c .before .before .before .before .before .before .before .step-at .ensures .1) in omega (arith, w .0, w .1)
 
--- src/lib.rt:256:5
 loop-again-2 : tie.Need-loop-again-2 Inv-loop μ-loop
-loop-again-2 c = ?
+loop-again-2 c = let w = rw (c .before .before .before .before .before .t2 .given .1) at (c .before .before .before .before .before .before .before .step-at .ensures .1) in (w .1, omega (arith, w .0), start-next _ _ _ _ _ _ _ (w .2) _ _ _ (c .before .before .before .before .before .before .before .before .before .loop .inv .2) _ _ (c .before .before .put-piece2 .ensures))
 
--- src/lib.rt:273:23
 enum-known-t-3 : tie.Need-enum-known-t-3 Inv-loop μ-loop
-enum-known-t-3 c = ?
+enum-known-t-3 c = search needs
 
--- src/lib.rt:274:56
 sub-put-piece-3 : tie.Need-sub-put-piece-3 Inv-loop μ-loop
-sub-put-piece-3 c = ?
+sub-put-piece-3 c = search needs
 
--- src/lib.rt:274:56
 part-put-piece-start-3 : tie.Need-part-put-piece-start-3 Inv-loop μ-loop
-part-put-piece-start-3 c = ?
+part-put-piece-start-3 c = search needs
 
--- src/lib.rt:274:56
 part-put-piece-end-3 : tie.Need-part-put-piece-end-3 Inv-loop μ-loop
-part-put-piece-end-3 c = ?
+part-put-piece-end-3 c = search needs
 
--- src/lib.rt:274:21
 put-piece-requires-3 : tie.Need-put-piece-requires-3 Inv-loop μ-loop
-put-piece-requires-3 c κs = ?
+put-piece-requires-3 c κs = let w = rw (c .before .before .t3 .given .1) at (c .before .before .before .before .step-at .ensures .1) in end-room _ _ _ _ _ _ _ (w .2) _ _ _ (c .before .before .before .before .before .before .loop .inv .2)
 
--- src/lib.rt:275:17
 add-n-3 : tie.Need-add-n-3 Inv-loop μ-loop
-add-n-3 c = ?
+add-n-3 c = let w = rw (c .before .before .before .before .before .t3 .given .1) at (c .before .before .before .before .before .before .before .step-at .ensures .1) in let k = end-within _ _ _ _ _ _ _ (w .2) _ _ _ (c .before .before .before .before .before .before .before .before .before .loop .inv .2) in omega (arith, k, c .before .before .put-piece3 .ensures .0)
 
--- src/lib.rt:278:17
 add-g : tie.Need-add-g Inv-loop μ-loop
-add-g c = ?
+add-g c = search needs
 
--- src/lib.rt:256:5
 loop-less-3 : tie.Need-loop-less-3 Inv-loop μ-loop
-loop-less-3 c = ?
+loop-less-3 c = let w = rw (c .before .before .before .before .before .t3 .given .1) at (c .before .before .before .before .before .before .before .step-at .ensures .1) in omega (arith, w .0, w .1)
 
--- src/lib.rt:256:5
 loop-again-3 : tie.Need-loop-again-3 Inv-loop μ-loop
-loop-again-3 c = ?
+loop-again-3 c = let w = rw (c .before .before .before .before .before .t3 .given .1) at (c .before .before .before .before .before .before .before .step-at .ensures .1) in (w .1, omega (arith, w .0), end-next _ _ _ _ _ _ _ (w .2) _ _ _ (c .before .before .before .before .before .before .before .before .before .loop .inv .2) _ _ (c .before .before .put-piece3 .ensures))
 
--- src/lib.rt:281:26
 enum-told : tie.Need-enum-told Inv-loop μ-loop
-enum-told c = ?
+enum-told c = search needs
 
--- src/lib.rt:281:26
 same-length : tie.Need-same-length Inv-loop μ-loop
-same-length c = ?
+same-length c = search needs
 
--- src/lib.rt:281:26
 returns : tie.Need-returns Inv-loop μ-loop
-returns c = ?
+returns c = let w = rw (c .enum-told .given .1) at (c .before .before .step-at .ensures .1) in written-all _ _ _ _ _ (c .before .before .before .before .loop .inv .2) (on-cut _ _ _ _ _ (w (omega arith)))
 
--- src/lib.rt:282:29
 enum-told-2 : tie.Need-enum-told-2 Inv-loop μ-loop
-enum-told-2 c = ?
+enum-told-2 c = search needs
 
--- src/lib.rt:282:29
 same-length-2 : tie.Need-same-length-2 Inv-loop μ-loop
-same-length-2 c = ?
+same-length-2 c = search needs
 
--- src/lib.rt:282:29
 returns-2 : tie.Need-returns-2 Inv-loop μ-loop
-returns-2 c = ?
+returns-2 c = let w = rw (c .enum-told2 .given .1) at (c .before .before .step-at .ensures .1) in written-all _ _ _ _ _ (c .before .before .before .before .loop .inv .2) (on-bad _ _ _ _ _ _ (w .2))
 
--- src/lib.rt:247:1
 same-length-3 : tie.Need-same-length-3 Inv-loop μ-loop
-same-length-3 c = ?
+same-length-3 c = search needs
 
--- src/lib.rt:247:1
 returns-3 : tie.Need-returns-3 Inv-loop μ-loop
-returns-3 c = ?
+returns-3 c = written-all _ _ _ _ _ (c .before .loop .inv .2) (on-past _ _ _ _ _ _ (c .loop-test .left))
 
 pub put-table-spec : {M : Type 1} → statement M
 put-table-spec =
