@@ -15,7 +15,13 @@ use Rattle.coding.specs.declared.Coding.{Coding}
 use borrow.Rule.Slice.PartMut.{midOf, putMid}
 use Rattle.base.specs.Over.{over}
 use Rattle.listing.proofs.Putting.{Written, written-within, written-room, written-next}
-use Rattle.listing.specs.Text.{decimal, numberText, itemText, pieceOf, linesOf, tableText}
+use Rattle.refusal.specs.declared.Refusal.{Refusal}
+use Rattle.refusal.specs.Refusals.{numberOf, placeOf}
+use Rattle.header.specs.declared.Kind.{Kind}
+use Rattle.header.specs.declared.Kind.the-variants.{Psf1, Psf2, Vfont2}
+use Rattle.header.specs.declared.Font.{Font}
+use Rattle.listing.proofs.Digits.{decimal-20}
+use Rattle.listing.specs.Text.{decimal, numberText, kindText, tableWord, firstLine, refusedText, itemText, pieceOf, linesOf, tableText}
 
 pub number-text : (n b : ℕ) → numberText n b ≡ decimal n ++ (b ∷ [])
 unfolding numberText
@@ -23,6 +29,27 @@ number-text n b = refl
 
 pub number-length : (n b : ℕ) → length (numberText n b) ≡ length (decimal n) + 1
 number-length n b = ap length (number-text n b) ∙ length-append (decimal n) (b ∷ [])
+
+-- no number is longer than 21 bytes with the byte after it; no kind's name is longer than 7, and no word at the line's end than 6
+pub number-21 : (n b : ℕ) → n < 18446744073709551616 → length (numberText n b) ≤ 21
+number-21 n b h = omega (arith, number-length n b, decimal-20 n h)
+
+pub kind-7 : (k : Kind) → length (kindText k) ≤ 7
+kind-7 Psf1 = omega arith
+kind-7 Psf2 = omega arith
+kind-7 Vfont2 = omega arith
+
+pub word-6 : (t : Bool) → length (tableWord t) ≤ 6
+word-6 true = omega arith
+word-6 false = omega arith
+
+pub first-line : (f : Font) → firstLine f ≡ kindText (f .kind) ++ numberText (f .count) 32 ++ numberText (f .height) 32 ++ numberText (f .width) 32 ++ tableWord (f .table)
+unfolding firstLine
+first-line f = refl
+
+pub refused-text : (r : Refusal) (n p : ℕ) → n ≡ numberOf r → p ≡ placeOf r → (114 ∷ 101 ∷ 102 ∷ 117 ∷ 115 ∷ 101 ∷ 100 ∷ 32 ∷ []) ++ numberText n 32 ++ numberText p 10 ≡ refusedText r
+unfolding refusedText
+refused-text r n p e q = rw (e, q)
 
 module _ (fresh : Bool) (g : ℕ) (i : Item) where
   pub piece-fresh : fresh ≡ true → pieceOf fresh g i ≡ decimal g ++ itemText i

@@ -32,14 +32,14 @@ length-rest : (w : List ℕ) (a : ℕ) → length (midOf a (length w - a) w) ≡
 length-rest w a = ap length (rest-all w a) ∙ length-drop a w
 
 -- a second text behind it: there is room, and then both stand in front
-module _ (p q xs w : List ℕ) (a : ℕ) (s : Stands p xs w a) (h : length p + length q ≤ length xs) where
+module _ (p q xs w : List ℕ) (a : ℕ) (s : Stands p xs w a) (h : a + length q ≤ length xs) where
   pub behind-room : length q ≤ length (midOf a (length w - a) w)
   behind-room = omega (arith, s .0, s .1, length-rest w a)
 
   pub behind-stands : (ys : List ℕ) (l : ℕ) → (l ≡ length q) × (ys ≡ over q (midOf a (length w - a) w)) → Stands (p ++ q) xs (putMid a (length w - a) w ys) (a + l)
   behind-stands ys l e =
       let o = behind p q xs w ys a (sym (s .0)) (s .2) (e .1) in
-      (omega (arith, s .0, e .0, length-append p q), ap length o ∙ length-over (p ++ q) xs (omega (arith, length-append p q)), o)
+      (omega (arith, s .0, e .0, length-append p q), ap length o ∙ length-over (p ++ q) xs (omega (arith, s .0, length-append p q)), o)
 
 -- a text w, written part by part over xs: its first n bytes stand in v, and y is left
 pub record Written (w xs v : List ℕ) (n : ℕ) (y : List ℕ) : Type 0 where

@@ -92,9 +92,12 @@ linesOf g fresh (i ∷ is) = pieceOf fresh g i ++ linesOf (nextGlyph g i) (ends 
 unfoldable pub tableText : Coding → List ℕ → List ℕ
 tableText c s = linesOf 0 true (itemsIn c s)
 
--- "A bare font has that line only."
+-- the lines after the first; "A bare font has that line only."
+unfoldable pub linesText : List ℕ → Font → List ℕ
+linesText s f = pick (f .table) (tableText (codingOf (f .kind)) (tailOf s f)) []
+
 unfoldable pub fontText : List ℕ → Font → List ℕ
-fontText s f = firstLine f ++ pick (f .table) (tableText (codingOf (f .kind)) (tailOf s f)) []
+fontText s f = firstLine f ++ linesText s f
 
 -- "A refusal writes `refused 2 0` (number, place)."
 unfoldable pub refusedText : Refusal → List ℕ

@@ -12,7 +12,8 @@ ghost use Prim.Native.Nat.{ℕ, _+_, _*_, _≤_, _<_};
 ghost use lib.ListN.{length};
 ghost use Rattle.base.specs.Over.{over};
 ghost use Rattle.table.specs.Steps.{toldAs};
-ghost use Rattle.listing.specs.Text.{digitOf, decimal, hexadecimal, numberText, kindText, tableWord, firstLine, itemText, pieceOf, tableText, fontText, refusedText, listingOf, listedOf, leftOf};
+ghost use Rattle.header.specs.Placed.{Placed};
+ghost use Rattle.listing.specs.Text.{digitOf, decimal, hexadecimal, numberText, kindText, tableWord, firstLine, itemText, pieceOf, tableText, linesText, fontText, refusedText, bigText, listingOf, listedOf, leftOf};
 
 // How many bytes of text stand in front of the buffer; or ROOM with the bytes needed, and the buffer is untouched.
 pub enum Listed {
@@ -281,5 +282,108 @@ fn put_table(c: Coding, tail: &[u8], out: &mut [u8])
             Step::Cut => return,
             Step::Bad(_) => return,
         }
+    }
+}
+
+// The first line of a font. Asks for room for the longest.
+fn put_first(f: Font, out: &mut [u8]) -> usize
+    requires { ⌜ 96 ≤ length (now out) ⌝ }
+    ensures { λ r. ⌜ (r ≡ length (firstLine f)) × (now (out .exit) ≡ over (firstLine f) (now (out .entry))) × (r ≤ 96) ⌝ }
+{
+    let kind = f.kind;
+    let a = put_kind(kind, out);
+    let b = a + put_number(f.count, 32, &mut out[a..]);
+    let d = b + put_number(f.height, 32, &mut out[b..]);
+    let e = d + put_number(f.width, 32, &mut out[d..]);
+    e + put_word(f.table, &mut out[e..])
+}
+
+// The line of a refusal. Asks for room for the longest.
+fn put_refused(r: Refusal, out: &mut [u8]) -> usize
+    requires { ⌜ 96 ≤ length (now out) ⌝ }
+    ensures { λ n. ⌜ (n ≡ length (refusedText r)) × (now (out .exit) ≡ over (refusedText r) (now (out .entry))) × (n ≤ 96) ⌝ }
+{
+    let a = put_text(b"refused ", out);
+    let b = a + put_number(base::size(refusal::number(r)), 32, &mut out[a..]);
+    b + put_number(refusal::place(r), 10, &mut out[b..])
+}
+
+// How many bytes the lines of a font's table are, none for a bare one. Asks that the header passed and the file is one that is listed.
+fn lines_len(file: &[u8], f: Font) -> usize
+    requires { ⌜ (Placed (now file) f) × (length (now file) ≤ 65536) ⌝ }
+    ensures { λ r. ⌜ (r ≡ length (linesText (now (file .entry)) f)) × (r ≤ 917504) ⌝ }
+{
+    if f.table {
+        let end = f.end;
+        let kind = f.kind;
+        return table_len(font::coding_of(kind), &file[end..]);
+    }
+    0
+}
+
+// The lines of a font's table to the front. Asks that the header passed, and for room: `lines_len` has measured.
+fn put_lines(file: &[u8], f: Font, out: &mut [u8])
+    requires { ⌜ (Placed (now file) f) × (length (linesText (now file) f) ≤ length (now out)) ⌝ }
+    ensures { λ _. ⌜ now (out .exit) ≡ over (linesText (now (file .entry)) f) (now (out .entry)) ⌝ }
+{
+    if f.table {
+        let end = f.end;
+        let kind = f.kind;
+        put_table(font::coding_of(kind), &file[end..], out);
+    }
+}
+
+// A text as a listing.
+fn list_text(text: &[u8], out: &mut [u8]) -> Listed
+    ensures { λ r. ⌜ (r ≡ listedOf (now (text .entry)) (length (now (out .entry)))) × (now (out .exit) ≡ leftOf (now (text .entry)) (now (out .entry))) ⌝ }
+{
+    let n = text.len();
+    if out.len() < n {
+        return Listed::Refused(Refusal::Room(n));
+    }
+    base::copy(text, out);
+    Listed::Wrote(n)
+}
+
+// The listing of a refused font.
+fn list_refused(r: Refusal, out: &mut [u8]) -> Listed
+    ensures equal { λ l. ⌜ (l ≡ listedOf (refusedText r) (length (now (out .entry)))) × (now (out .exit) ≡ leftOf (refusedText r) (now (out .entry))) ⌝ }
+    ensures bounded { λ _. ⌜ length (refusedText r) ≤ 96 ⌝ }
+{
+    let mut line = [0u8; 96];
+    let n = put_refused(r, &mut line);
+    list_text(&line[..n], out)
+}
+
+// The listing of a font whose check passed. Asks that the file is one that is listed.
+fn list_font(file: &[u8], f: Font, out: &mut [u8]) -> Listed
+    requires { ⌜ (Placed (now file) f) × (length (now file) ≤ 65536) ⌝ }
+    ensures equal { λ r. ⌜ (r ≡ listedOf (fontText (now (file .entry)) f) (length (now (out .entry)))) × (now (out .exit) ≡ leftOf (fontText (now (file .entry)) f) (now (out .entry))) ⌝ }
+    ensures bounded { λ _. ⌜ length (fontText (now (file .entry)) f) ≤ 917600 ⌝ }
+{
+    let mut line = [0u8; 96];
+    let n = put_first(f, &mut line);
+    let m = lines_len(file, f);
+    let total = n + m;
+    if out.len() < total {
+        return Listed::Refused(Refusal::Room(total));
+    }
+    base::copy(&line[..n], out);
+    put_lines(file, f, &mut out[n..]);
+    Listed::Wrote(total)
+}
+
+// The listing of a file, whatever it holds, to the front of a buffer. Refusal: ROOM, place the bytes needed; 917,600 always suffice.
+pub fn list(file: &[u8], out: &mut [u8]) -> Listed
+    ensures equal { λ r. ⌜ (r ≡ listedOf (listingOf (now (file .entry))) (length (now (out .entry)))) × (now (out .exit) ≡ leftOf (listingOf (now (file .entry))) (now (out .entry))) ⌝ }
+    ensures bounded { λ _. ⌜ length (listingOf (now (file .entry))) ≤ 917600 ⌝ }
+{
+    if 65536 < file.len() {
+        return list_text(b"too big\n", out);
+    }
+    let a = font::check(file);
+    match a {
+        Checked::Sound(f) => list_font(file, f, out),
+        Checked::Refused(r) => list_refused(r, out),
     }
 }

@@ -29,7 +29,7 @@ part-put-item-end : tie.Need-part-put-item-end
 part-put-item-end c = search needs
 
 put-item-requires : tie.Need-put-item-requires
-put-item-requires c κs = let e = piece-fresh-length (c .before .before .before .before .before .before .before .args .fresh) (c .before .before .before .before .before .before .before .args .g) (c .before .before .before .before .before .before .before .args .i) (c .before .before .before .before .before .if1 .taken) in let s = first-stands (decimal (c .before .before .before .before .before .before .before .args .g)) (c .before .before .before .before .before .before .before .args .out .now) (c .before .before .before .put-decimal .last .1 .0) (c .before .before .before .put-decimal .result) (omega arith) (c .before .before .before .put-decimal .ensures) in behind-room (decimal (c .before .before .before .before .before .before .before .args .g)) (itemText (c .before .before .before .before .before .before .before .args .i)) (c .before .before .before .before .before .before .before .args .out .now) (c .before .before .before .put-decimal .last .1 .0) (c .before .before .before .put-decimal .result) s (omega arith)
+put-item-requires c κs = let e = piece-fresh-length (c .before .before .before .before .before .before .before .args .fresh) (c .before .before .before .before .before .before .before .args .g) (c .before .before .before .before .before .before .before .args .i) (c .before .before .before .before .before .if1 .taken) in let s = first-stands (decimal (c .before .before .before .before .before .before .before .args .g)) (c .before .before .before .before .before .before .before .args .out .now) (c .before .before .before .put-decimal .last .1 .0) (c .before .before .before .put-decimal .result) (omega arith) (c .before .before .before .put-decimal .ensures) in behind-room (decimal (c .before .before .before .before .before .before .before .args .g)) (itemText (c .before .before .before .before .before .before .before .args .i)) (c .before .before .before .before .before .before .before .args .out .now) (c .before .before .before .put-decimal .last .1 .0) (c .before .before .before .put-decimal .result) s (omega (arith, s .0))
 
 add-result : tie.Need-add-result
 add-result c = let e = piece-fresh-length (c .before .before .before .before .before .before .before .before .before .before .args .fresh) (c .before .before .before .before .before .before .before .before .before .before .args .g) (c .before .before .before .before .before .before .before .before .before .before .args .i) (c .before .before .before .before .before .before .before .before .if1 .taken) in omega (arith, c .before .before .before .before .before .before .put-decimal .ensures .0, c .before .before .put-item .ensures .0)
@@ -41,7 +41,7 @@ returns : tie.Need-returns
 returns c = let e = piece-fresh-length (c .before .before .before .before .before .before .before .before .before .before .args .fresh) (c .before .before .before .before .before .before .before .before .before .before .args .g) (c .before .before .before .before .before .before .before .before .before .before .args .i) (c .before .before .before .before .before .before .before .before .if1 .taken) in
     let q = piece-fresh (c .before .before .before .before .before .before .before .before .before .before .args .fresh) (c .before .before .before .before .before .before .before .before .before .before .args .g) (c .before .before .before .before .before .before .before .before .before .before .args .i) (c .before .before .before .before .before .before .before .before .if1 .taken) in
     let s = first-stands (decimal (c .before .before .before .before .before .before .before .before .before .before .args .g)) (c .before .before .before .before .before .before .before .before .before .before .args .out .now) (c .before .before .before .before .before .before .put-decimal .last .1 .0) (c .before .before .before .before .before .before .put-decimal .result) (omega arith) (c .before .before .before .before .before .before .put-decimal .ensures) in
-    let r = behind-stands (decimal (c .before .before .before .before .before .before .before .before .before .before .args .g)) (itemText (c .before .before .before .before .before .before .before .before .before .before .args .i)) (c .before .before .before .before .before .before .before .before .before .before .args .out .now) (c .before .before .before .before .before .before .put-decimal .last .1 .0) (c .before .before .before .before .before .before .put-decimal .result) s (omega arith) _ _ (c .before .before .put-item .ensures) in
+    let r = behind-stands (decimal (c .before .before .before .before .before .before .before .before .before .before .args .g)) (itemText (c .before .before .before .before .before .before .before .before .before .before .args .i)) (c .before .before .before .before .before .before .before .before .before .before .args .out .now) (c .before .before .before .before .before .before .put-decimal .last .1 .0) (c .before .before .before .before .before .before .put-decimal .result) s (omega (arith, s .0)) _ _ (c .before .before .put-item .ensures) in
     (r .0 ∙ sym (ap length q), r .2 ∙ sym (ap (λ (z : List ℕ). over z (c .before .before .before .before .before .before .before .before .before .before .args .out .now)) q))
 
 put-item-requires-2 : tie.Need-put-item-requires-2
