@@ -3,3 +3,7 @@ pub mod Digits
 pub mod Putting
 pub mod Pieces
 pub mod Answers
+pub mod Numerals
+pub mod Described
+pub mod Meaning
+pub mod Vectors
