@@ -6,7 +6,8 @@ use Prim.Native.Nat.{ℕ, _+_, _-_, _≤_, _<_}
 use native.Mathlib.Omega.{arith}
 use lib.ListN.{length, take, drop, length-append}
 use lib.Seq.{take-append-seam}
-use borrow.Author.Tests.{lt-ltb, le-ltb}
+use lib.Dec.{ltb}
+use borrow.Author.Tests.{lt-ltb, le-ltb, ltb-false}
 use Rattle.base.specs.Choice.{pick, when}
 use Rattle.base.specs.Over.{over}
 use Rattle.base.proofs.Parts.{rest-all}
@@ -63,3 +64,16 @@ listing-big s h = rw (lt-ltb 65536 (length s) h)
 pub listing-answer : (s : List ℕ) (a : Checked) → length s ≤ 65536 → a ≡ checkOf s → answerText s a ≡ listingOf s
 unfolding listingOf when
 listing-answer s a h e = rw (le-ltb 65536 (length s) h, e)
+
+-- what is written stands within the buffer
+pub wrote-inside : (text : List ℕ) (room n : ℕ) → listedOf text room ≡ Wrote n → n ≤ room
+unfolding listedOf when
+wrote-inside text room n e = go (ltb room (length text)) refl e
+  where
+    go : (t : Bool) → ltb room (length text) ≡ t → when t (Unlisted (Room (length text))) (Wrote (length text)) ≡ Wrote n → n ≤ room
+    go true p q = let z : _≡_ {A = ℕ} 0 1 = cc in absurd (omega arith)
+    go false p q = let h : length text ≡ n = cc in let k = ltb-false room (length text) p in omega arith
+
+-- and a buffer that is as long as the text is never refused: the text stands in front, and nothing behind it is changed
+pub always-wrote : (text xs : List ℕ) → length text ≤ length xs → (listedOf text (length xs) ≡ Wrote (length text)) × (leftOf text xs ≡ over text xs)
+always-wrote text xs h = let w = wrote text xs (length text) refl h (over text xs) refl in (sym (w .0), sym (w .1))

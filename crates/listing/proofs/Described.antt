@@ -51,9 +51,9 @@ module _ (g : ℕ) where
   line d k =
       front (d .singles) (d .sequences) k
       ∙ ap (λ (z : List ℕ). decimal g ++ z)
-        (singles-lines (d .singles) (seqs (d .sequences) (End ∷ k))
-        ∙ ap (λ (z : List ℕ). singlesText (d .singles) ++ z)
-          (seqs-lines (d .sequences) (End ∷ k) ∙ ap (λ (z : List ℕ). sequencesText (d .sequences) ++ z) (end-lines k)))
+      (singles-lines (d .singles) (seqs (d .sequences) (End ∷ k))
+      ∙ ap (λ (z : List ℕ). singlesText (d .singles) ++ z)
+      (seqs-lines (d .sequences) (End ∷ k) ∙ ap (λ (z : List ℕ). sequencesText (d .sequences) ++ z) (end-lines k)))
       ∙ moved (decimal g) (singlesText (d .singles)) (sequencesText (d .sequences)) (10 ∷ []) (linesOf (g + 1) true k)
 
 pub lines-of : (g : ℕ) (ds : List Desc) → linesOf g true (items ds) ≡ glyphLines g ds

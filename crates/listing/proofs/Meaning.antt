@@ -11,11 +11,13 @@ use Rattle.table.proofs.Meaning.{items-read}
 use Rattle.header.specs.declared.Font.{Font}
 use Rattle.header.specs.declared.Checked.the-variants.{Sound, Refused}
 use Rattle.font.specs.Check.{codingOf, tailOf, checkOf}
-use Rattle.listing.specs.Text.{decimal, hexadecimal, firstLine, linesOf, tableText, linesText, refusedText, bigText, listingOf}
+use Rattle.base.specs.Over.{over}
+use Rattle.listing.specs.declared.Listed.the-variants.{Wrote}
+use Rattle.listing.specs.Text.{decimal, hexadecimal, firstLine, linesOf, tableText, linesText, refusedText, bigText, listingOf, listedOf, leftOf}
 use Rattle.listing.specs.Lines.{glyphLines, numberIn, NoLeadingZero}
 use Rattle.listing.proofs.Numerals.{decimal-back, decimal-leads, hexadecimal-back, hexadecimal-leads}
 use Rattle.listing.proofs.Described.{lines-of}
-use Rattle.listing.proofs.Answers.{listing-big, listing-answer, font-text, lines-bare}
+use Rattle.listing.proofs.Answers.{listing-big, listing-answer, font-text, lines-bare, wrote-inside, always-wrote}
 
 -- a sound font with a table: the first line, and then for each glyph of its reading, in order, the glyph's line
 pub table-listed : (s : List ℕ) (f : Font) → length s ≤ 65536 → checkOf s ≡ Sound f → f .table ≡ true →
@@ -39,6 +41,14 @@ refused-listed s r h e = sym (listing-answer s (Refused r) h (sym e))
 -- a longer file, whatever it holds
 pub big-listed : (s : List ℕ) → 65536 < length s → listingOf s ≡ bigText
 big-listed s h = sym (listing-big s h)
+
+-- a buffer with room for a text is never refused: the text stands in front, and nothing behind it is changed
+pub room-suffices : (text xs : List ℕ) → length text ≤ length xs → (listedOf text (length xs) ≡ Wrote (length text)) × (leftOf text xs ≡ over text xs)
+room-suffices = always-wrote
+
+-- what is written stands within the buffer
+pub listed-inside : (text : List ℕ) (room n : ℕ) → listedOf text room ≡ Wrote n → n ≤ room
+listed-inside = wrote-inside
 
 -- decimal digits are read as the number, and don't begin with 0 unless it is 0
 pub decimal-read : (n : ℕ) → numberIn 10 0 (decimal n) ≡ n
