@@ -7,7 +7,9 @@ use listing::Listed;
 fn show(file: &[u8], out: &mut [u8]) {
     let a = listing::list(file, out);
     match a {
-        Listed::Wrote(n) => io::write_all(1, &out[..n]),
+        Listed::Wrote(n) => {
+            io::write_all(1, &out[..n]);
+        }
         Listed::Refused(_) => {}
     }
 }
