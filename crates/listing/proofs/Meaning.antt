@@ -1,0 +1,73 @@
+-- What a listing means: `list` writes `listingOf`, and here is what that is for each file; and that its digits are the numbers.
+use mathlib.Core.Path.{_≡_, refl, sym, _∙_, ap}
+use mathlib.Core.Bool.{true, false}
+use mathlib.Core.List.{List, [], _∷_, _++_, append-nil}
+use Prim.Native.Nat.{ℕ, _≤_, _<_}
+use lib.ListN.{length}
+use Rattle.refusal.specs.declared.Refusal.{Refusal}
+use Rattle.table.specs.Steps.{itemsIn}
+use Rattle.table.specs.Table.{IsTable}
+use Rattle.table.proofs.Meaning.{items-read}
+use Rattle.header.specs.declared.Font.{Font}
+use Rattle.header.specs.declared.Checked.the-variants.{Sound, Refused}
+use Rattle.font.specs.Check.{codingOf, tailOf, checkOf}
+use Rattle.base.specs.Over.{over}
+use Rattle.listing.specs.declared.Listed.the-variants.{Wrote}
+use Rattle.listing.specs.Text.{decimal, hexadecimal, firstLine, linesOf, tableText, linesText, refusedText, bigText, listingOf, listedOf, leftOf}
+use Rattle.listing.specs.Lines.{glyphLines, numberIn, NoLeadingZero}
+use Rattle.listing.proofs.Numerals.{decimal-back, decimal-leads, hexadecimal-back, hexadecimal-leads}
+use Rattle.listing.proofs.Described.{lines-of}
+use Rattle.listing.proofs.Answers.{listing-big, listing-answer, font-text, lines-bare, wrote-inside, always-wrote}
+
+-- a sound font with a table: the first line, and then for each glyph of its reading, in order, the glyph's line
+pub table-listed : (s : List ℕ) (f : Font) → length s ≤ 65536 → checkOf s ≡ Sound f → f .table ≡ true →
+    (t : IsTable (codingOf (f .kind)) (f .count) (tailOf s f)) → listingOf s ≡ firstLine f ++ glyphLines 0 (t .reading)
+unfolding linesText tableText
+table-listed s f h ok e t =
+    let c = codingOf (f .kind) in
+    let i : itemsIn c (tailOf s f) ≡ Rattle.table.specs.Grammar.items (t .reading) = ap (itemsIn c) (t .same) ∙ items-read c (t .reading) (t .values) in
+    let l : linesText s f ≡ glyphLines 0 (t .reading) = rw e (ap (linesOf 0 true) i ∙ lines-of 0 (t .reading)) in
+    sym (listing-answer s (Sound f) h (sym ok)) ∙ font-text s f ∙ ap (λ (z : List ℕ). firstLine f ++ z) l
+
+-- a sound bare font: the first line only
+pub bare-listed : (s : List ℕ) (f : Font) → length s ≤ 65536 → checkOf s ≡ Sound f → f .table ≡ false → listingOf s ≡ firstLine f
+bare-listed s f h ok e =
+    sym (listing-answer s (Sound f) h (sym ok)) ∙ font-text s f ∙ ap (λ (z : List ℕ). firstLine f ++ z) (lines-bare s f e) ∙ append-nil (firstLine f)
+
+-- a refused font: its number and place
+pub refused-listed : (s : List ℕ) (r : Refusal) → length s ≤ 65536 → checkOf s ≡ Refused r → listingOf s ≡ refusedText r
+refused-listed s r h e = sym (listing-answer s (Refused r) h (sym e))
+
+-- a longer file, whatever it holds
+pub big-listed : (s : List ℕ) → 65536 < length s → listingOf s ≡ bigText
+big-listed s h = sym (listing-big s h)
+
+-- a buffer with room for a text is never refused: the text stands in front, and nothing behind it is changed
+pub room-suffices : (text xs : List ℕ) → length text ≤ length xs → (listedOf text (length xs) ≡ Wrote (length text)) × (leftOf text xs ≡ over text xs)
+room-suffices = always-wrote
+
+-- what is written stands within the buffer
+pub listed-inside : (text : List ℕ) (room n : ℕ) → listedOf text room ≡ Wrote n → n ≤ room
+listed-inside = wrote-inside
+
+-- decimal digits are read as the number, and don't begin with 0 unless it is 0
+pub decimal-read : (n : ℕ) → numberIn 10 0 (decimal n) ≡ n
+decimal-read = decimal-back
+
+pub decimal-no-zero : (n : ℕ) → 1 ≤ n → NoLeadingZero (decimal n)
+decimal-no-zero = decimal-leads
+
+pub decimal-zero : decimal 0 ≡ 48 ∷ []
+unfolding decimal Rattle.listing.specs.Text.digits Rattle.listing.specs.Text.digitOf
+decimal-zero = refl
+
+-- and so are hexadecimal ones
+pub hexadecimal-read : (v : ℕ) → numberIn 16 0 (hexadecimal v) ≡ v
+hexadecimal-read = hexadecimal-back
+
+pub hexadecimal-no-zero : (v : ℕ) → 1 ≤ v → NoLeadingZero (hexadecimal v)
+hexadecimal-no-zero = hexadecimal-leads
+
+pub hexadecimal-zero : hexadecimal 0 ≡ 48 ∷ []
+unfolding hexadecimal Rattle.listing.specs.Text.digits Rattle.listing.specs.Text.digitOf
+hexadecimal-zero = refl

@@ -1,0 +1,31 @@
+-- Document 01's font of 45 bytes and its listing.
+use mathlib.Core.Path.{_≡_, refl}
+use mathlib.Core.List.{List, [], _∷_}
+use Prim.Native.Nat.{ℕ}
+use Rattle.base.specs.Choice.{when}
+use Rattle.base.specs.Numbers.{le16, le32}
+use Rattle.utf8.specs.Utf8.{leadOf, conts, readUtf8}
+use Rattle.coding.specs.Coding.{markLen, readToken}
+use Rattle.table.specs.Steps.{stepsFrom, toldAs, told}
+use Rattle.table.specs.Check.{checkSteps}
+use Rattle.entries.specs.Entries.{glyphBytes}
+use Rattle.header.specs.Headers.{kindOf, headOf, psf2Body, headerOf}
+use Rattle.font.specs.Check.{bodyOf, checkOf}
+use Rattle.listing.specs.Text.{digitOf, digits, decimal, hexadecimal, numberText, firstLine, pieceOf, linesOf, tableText, linesText, fontText, listingOf}
+
+-- the header with header size 32, flags 1, n = 2, c = 2, height 2, width 3; bitmaps A0 40 E0 20; table 41 FF C3 85 FE 41 CC 8A FF
+abbrev pub small : List ℕ
+small =
+    0x72 ∷ 0xB5 ∷ 0x4A ∷ 0x86 ∷ 0 ∷ 0 ∷ 0 ∷ 0 ∷ 32 ∷ 0 ∷ 0 ∷ 0 ∷ 1 ∷ 0 ∷ 0 ∷ 0 ∷ 2 ∷ 0 ∷ 0 ∷ 0 ∷ 2 ∷ 0 ∷ 0 ∷ 0 ∷ 2 ∷ 0 ∷ 0 ∷ 0 ∷ 3 ∷ 0 ∷ 0 ∷ 0
+    ∷ 0xA0 ∷ 0x40 ∷ 0xE0 ∷ 0x20 ∷ 0x41 ∷ 0xFF ∷ 0xC3 ∷ 0x85 ∷ 0xFE ∷ 0x41 ∷ 0xCC ∷ 0x8A ∷ 0xFF ∷ []
+
+-- `psf2 2 2 3 table`, `0 41`, `1 C5 +41+30A`
+abbrev pub smallText : List ℕ
+smallText =
+    112 ∷ 115 ∷ 102 ∷ 50 ∷ 32 ∷ 50 ∷ 32 ∷ 50 ∷ 32 ∷ 51 ∷ 32 ∷ 116 ∷ 97 ∷ 98 ∷ 108 ∷ 101 ∷ 10
+    ∷ 48 ∷ 32 ∷ 52 ∷ 49 ∷ 10
+    ∷ 49 ∷ 32 ∷ 67 ∷ 53 ∷ 32 ∷ 43 ∷ 52 ∷ 49 ∷ 43 ∷ 51 ∷ 48 ∷ 65 ∷ 10 ∷ []
+
+pub small-listed : listingOf small ≡ smallText
+unfolding when le16 le32 leadOf conts readUtf8 markLen readToken stepsFrom toldAs told checkSteps glyphBytes kindOf headOf psf2Body headerOf bodyOf checkOf listingOf fontText linesText tableText linesOf pieceOf firstLine numberText decimal hexadecimal digits digitOf
+small-listed = refl

@@ -1,0 +1,45 @@
+-- `listing::put_word` meets its contract: each word is one text. Assumes nothing.
+use native.Mathlib.Omega.{arith}
+use borrow.Author.Needs.{needs}
+use Rattle.listing.proofs.put_word.Statement.{statement}
+use Rattle.listing.proofs.put_word.Tie as tie
+use Rattle.listing.proofs.put_word.Reads as reads
+use Rattle.listing.proofs.put_word.Lts as lts
+use Rattle.listing.proofs.put_text.Reads as put-text-reads
+
+slice-aggregate-put-text : tie.Need-slice-aggregate-put-text
+slice-aggregate-put-text c = search needs
+
+put-text-requires : tie.Need-put-text-requires
+put-text-requires c κs = let p = rw (c .before .before .if1 .taken) at (c .before .before .before .before .pre) in omega (arith, p)
+
+same-length : tie.Need-same-length
+same-length c = search needs
+
+returns : tie.Need-returns
+returns c = rw (c .before .before .before .before .before .if1 .taken) (c .before .before .put-text .ensures)
+
+slice-aggregate-put-text-2 : tie.Need-slice-aggregate-put-text-2
+slice-aggregate-put-text-2 c = search needs
+
+put-text-requires-2 : tie.Need-put-text-requires-2
+put-text-requires-2 c κs = let p = rw (c .before .before .if1 .left) at (c .before .before .before .before .pre) in omega (arith, p)
+
+same-length-2 : tie.Need-same-length-2
+same-length-2 c = search needs
+
+returns-2 : tie.Need-returns-2
+returns-2 c = rw (c .before .before .before .before .before .if1 .left) (c .before .before .put-text2 .ensures)
+
+pub put-word-spec : {M : Type 1} → statement M
+put-word-spec =
+    tie.close
+    (tie.spec
+    slice-aggregate-put-text
+    put-text-requires
+    same-length
+    returns
+    slice-aggregate-put-text-2
+    put-text-requires-2
+    same-length-2
+    returns-2)

@@ -1,0 +1,3 @@
+-- The listing of a font.
+pub mod Text
+pub mod Lines

@@ -1,0 +1,124 @@
+-- The text of a font's listing, as ASCII (document 01, "Small tables and small fonts").
+use Prim.Native.Nat.{ℕ, zero, suc, _+_, _/_, _%_}
+use mathlib.Core.Bool.{Bool, true, false}
+use mathlib.Core.List.{List, [], _∷_, _++_}
+use lib.Dec.{ltb}
+use lib.ListN.{length}
+use Rattle.base.specs.Choice.{pick, when}
+use Rattle.base.specs.Over.{over}
+use Rattle.refusal.specs.declared.Refusal.{Refusal}
+use Rattle.refusal.specs.declared.Refusal.the-variants.{Room}
+use Rattle.refusal.specs.Refusals.{numberOf, placeOf}
+use Rattle.coding.specs.declared.Coding.{Coding}
+use Rattle.table.specs.declared.Item.{Item}
+use Rattle.table.specs.declared.Item.the-variants.{Single, Start, Value, End}
+use Rattle.table.specs.Steps.{itemsIn}
+use Rattle.header.specs.declared.Kind.{Kind}
+use Rattle.header.specs.declared.Kind.the-variants.{Psf1, Psf2, Vfont2}
+use Rattle.header.specs.declared.Font.{Font}
+use Rattle.header.specs.declared.Checked.{Checked}
+use Rattle.header.specs.declared.Checked.the-variants.{Sound, Refused}
+use Rattle.font.specs.Check.{codingOf, tailOf, checkOf}
+use Rattle.listing.specs.declared.Listed.{Listed}
+use Rattle.listing.specs.declared.Listed.the-variants.{Wrote, Refused as Unlisted}
+
+-- a digit: 0 to 9, then A to F
+unfoldable pub digitOf : ℕ → ℕ
+digitOf d = pick (ltb d 10) (48 + d) (55 + d)
+
+-- n in a base, its highest digit first, where n has at most k digits
+unfoldable pub digits : ℕ → ℕ → ℕ → List ℕ
+digits base zero n = digitOf n ∷ []
+digits base (suc k) n = pick (ltb n base) (digitOf n ∷ []) (digits base k (n / base) ++ (digitOf (n % base) ∷ []))
+
+-- "Numbers other than values are decimal."
+unfoldable pub decimal : ℕ → List ℕ
+decimal n = digits 10 n n
+
+-- "Values are upper-case hexadecimal without leading zeros."
+unfoldable pub hexadecimal : ℕ → List ℕ
+hexadecimal v = digits 16 v v
+
+-- a number and the byte after it
+unfoldable pub numberText : ℕ → ℕ → List ℕ
+numberText n b = decimal n ++ (b ∷ [])
+
+-- `psf1`, `psf2` or `vfont2`, and a blank
+abbrev pub kindText : Kind → List ℕ
+kindText Psf1 = 112 ∷ 115 ∷ 102 ∷ 49 ∷ 32 ∷ []
+kindText Psf2 = 112 ∷ 115 ∷ 102 ∷ 50 ∷ 32 ∷ []
+kindText Vfont2 = 118 ∷ 102 ∷ 111 ∷ 110 ∷ 116 ∷ 50 ∷ 32 ∷ []
+
+-- `table` or `bare`, and a newline
+abbrev pub tableWord : Bool → List ℕ
+tableWord true = 116 ∷ 97 ∷ 98 ∷ 108 ∷ 101 ∷ 10 ∷ []
+tableWord false = 98 ∷ 97 ∷ 114 ∷ 101 ∷ 10 ∷ []
+
+-- "First line: psf1, psf2 or vfont2, n, greatest height, greatest width, table or bare."
+unfoldable pub firstLine : Font → List ℕ
+firstLine f = kindText (f .kind) ++ numberText (f .count) 32 ++ numberText (f .height) 32 ++ numberText (f .width) 32 ++ tableWord (f .table)
+
+-- an item: a single is a blank and its value; a sequence is a blank and, for each value, `+` and the value; the end is a newline
+abbrev pub itemText : Item → List ℕ
+itemText (Single v) = 32 ∷ hexadecimal v
+itemText Start = 32 ∷ []
+itemText (Value v) = 43 ∷ hexadecimal v
+itemText End = 10 ∷ []
+
+-- an item of glyph g, the glyph's number in front of it where it is the first of the description
+unfoldable pub pieceOf : Bool → ℕ → Item → List ℕ
+pieceOf fresh g i = pick fresh (decimal g) [] ++ itemText i
+
+-- the glyph that the item after an item of glyph g belongs to
+abbrev pub nextGlyph : ℕ → Item → ℕ
+nextGlyph g (Single v) = g
+nextGlyph g Start = g
+nextGlyph g (Value v) = g
+nextGlyph g End = g + 1
+
+-- whether the item after an item is the first of a description
+abbrev pub ends : Item → Bool
+ends (Single v) = false
+ends Start = false
+ends (Value v) = false
+ends End = true
+
+-- the lines of items, the first an item of glyph g, fresh where it is the first of the description
+unfoldable pub linesOf : ℕ → Bool → List Item → List ℕ
+linesOf g fresh [] = []
+linesOf g fresh (i ∷ is) = pieceOf fresh g i ++ linesOf (nextGlyph g i) (ends i) is
+
+-- the lines of a tail's items, as far as it can be read
+unfoldable pub tableText : Coding → List ℕ → List ℕ
+tableText c s = linesOf 0 true (itemsIn c s)
+
+-- the lines after the first; "A bare font has that line only."
+unfoldable pub linesText : List ℕ → Font → List ℕ
+linesText s f = pick (f .table) (tableText (codingOf (f .kind)) (tailOf s f)) []
+
+unfoldable pub fontText : List ℕ → Font → List ℕ
+fontText s f = firstLine f ++ linesText s f
+
+-- "A refusal writes `refused 2 0` (number, place)."
+unfoldable pub refusedText : Refusal → List ℕ
+refusedText r = (114 ∷ 101 ∷ 102 ∷ 117 ∷ 115 ∷ 101 ∷ 100 ∷ 32 ∷ []) ++ numberText (numberOf r) 32 ++ numberText (placeOf r) 10
+
+-- `too big`
+abbrev pub bigText : List ℕ
+bigText = 116 ∷ 111 ∷ 111 ∷ 32 ∷ 98 ∷ 105 ∷ 103 ∷ 10 ∷ []
+
+abbrev pub answerText : List ℕ → Checked → List ℕ
+answerText s (Sound f) = fontText s f
+answerText s (Refused r) = refusedText r
+
+-- "a file of up to 65,536 bytes"; "Longer input writes `too big`", whatever it holds
+unfoldable pub listingOf : List ℕ → List ℕ
+listingOf s = when (ltb 65536 (length s)) bigText (answerText s (checkOf s))
+
+-- what a call that lists a text into a buffer of so many bytes answers
+unfoldable pub listedOf : List ℕ → ℕ → Listed
+listedOf text room = when (ltb room (length text)) (Unlisted (Room (length text))) (Wrote (length text))
+
+-- and what it leaves in the buffer
+unfoldable pub leftOf : List ℕ → List ℕ → List ℕ
+leftOf text xs = when (ltb (length xs) (length text)) xs (over text xs)

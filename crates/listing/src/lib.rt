@@ -1,0 +1,389 @@
+// Inner layer: the text of a font's listing, written to a lent buffer. Definitions: specs/Text.antt.
+use coding::Coding;
+use header::Checked;
+use header::Font;
+use header::Kind;
+use refusal::Refusal;
+use table::Item;
+use table::Step;
+ghost use mathlib.Core.Path.{_≡_};
+ghost use mathlib.Core.List.{[], _∷_};
+ghost use Prim.Native.Nat.{ℕ, _+_, _*_, _≤_, _<_};
+ghost use lib.ListN.{length};
+ghost use Rattle.base.specs.Over.{over};
+ghost use Rattle.table.specs.Steps.{toldAs};
+ghost use Rattle.header.specs.Placed.{Placed};
+ghost use Rattle.listing.specs.Text.{digitOf, decimal, hexadecimal, numberText, kindText, tableWord, firstLine, itemText, pieceOf, tableText, linesText, fontText, refusedText, bigText, listingOf, listedOf, leftOf};
+
+// How many bytes of text stand in front of the buffer; or ROOM with the bytes needed, and the buffer is untouched.
+pub enum Listed {
+    Wrote(usize),
+    Refused(Refusal),
+}
+
+// A digit up to F. Asks that it is one: each caller has divided.
+fn digit(d: u8) -> u8
+    requires { ⌜ d < 16 ⌝ }
+    ensures { λ r. ⌜ r ≡ digitOf d ⌝ }
+{
+    if d < 10 {
+        return 48 + d;
+    }
+    55 + d
+}
+
+// How many digits a number has.
+fn decimal_len(n: usize) -> usize
+    ensures { λ r. ⌜ (r ≡ length (decimal n)) × (r ≤ 20) ⌝ }
+{
+    let mut k: usize = 1;
+    let mut m = n;
+    while 10 <= m {
+        m = m / 10;
+        k += 1;
+    }
+    k
+}
+
+// How many digits a value has.
+fn hexadecimal_len(v: u32) -> usize
+    ensures { λ r. ⌜ (r ≡ length (hexadecimal v)) × (r ≤ 8) ⌝ }
+{
+    let mut k: usize = 1;
+    let mut m = v;
+    while 16 <= m {
+        m = m / 16;
+        k += 1;
+    }
+    k
+}
+
+// A number to the front, and how many bytes it is. Asks for room: the caller has measured.
+fn put_decimal(n: usize, out: &mut [u8]) -> usize
+    requires { ⌜ length (decimal n) ≤ length (now out) ⌝ }
+    ensures { λ r. ⌜ (r ≡ length (decimal n)) × (now (out .exit) ≡ over (decimal n) (now (out .entry))) ⌝ }
+{
+    if n < 10 {
+        out[0] = digit(n as u8);
+        return 1;
+    }
+    let l = put_decimal(n / 10, out);
+    out[l] = digit((n % 10) as u8);
+    l + 1
+}
+
+// A value to the front, and how many bytes it is. Asks for room: the caller has measured.
+fn put_hexadecimal(v: u32, out: &mut [u8]) -> usize
+    requires { ⌜ length (hexadecimal v) ≤ length (now out) ⌝ }
+    ensures { λ r. ⌜ (r ≡ length (hexadecimal v)) × (now (out .exit) ≡ over (hexadecimal v) (now (out .entry))) ⌝ }
+{
+    if v < 16 {
+        out[0] = digit(v as u8);
+        return 1;
+    }
+    let l = put_hexadecimal(v / 16, out);
+    out[l] = digit((v % 16) as u8);
+    l + 1
+}
+
+// A text to the front, and how many bytes it is. Asks for room: the caller has measured.
+fn put_text(text: &[u8], out: &mut [u8]) -> usize
+    requires { ⌜ length (now text) ≤ length (now out) ⌝ }
+    ensures { λ r. ⌜ (r ≡ length (now (text .entry))) × (now (out .exit) ≡ over (now (text .entry)) (now (out .entry))) ⌝ }
+{
+    base::copy(text, out);
+    text.len()
+}
+
+// A number and the byte after it to the front, and how many bytes they are. Asks for room: the caller has measured.
+fn put_number(n: usize, after: u8, out: &mut [u8]) -> usize
+    requires { ⌜ length (numberText n after) ≤ length (now out) ⌝ }
+    ensures { λ r. ⌜ (r ≡ length (numberText n after)) × (now (out .exit) ≡ over (numberText n after) (now (out .entry))) ⌝ }
+{
+    let l = put_decimal(n, out);
+    out[l] = after;
+    l + 1
+}
+
+// The name of a kind and a blank. Asks for room: the caller has measured.
+fn put_kind(kind: Kind, out: &mut [u8]) -> usize
+    requires { ⌜ length (kindText kind) ≤ length (now out) ⌝ }
+    ensures { λ r. ⌜ (r ≡ length (kindText kind)) × (now (out .exit) ≡ over (kindText kind) (now (out .entry))) ⌝ }
+{
+    match kind {
+        Kind::Psf1 => put_text(b"psf1 ", out),
+        Kind::Psf2 => put_text(b"psf2 ", out),
+        Kind::Vfont2 => put_text(b"vfont2 ", out),
+    }
+}
+
+// `table` or `bare` and a newline. Asks for room: the caller has measured.
+fn put_word(table: bool, out: &mut [u8]) -> usize
+    requires { ⌜ length (tableWord table) ≤ length (now out) ⌝ }
+    ensures { λ r. ⌜ (r ≡ length (tableWord table)) × (now (out .exit) ≡ over (tableWord table) (now (out .entry))) ⌝ }
+{
+    if table {
+        return put_text(b"table\n", out);
+    }
+    put_text(b"bare\n", out)
+}
+
+// How many bytes an item's text is.
+fn item_len(i: Item) -> usize
+    ensures { λ r. ⌜ (r ≡ length (itemText i)) × (r ≤ 9) ⌝ }
+{
+    match i {
+        Item::Single(v) => 1 + hexadecimal_len(v),
+        Item::Start => 1,
+        Item::Value(v) => 1 + hexadecimal_len(v),
+        Item::End => 1,
+    }
+}
+
+// How many bytes an item's text is with the glyph's number in front, where it is fresh.
+fn piece_len(fresh: bool, g: usize, i: Item) -> usize
+    ensures { λ r. ⌜ (r ≡ length (pieceOf fresh g i)) × (g < 100000 → r ≤ 14) ⌝ }
+{
+    let l = item_len(i);
+    if fresh {
+        return decimal_len(g) + l;
+    }
+    l
+}
+
+// One byte to the front. Asks for room: the caller has measured.
+fn put_byte(b: u8, out: &mut [u8]) -> usize
+    requires { ⌜ length (b ∷ []) ≤ length (now out) ⌝ }
+    ensures { λ r. ⌜ (r ≡ length (b ∷ [])) × (now (out .exit) ≡ over (b ∷ []) (now (out .entry))) ⌝ }
+{
+    out[0] = b;
+    1
+}
+
+// A byte and a value behind it to the front, and how many bytes they are. Asks for room: the caller has measured.
+fn put_value(lead: u8, v: u32, out: &mut [u8]) -> usize
+    requires { ⌜ length (lead ∷ hexadecimal v) ≤ length (now out) ⌝ }
+    ensures { λ r. ⌜ (r ≡ length (lead ∷ hexadecimal v)) × (now (out .exit) ≡ over (lead ∷ hexadecimal v) (now (out .entry))) ⌝ }
+{
+    let a = put_byte(lead, out);
+    let l = put_hexadecimal(v, &mut out[a..]);
+    a + l
+}
+
+// An item's text to the front, and how many bytes it is. Asks for room: the caller has measured.
+fn put_item(i: Item, out: &mut [u8]) -> usize
+    requires { ⌜ length (itemText i) ≤ length (now out) ⌝ }
+    ensures { λ r. ⌜ (r ≡ length (itemText i)) × (now (out .exit) ≡ over (itemText i) (now (out .entry))) ⌝ }
+{
+    match i {
+        Item::Single(v) => put_value(32, v, out),
+        Item::Start => put_byte(32, out),
+        Item::Value(v) => put_value(43, v, out),
+        Item::End => put_byte(10, out),
+    }
+}
+
+// An item's text to the front, with the glyph's number in front of it where it is fresh. Asks for room: the caller has measured.
+fn put_piece(fresh: bool, g: usize, i: Item, out: &mut [u8]) -> usize
+    requires { ⌜ length (pieceOf fresh g i) ≤ length (now out) ⌝ }
+    ensures { λ r. ⌜ (r ≡ length (pieceOf fresh g i)) × (now (out .exit) ≡ over (pieceOf fresh g i) (now (out .entry))) ⌝ }
+{
+    if fresh {
+        let a = put_decimal(g, out);
+        let l = put_item(i, &mut out[a..]);
+        return a + l;
+    }
+    put_item(i, out)
+}
+
+// A value as an item: before the first start mark of its description it is a single.
+fn value_item(inside: bool, v: u32) -> Item
+    ensures { λ r. ⌜ r ≡ toldAs inside v ⌝ }
+{
+    if inside {
+        return Item::Value(v);
+    }
+    Item::Single(v)
+}
+
+// How many bytes the lines of a tail are: one pass. Asks for a tail no longer than a file that is listed, so that the sum can't wrap.
+fn table_len(c: Coding, tail: &[u8]) -> usize
+    requires { ⌜ length (now tail) ≤ 65536 ⌝ }
+    ensures { λ r. ⌜ (r ≡ length (tableText c (now (tail .entry)))) × (r ≤ 14 * length (now (tail .entry))) ⌝ }
+{
+    let mut g: usize = 0;
+    let mut fresh = true;
+    let mut inside = false;
+    let mut n: usize = 0;
+    let mut at: usize = 0;
+    while at < tail.len() {
+        let t = table::step_at(c, tail, at);
+        match t {
+            Step::Value(v, next) => {
+                n += piece_len(fresh, g, value_item(inside, v));
+                fresh = false;
+                at = next;
+            }
+            Step::Start(next) => {
+                n += piece_len(fresh, g, Item::Start);
+                fresh = false;
+                inside = true;
+                at = next;
+            }
+            Step::End(next) => {
+                n += piece_len(fresh, g, Item::End);
+                fresh = true;
+                inside = false;
+                g += 1;
+                at = next;
+            }
+            Step::Cut => return n,
+            Step::Bad(_) => return n,
+        }
+    }
+    n
+}
+
+// The lines of a tail to the front: one pass. Asks for room: `table_len` has measured.
+fn put_table(c: Coding, tail: &[u8], out: &mut [u8])
+    requires { ⌜ length (tableText c (now tail)) ≤ length (now out) ⌝ }
+    ensures { λ _. ⌜ now (out .exit) ≡ over (tableText c (now (tail .entry))) (now (out .entry)) ⌝ }
+{
+    let mut g: usize = 0;
+    let mut fresh = true;
+    let mut inside = false;
+    let mut n: usize = 0;
+    let mut at: usize = 0;
+    while at < tail.len() {
+        let t = table::step_at(c, tail, at);
+        match t {
+            Step::Value(v, next) => {
+                let i = value_item(inside, v);
+                let l = put_piece(fresh, g, i, &mut out[n..]);
+                n += l;
+                fresh = false;
+                at = next;
+            }
+            Step::Start(next) => {
+                let l = put_piece(fresh, g, Item::Start, &mut out[n..]);
+                n += l;
+                fresh = false;
+                inside = true;
+                at = next;
+            }
+            Step::End(next) => {
+                let l = put_piece(fresh, g, Item::End, &mut out[n..]);
+                n += l;
+                fresh = true;
+                inside = false;
+                g += 1;
+                at = next;
+            }
+            Step::Cut => return,
+            Step::Bad(_) => return,
+        }
+    }
+}
+
+// The first line of a font. Asks for room for the longest.
+fn put_first(f: Font, out: &mut [u8]) -> usize
+    requires { ⌜ 96 ≤ length (now out) ⌝ }
+    ensures { λ r. ⌜ (r ≡ length (firstLine f)) × (now (out .exit) ≡ over (firstLine f) (now (out .entry))) × (r ≤ 96) ⌝ }
+{
+    let kind = f.kind;
+    let a = put_kind(kind, out);
+    let b = a + put_number(f.count, 32, &mut out[a..]);
+    let d = b + put_number(f.height, 32, &mut out[b..]);
+    let e = d + put_number(f.width, 32, &mut out[d..]);
+    e + put_word(f.table, &mut out[e..])
+}
+
+// The line of a refusal. Asks for room for the longest.
+fn put_refused(r: Refusal, out: &mut [u8]) -> usize
+    requires { ⌜ 96 ≤ length (now out) ⌝ }
+    ensures { λ n. ⌜ (n ≡ length (refusedText r)) × (now (out .exit) ≡ over (refusedText r) (now (out .entry))) × (n ≤ 96) ⌝ }
+{
+    let a = put_text(b"refused ", out);
+    let b = a + put_number(base::size(refusal::number(r)), 32, &mut out[a..]);
+    b + put_number(refusal::place(r), 10, &mut out[b..])
+}
+
+// How many bytes the lines of a font's table are, none for a bare one. Asks that the header passed and the file is one that is listed.
+fn lines_len(file: &[u8], f: Font) -> usize
+    requires { ⌜ (Placed (now file) f) × (length (now file) ≤ 65536) ⌝ }
+    ensures { λ r. ⌜ (r ≡ length (linesText (now (file .entry)) f)) × (r ≤ 917504) ⌝ }
+{
+    if f.table {
+        let end = f.end;
+        let kind = f.kind;
+        return table_len(font::coding_of(kind), &file[end..]);
+    }
+    0
+}
+
+// The lines of a font's table to the front. Asks that the header passed, and for room: `lines_len` has measured.
+fn put_lines(file: &[u8], f: Font, out: &mut [u8])
+    requires { ⌜ (Placed (now file) f) × (length (linesText (now file) f) ≤ length (now out)) ⌝ }
+    ensures { λ _. ⌜ now (out .exit) ≡ over (linesText (now (file .entry)) f) (now (out .entry)) ⌝ }
+{
+    if f.table {
+        let end = f.end;
+        let kind = f.kind;
+        put_table(font::coding_of(kind), &file[end..], out);
+    }
+}
+
+// A text as a listing.
+fn list_text(text: &[u8], out: &mut [u8]) -> Listed
+    ensures { λ r. ⌜ (r ≡ listedOf (now (text .entry)) (length (now (out .entry)))) × (now (out .exit) ≡ leftOf (now (text .entry)) (now (out .entry))) ⌝ }
+{
+    let n = text.len();
+    if out.len() < n {
+        return Listed::Refused(Refusal::Room(n));
+    }
+    base::copy(text, out);
+    Listed::Wrote(n)
+}
+
+// The listing of a refused font.
+fn list_refused(r: Refusal, out: &mut [u8]) -> Listed
+    ensures equal { λ l. ⌜ (l ≡ listedOf (refusedText r) (length (now (out .entry)))) × (now (out .exit) ≡ leftOf (refusedText r) (now (out .entry))) ⌝ }
+    ensures bounded { λ _. ⌜ length (refusedText r) ≤ 96 ⌝ }
+{
+    let mut line = [0u8; 96];
+    let n = put_refused(r, &mut line);
+    list_text(&line[..n], out)
+}
+
+// The listing of a font whose check passed. Asks that the file is one that is listed.
+fn list_font(file: &[u8], f: Font, out: &mut [u8]) -> Listed
+    requires { ⌜ (Placed (now file) f) × (length (now file) ≤ 65536) ⌝ }
+    ensures equal { λ r. ⌜ (r ≡ listedOf (fontText (now (file .entry)) f) (length (now (out .entry)))) × (now (out .exit) ≡ leftOf (fontText (now (file .entry)) f) (now (out .entry))) ⌝ }
+    ensures bounded { λ _. ⌜ length (fontText (now (file .entry)) f) ≤ 917600 ⌝ }
+{
+    let mut line = [0u8; 96];
+    let n = put_first(f, &mut line);
+    let m = lines_len(file, f);
+    let total = n + m;
+    if out.len() < total {
+        return Listed::Refused(Refusal::Room(total));
+    }
+    base::copy(&line[..n], out);
+    put_lines(file, f, &mut out[n..]);
+    Listed::Wrote(total)
+}
+
+// The listing of a file, whatever it holds, to the front of a buffer. Refusal: ROOM, place the bytes needed; 917,600 always suffice.
+pub fn list(file: &[u8], out: &mut [u8]) -> Listed
+    ensures equal { λ r. ⌜ (r ≡ listedOf (listingOf (now (file .entry))) (length (now (out .entry)))) × (now (out .exit) ≡ leftOf (listingOf (now (file .entry))) (now (out .entry))) ⌝ }
+    ensures bounded { λ _. ⌜ length (listingOf (now (file .entry))) ≤ 917600 ⌝ }
+{
+    if 65536 < file.len() {
+        return list_text(b"too big\n", out);
+    }
+    let a = font::check(file);
+    match a {
+        Checked::Sound(f) => list_font(file, f, out),
+        Checked::Refused(r) => list_refused(r, out),
+    }
+}
