@@ -48,9 +48,11 @@ entry-at c h w j (suc k) (suc i) r l =
     let p = entryBytes (j * c) c h w in
     let q = entriesFrom c h w (suc j) k ++ r in
     let z : suc i * 18 ≡ length p + i * 18 = omega (arith, entry-length (j * c) c h w) in
-    let y : suc j + i ≡ j + suc i = omega arith in
-    (t .0, ap (drop (suc i * 18)) (append-assoc p (entriesFrom c h w (suc j) k) r) ∙ ap (λ (m : ℕ). drop m (p ++ q)) z ∙ drop-append-add p q (i * 18)
-    ∙ t .1 ∙ ap (λ (m : ℕ). entryBytes (m * c) c h w ++ t .0) y)
+    let y : suc j + i ≡ j + suc i = omega arith in (
+      t .0,
+      ap (drop (suc i * 18)) (append-assoc p (entriesFrom c h w (suc j) k) r) ∙ ap (λ (m : ℕ). drop m (p ++ q)) z ∙ drop-append-add p q (i * 18)
+          ∙ t .1 ∙ ap (λ (m : ℕ). entryBytes (m * c) c h w ++ t .0) y,
+    )
 
 -- an entry in front
 module _ (a c h w : ℕ) (x s : List ℕ) (e : s ≡ entryBytes a c h w ++ x) (la : a < 4294967296) (lc : c < 4294967296) (lh : h < 65536) (lw : w < 65536) where
@@ -76,9 +78,11 @@ module _ (m : ℕ) (t : Bool) (n z c h w : ℕ) (r o : List ℕ) (e : o ≡ head
         let p = header32 m t n z h w in
         let lp = header32-length m t n z h w in
         let y : 32 + i * 18 ≡ length p + i * 18 = omega (arith, lp) in
-        let v : 0 + i ≡ i = omega arith in
-        (q .0, ap (drop (32 + i * 18)) e ∙ ap (λ (k : ℕ). drop k (p ++ (entriesFrom c h w 0 n ++ r))) y ∙ drop-append-add p (entriesFrom c h w 0 n ++ r) (i * 18)
-        ∙ q .1 ∙ ap (λ (k : ℕ). entryBytes (k * c) c h w ++ q .0) v)
+        let v : 0 + i ≡ i = omega arith in (
+          q .0,
+          ap (drop (32 + i * 18)) e ∙ ap (λ (k : ℕ). drop k (p ++ (entriesFrom c h w 0 n ++ r))) y ∙ drop-append-add p (entriesFrom c h w 0 n ++ r) (i * 18)
+              ∙ q .1 ∙ ap (λ (k : ℕ). entryBytes (k * c) c h w ++ q .0) v,
+        )
 
     address-low : i * c < 4294967296
     address-low = let k : i ≤ 4096 = omega arith in let g = mul-le-mul k small in omega arith

@@ -323,7 +323,7 @@ module _ (s : List ℕ) (f : Font) (sound : checkOf s ≡ Sound f) (m : ℕ) whe
         back u =
             let at = entryAt (f .entries) (u .index) in
             let n : isEven s (f .height) (f .width) at ≡ false =
-                test-false (isEven s (f .height) (f .width) at) (even-is at) (subst (λ (x : ℕ). EvenGlyph s (f .height) (f .width) x → ⊥) (u .place) (u .uneven)) in
+            test-false (isEven s (f .height) (f .width) at) (even-is at) (subst (λ (x : ℕ). EvenGlyph s (f .height) (f .width) x → ⊥) (u .place) (u .uneven)) in
             stop at (uneven-found s (f .height) (f .width) (f .count) (f .entries) (u .index) (u .within) n (λ j l. even-is (entryAt (f .entries) j) .1 (u .first j l)))
             ∙ ap (λ (x : ℕ). Refused (Glyphs x)) (sym (u .place))
 
@@ -335,9 +335,12 @@ module _ (s : List ℕ) (m : ℕ) where
   module _ (r : Refusal) (e : checkOf s ≡ Unsound r) where
     pub own-refusal : (psf1ToPsf2 s m ≡ Refused r) × (psf2ToPsf1 s m ≡ Refused r) × (psf2ToVfont2 s m ≡ Refused r) × (vfont2ToPsf2 s m ≡ Refused r)
     unfolding psf1ToPsf2 psf1ToPsf2Plan psf2ToPsf1 psf2ToPsf1Plan psf2ToVfont2 psf2ToVfont2Plan vfont2ToPsf2 vfont2ToPsf2Plan
-    own-refusal =
-        (unopened Psf1 r _ (sym (plan-cases.opened-refused Psf1 s r e)), unopened Psf2 r _ (sym (plan-cases.opened-refused Psf2 s r e)),
-        unopened Psf2 r _ (sym (plan-cases.opened-refused Psf2 s r e)), unopened Vfont2 r _ (sym (plan-cases.opened-refused Vfont2 s r e)))
+    own-refusal = (
+      unopened Psf1 r _ (sym (plan-cases.opened-refused Psf1 s r e)),
+      unopened Psf2 r _ (sym (plan-cases.opened-refused Psf2 s r e)),
+      unopened Psf2 r _ (sym (plan-cases.opened-refused Psf2 s r e)),
+      unopened Vfont2 r _ (sym (plan-cases.opened-refused Vfont2 s r e)),
+    )
 
   module _ (f : Font) (e : checkOf s ≡ Sound f) where
     differs : (k : Kind) → (f .kind ≡ k → ⊥) → openedOf k s ≡ Unsound WrongKind
@@ -350,6 +353,9 @@ module _ (s : List ℕ) (m : ℕ) where
     pub wrong-kind : ((f .kind ≡ Psf1 → ⊥) → psf1ToPsf2 s m ≡ Refused WrongKind) × ((f .kind ≡ Psf2 → ⊥) → psf2ToPsf1 s m ≡ Refused WrongKind)
         × ((f .kind ≡ Psf2 → ⊥) → psf2ToVfont2 s m ≡ Refused WrongKind) × ((f .kind ≡ Vfont2 → ⊥) → vfont2ToPsf2 s m ≡ Refused WrongKind)
     unfolding psf1ToPsf2 psf1ToPsf2Plan psf2ToPsf1 psf2ToPsf1Plan psf2ToVfont2 psf2ToVfont2Plan vfont2ToPsf2 vfont2ToPsf2Plan
-    wrong-kind =
-        (λ n. unopened Psf1 WrongKind _ (differs Psf1 n), λ n. unopened Psf2 WrongKind _ (differs Psf2 n),
-        λ n. unopened Psf2 WrongKind _ (differs Psf2 n), λ n. unopened Vfont2 WrongKind _ (differs Vfont2 n))
+    wrong-kind = (
+      λ n. unopened Psf1 WrongKind _ (differs Psf1 n),
+      λ n. unopened Psf2 WrongKind _ (differs Psf2 n),
+      λ n. unopened Psf2 WrongKind _ (differs Psf2 n),
+      λ n. unopened Vfont2 WrongKind _ (differs Vfont2 n),
+    )

@@ -83,8 +83,15 @@ module _ (s : List ℕ) (f : Font) (n : ℕ) (y : Bytes s) (ready : psf1ToPsf2Pl
       let p = is-placed s f y (r .0) in
       let k : Even f = is-kind s f y (r .0) Psf1 (r .1) in
       let h = header32 0x864AB572 (f .table) (f .count) (f .size) (f .height) (f .width) in
-      omega (arith, ap length psf1-to-psf2-is, length-append (h ++ bitmapsOf s f) (recoded Ucs2 Utf8 (tailOf s f)), length-append h (bitmapsOf s f),
-      header32-length 0x864AB572 (f .table) (f .count) (f .size) (f .height) (f .width), bitmaps-length s f (k .0) (p .7), r .2 .1)
+      omega (
+        arith,
+        ap length psf1-to-psf2-is,
+        length-append (h ++ bitmapsOf s f) (recoded Ucs2 Utf8 (tailOf s f)),
+        length-append h (bitmapsOf s f),
+        header32-length 0x864AB572 (f .table) (f .count) (f .size) (f .height) (f .width),
+        bitmaps-length s f (k .0) (p .7),
+        r .2 .1,
+      )
 
   pub psf1-to-psf2-tail : tailOf (psf1ToPsf2Bytes s f) (psf2Font (written (f .table) (f .count) (f .size) (f .height) (f .width))) ≡ recoded Ucs2 Utf8 (tailOf s f)
   psf1-to-psf2-tail =
@@ -172,8 +179,15 @@ module _ (s : List ℕ) (f : Font) (n : ℕ) (y : Bytes s) (ready : psf2ToPsf1Pl
       let p = is-placed s f y (r .0) in
       let k : Even f = is-kind s f y (r .0) Psf2 (r .1) in
       let h = header4 (f .count) (f .table) (f .height) in
-      omega (arith, ap length psf2-to-psf1-is, length-append (h ++ bitmapsOf s f) (recoded Utf8 Ucs2 (tailOf s f)), length-append h (bitmapsOf s f),
-      header4-length (f .count) (f .table) (f .height), bitmaps-length s f (k .0) (p .7), r .2 .2 .1)
+      omega (
+        arith,
+        ap length psf2-to-psf1-is,
+        length-append (h ++ bitmapsOf s f) (recoded Utf8 Ucs2 (tailOf s f)),
+        length-append h (bitmapsOf s f),
+        header4-length (f .count) (f .table) (f .height),
+        bitmaps-length s f (k .0) (p .7),
+        r .2 .2 .1,
+      )
 
   -- a glyph of width 8 has as many bytes as rows
   pub as-many : f .size ≡ f .height
@@ -236,7 +250,7 @@ module _ (s : List ℕ) (f : Font) (n : ℕ) (y : Bytes s) (ready : psf2ToPsf1Pl
       let ew = sym (r .2 .1) in
       let moved = glyph-moved s f (k .0) (p .7) 4 h tl o (header4-length (f .count) (f .table) (f .height)) psf2-to-psf1-is in
       let lo : (g : ℕ) → g < f .count → bitmapOf o f' g ≡ bitmapAt (4 + g * f .size) (f .size) (f .height) (f .width) =
-          λ g l. located o f' g Psf1 refl l ∙ λ j. bitmapAt (4 + g * ez j) (ez j) (f .height) (ew j) in
+      λ g l. located o f' g Psf1 refl l ∙ λ j. bitmapAt (4 + g * ez j) (ez j) (f .height) (ew j) in
       record {
         font = f';
         sound = psf2-to-psf1-sound;
@@ -270,8 +284,16 @@ module _ (s : List ℕ) (f : Font) (n : ℕ) (y : Bytes s) (ready : psf2ToVfont2
       let p = is-placed s f y (r .0) in
       let k : Even f = is-kind s f y (r .0) Psf2 (r .1) in
       let h = header32 0x68A45B27 (f .table) (f .count) (f .count * f .size) (f .height) (f .width) ++ entriesFrom (f .size) (f .height) (f .width) 0 (f .count) in
-      omega (arith, ap length psf2-to-vfont2-is, length-append (h ++ bitmapsOf s f) (tailOf s f), length-append h (bitmapsOf s f),
-      entries-front, bitmaps-length s f (k .0) (p .7), length-drop (f .end) s, r .2 .0)
+      omega (
+        arith,
+        ap length psf2-to-vfont2-is,
+        length-append (h ++ bitmapsOf s f) (tailOf s f),
+        length-append h (bitmapsOf s f),
+        entries-front,
+        bitmaps-length s f (k .0) (p .7),
+        length-drop (f .end) s,
+        r .2 .0,
+      )
 
   module _ (g : ℕ) (l : g < f .count) where
     pub flat : psf2ToVfont2Bytes s f ≡ header32 0x68A45B27 (f .table) (f .count) (f .count * f .size) (f .height) (f .width)
@@ -293,9 +315,10 @@ module _ (s : List ℕ) (f : Font) (n : ℕ) (y : Bytes s) (ready : psf2ToVfont2
         let ac : 1 ≤ f .size = omega (arith, k .1, glyph-some (f .height) (f .width) (sh .2) (sh .4)) in
         let en = written-entry 0x68A45B27 (f .table) (f .count) (f .count * f .size) (f .size) (f .height) (f .width) (bitmapsOf s f ++ tailOf s f) o flat (sh .1) (sh .3) (sh .5) (k .1) g l (sh .2) (sh .4) ac in
         let ad = written-address 0x68A45B27 (f .table) (f .count) (f .count * f .size) (f .size) (f .height) (f .width) (bitmapsOf s f ++ tailOf s f) o flat (sh .1) (sh .3) (sh .5) (k .1) g l in
-        let fs = written-fields 0x68A45B27 (f .table) (f .count) (f .count * f .size) (f .size) (f .height) (f .width) (bitmapsOf s f ++ tailOf s f) o flat (sh .1) (sh .3) (sh .5) (k .1) g l ac in
-        (located o f' g Vfont2 refl l ∙ ap (entryBitmap o f' (32 + g * 18)) en ∙ (λ j. bitmapAt (32 + f .count * 18 + ad .0 j) (ad .1 j) (f .height) (f .width)),
-        even-metrics o (f .height) (f .width) (32 + g * 18) (omega (arith, sh .3)) (omega (arith, sh .5)) fs)
+        let fs = written-fields 0x68A45B27 (f .table) (f .count) (f .count * f .size) (f .size) (f .height) (f .width) (bitmapsOf s f ++ tailOf s f) o flat (sh .1) (sh .3) (sh .5) (k .1) g l ac in (
+          located o f' g Vfont2 refl l ∙ ap (entryBitmap o f' (32 + g * 18)) en ∙ (λ j. bitmapAt (32 + f .count * 18 + ad .0 j) (ad .1 j) (f .height) (f .width)),
+          even-metrics o (f .height) (f .width) (32 + g * 18) (omega (arith, sh .3)) (omega (arith, sh .5)) fs,
+        )
 
   pub psf2-to-vfont2-tail : tailOf (psf2ToVfont2Bytes s f) (vfont2Font (written (f .table) (f .count) (f .count * f .size) (f .height) (f .width))) ≡ tailOf s f
   psf2-to-vfont2-tail =
@@ -395,8 +418,16 @@ module _ (s : List ℕ) (f : Font) (n : ℕ) (y : Bytes s) (ready : vfont2ToPsf2
       let r = vfont2-to-psf2-ready s f n ready in
       let h = header32 0x864AB572 (f .table) (f .count) (evenSize f) (f .height) (f .width) in
       let g = glyphsFrom s (f .entries) (f .bitmaps) (evenSize f) 0 (f .count) in
-      omega (arith, ap length vfont2-to-psf2-is, length-append (h ++ g) (tailOf s f), length-append h g,
-      header32-length 0x864AB572 (f .table) (f .count) (evenSize f) (f .height) (f .width), gathered-length, length-drop (f .end) s, r .2 .1)
+      omega (
+        arith,
+        ap length vfont2-to-psf2-is,
+        length-append (h ++ g) (tailOf s f),
+        length-append h g,
+        header32-length 0x864AB572 (f .table) (f .count) (evenSize f) (f .height) (f .width),
+        gathered-length,
+        length-drop (f .end) s,
+        r .2 .1,
+      )
 
   pub vfont2-to-psf2-tail : tailOf (vfont2ToPsf2Bytes s f) (psf2Font (written (f .table) (f .count) (evenSize f) (f .height) (f .width))) ≡ tailOf s f
   vfont2-to-psf2-tail =
@@ -442,13 +473,13 @@ module _ (s : List ℕ) (f : Font) (n : ℕ) (y : Bytes s) (ready : vfont2ToPsf2
       let a : ℕ → ℕ = λ g. 32 + g * c in
       let b : ℕ → ℕ = λ g. f .bitmaps + addressAt s (f .entries + g * 18) in
       let moved : (g : ℕ) → g < f .count → take c (drop (32 + g * c) o) ≡ take c (drop (f .bitmaps + addressAt s (f .entries + g * 18)) s) =
-          λ g l. ap (λ (x : List ℕ). take c (drop (32 + g * c) x)) vfont2-to-psf2-is
-          ∙ part-of-middle c 32 (g * c) h gs (tailOf s f) (header32-length 0x864AB572 (f .table) (f .count) c (f .height) (f .width)) (omega (arith, gathered-length, nth-within g (f .count) c l))
-          ∙ nth-glyph s (f .entries) (f .bitmaps) c 0 (f .count) g each-inside l
-          ∙ ap (λ (m : ℕ). take c (drop (f .bitmaps + addressAt s (f .entries + m * 18)) s)) (zero-left g) in
+      λ g l. ap (λ (x : List ℕ). take c (drop (32 + g * c) x)) vfont2-to-psf2-is
+      ∙ part-of-middle c 32 (g * c) h gs (tailOf s f) (header32-length 0x864AB572 (f .table) (f .count) c (f .height) (f .width)) (omega (arith, gathered-length, nth-within g (f .count) c l))
+      ∙ nth-glyph s (f .entries) (f .bitmaps) c 0 (f .count) g each-inside l
+      ∙ ap (λ (m : ℕ). take c (drop (f .bitmaps + addressAt s (f .entries + m * 18)) s)) (zero-left g) in
       let ls : (g : ℕ) → g < f .count → bitmapOf s f g ≡ bitmapAt (f .bitmaps + addressAt s (f .entries + g * 18)) c (f .height) (f .width) =
-          λ g l. located s f g Vfont2 (r .1) l ∙ ap (entryBitmap s f (f .entries + g * 18)) (its-entry s f y (r .0) (r .1) (r .2 .0) g l)
-          ∙ ap (λ (z : ℕ). bitmapAt (f .bitmaps + addressAt s (f .entries + g * 18)) z (f .height) (f .width)) (its-size s f y (r .0) (r .1) (r .2 .0) g l) in
+      λ g l. located s f g Vfont2 (r .1) l ∙ ap (entryBitmap s f (f .entries + g * 18)) (its-entry s f y (r .0) (r .1) (r .2 .0) g l)
+      ∙ ap (λ (z : ℕ). bitmapAt (f .bitmaps + addressAt s (f .entries + g * 18)) z (f .height) (f .width)) (its-size s f y (r .0) (r .1) (r .2 .0) g l) in
       record {
         font = f';
         sound = vfont2-to-psf2-sound;

@@ -196,7 +196,10 @@ module _ (s xs ys : List ℕ) (n k : ℕ) (y : Bytes s) where
       let b = psf2-to-vfont2-keeps o (v .font) k yo (v .ready) in
       let same : v .font ≡ a .font = trips.one-font o (v .font) (a .font) (psf2-to-vfont2-ready o (v .font) k (v .ready) .0) (a .sound) in
       let q : take k (laid (psf2ToVfont2Plan (take n (laid (vfont2ToPsf2Plan s) (vfont2ToPsf2Bytes s) xs))) (psf2ToVfont2Bytes (take n (laid (vfont2ToPsf2Plan s) (vfont2ToPsf2Bytes s) xs))) ys) ≡ psf2ToVfont2Bytes o (v .font) =
-          ap (λ (x : List ℕ). take k (laid (psf2ToVfont2Plan x) (psf2ToVfont2Bytes x) ys)) f
-          ∙ ap (take k) (v .laid-over) ∙ front-is _ ys k (psf2-to-vfont2-length o (v .font) k yo (v .ready)) in
-      (w .font, vfont2-to-psf2-ready s (w .font) n (w .ready) .0, subst (λ (x : List ℕ). Keeps s (w .font) x Vfont2) (sym q)
-      (trips.kept-twice s o (psf2ToVfont2Bytes o (v .font)) (w .font) Psf2 Vfont2 a (subst (λ (g : Font). Keeps o g (psf2ToVfont2Bytes o (v .font)) Vfont2) same b)))
+      ap (λ (x : List ℕ). take k (laid (psf2ToVfont2Plan x) (psf2ToVfont2Bytes x) ys)) f
+      ∙ ap (take k) (v .laid-over) ∙ front-is _ ys k (psf2-to-vfont2-length o (v .font) k yo (v .ready)) in (
+        w .font,
+        vfont2-to-psf2-ready s (w .font) n (w .ready) .0,
+        subst (λ (x : List ℕ). Keeps s (w .font) x Vfont2) (sym q)
+            (trips.kept-twice s o (psf2ToVfont2Bytes o (v .font)) (w .font) Psf2 Vfont2 a (subst (λ (g : Font). Keeps o g (psf2ToVfont2Bytes o (v .font)) Vfont2) same b)),
+      )

@@ -57,11 +57,11 @@ module _ (s : List ℕ) (f : Font) (n : ℕ) (y : Bytes s) (ready : psf2ToPsf1Pl
       let lb : length (bitmapsOf s f) ≡ f .count * f .height = bitmaps-length s f (ev .0) (p .7) ∙ ap (λ (x : ℕ). f .count * x) es in
       let fg : psf1Font (f .count) (f .height) (f .table) ≡ g = one-font o _ g (psf2-to-psf1-sound s f n y ready) (psf1-to-psf2-ready o g k q .0) in
       let mid : take (f .count * f .height) (drop 4 o) ≡ bitmapsOf s f =
-          middle 4 (f .count * f .height) (header4 (f .count) (f .table) (f .height)) (bitmapsOf s f) (recoded Utf8 Ucs2 (tailOf s f)) o (header4-length (f .count) (f .table) (f .height)) lb (psf2-to-psf1-is s f n y ready) in
+      middle 4 (f .count * f .height) (header4 (f .count) (f .table) (f .height)) (bitmapsOf s f) (recoded Utf8 Ucs2 (tailOf s f)) o (header4-length (f .count) (f .table) (f .height)) lb (psf2-to-psf1-is s f n y ready) in
       let ct : codingOf (f .kind) ≡ Utf8 = ap codingOf (r .1) in
       let ts = subst (λ (c : Coding). Tail (f .table) c (f .count) (tailOf s f)) ct (tail-known s f y (r .0)) in
       let tl : recoded Ucs2 Utf8 (tailOf o (psf1Font (f .count) (f .height) (f .table))) ≡ tailOf s f =
-          ap (recoded Ucs2 Utf8) (psf2-to-psf1-tail s f n y ready) ∙ back-again Utf8 Ucs2 (tailOf s f) _ (r .2 .2 .0) (f .table) (f .count) ts in
+      ap (recoded Ucs2 Utf8) (psf2-to-psf1-tail s f n y ready) ∙ back-again Utf8 Ucs2 (tailOf s f) _ (r .2 .2 .0) (f .table) (f .count) ts in
       sym (ap (λ (x : Font). header32 0x864AB572 (x .table) (x .count) (x .size) (x .height) (x .width) ++ bitmapsOf o x ++ recoded Ucs2 Utf8 (tailOf o x)) fg)
       ∙ (λ i. header32 0x864AB572 (f .table) (f .count) (sym es i) (f .height) (sym (r .2 .1) i) ++ mid i ++ tl i)
       ∙ sym (psf2-self s f y (r .0) (r .1) eb)
@@ -79,12 +79,12 @@ module _ (s : List ℕ) (f : Font) (n : ℕ) (y : Bytes s) (ready : psf1ToPsf2Pl
       let lb = bitmaps-length s f (ev .0) (p .7) in
       let fg : psf2Font w ≡ g = one-font o _ g (psf1-to-psf2-sound s f n y ready) (psf2-to-psf1-ready o g k q .0) in
       let mid : take (f .count * f .size) (drop 32 o) ≡ bitmapsOf s f =
-          middle 32 (f .count * f .size) (header32 0x864AB572 (f .table) (f .count) (f .size) (f .height) (f .width)) (bitmapsOf s f) (recoded Ucs2 Utf8 (tailOf s f)) o
-          (header32-length 0x864AB572 (f .table) (f .count) (f .size) (f .height) (f .width)) lb (psf1-to-psf2-is s f n y ready) in
+      middle 32 (f .count * f .size) (header32 0x864AB572 (f .table) (f .count) (f .size) (f .height) (f .width)) (bitmapsOf s f) (recoded Ucs2 Utf8 (tailOf s f)) o
+      (header32-length 0x864AB572 (f .table) (f .count) (f .size) (f .height) (f .width)) lb (psf1-to-psf2-is s f n y ready) in
       let ct : codingOf (f .kind) ≡ Ucs2 = ap codingOf (r .1) in
       let ts = subst (λ (c : Coding). Tail (f .table) c (f .count) (tailOf s f)) ct (tail-known s f y (r .0)) in
       let tl : recoded Utf8 Ucs2 (tailOf o (psf2Font w)) ≡ tailOf s f =
-          ap (recoded Utf8 Ucs2) (psf1-to-psf2-tail s f n y ready) ∙ back-again Ucs2 Utf8 (tailOf s f) _ (r .2 .0) (f .table) (f .count) ts in
+      ap (recoded Utf8 Ucs2) (psf1-to-psf2-tail s f n y ready) ∙ back-again Ucs2 Utf8 (tailOf s f) _ (r .2 .0) (f .table) (f .count) ts in
       sym (ap (λ (x : Font). header4 (x .count) (x .table) (x .height) ++ bitmapsOf o x ++ recoded Utf8 Ucs2 (tailOf o x)) fg)
       ∙ (λ i. header4 (f .count) (f .table) (f .height) ++ mid i ++ tl i)
       ∙ sym (psf1-self s f y (r .0) (r .1) em)
@@ -116,12 +116,12 @@ module _ (s : List ℕ) (f : Font) (n : ℕ) (y : Bytes s) (ready : psf2ToVfont2
       let fg : vfont2Font w ≡ g = one-font o _ g (psf2-to-vfont2-sound s f n y ready) (vfont2-to-psf2-ready o g k q .0) in
       let moved = glyph-moved s f (ev .0) (p .7) (32 + f .count * 18) (header32 0x68A45B27 (f .table) (f .count) (f .count * z) (f .height) (f .width) ++ entriesFrom z (f .height) (f .width) 0 (f .count)) (tailOf s f) o (entries-front s f n y ready) (psf2-to-vfont2-is s f n y ready) in
       let each : (i : ℕ) → i < 0 + f .count → take z (drop (32 + f .count * 18 + addressAt o (32 + i * 18)) o) ≡ take z (drop (f .bitmaps + i * z) s) =
-          λ i l. ap (λ (a : ℕ). take z (drop (32 + f .count * 18 + a) o))
-          (written-address 0x68A45B27 (f .table) (f .count) (f .count * z) z (f .height) (f .width) (bitmapsOf s f ++ tailOf s f) o (flat s f n y ready i (omega arith)) (sh .1) (sh .3) (sh .5) (ev .1) i (omega arith) .0)
-          ∙ moved i (omega arith) in
+      λ i l. ap (λ (a : ℕ). take z (drop (32 + f .count * 18 + a) o))
+      (written-address 0x68A45B27 (f .table) (f .count) (f .count * z) z (f .height) (f .width) (bitmapsOf s f ++ tailOf s f) o (flat s f n y ready i (omega arith)) (sh .1) (sh .3) (sh .5) (ev .1) i (omega arith) .0)
+      ∙ moved i (omega arith) in
       let v : f .bitmaps + 0 * z ≡ f .bitmaps = omega arith in
       let mid : glyphsFrom o 32 (32 + f .count * 18) z 0 (f .count) ≡ bitmapsOf s f =
-          gather-back o s 32 (32 + f .count * 18) z (f .bitmaps) 0 (f .count) each ∙ ap (λ (a : ℕ). take (f .count * z) (drop a s)) v in
+      gather-back o s 32 (32 + f .count * 18) z (f .bitmaps) 0 (f .count) each ∙ ap (λ (a : ℕ). take (f .count * z) (drop a s)) v in
       sym (ap (λ (x : Font). header32 0x864AB572 (x .table) (x .count) (evenSize x) (x .height) (x .width) ++ glyphsFrom o (x .entries) (x .bitmaps) (evenSize x) 0 (x .count) ++ tailOf o x) fg)
       ∙ ap (λ (c : ℕ). header32 0x864AB572 (f .table) (f .count) c (f .height) (f .width) ++ glyphsFrom o 32 (32 + f .count * 18) c 0 (f .count) ++ tailOf o (vfont2Font w)) (sym (ev .1))
       ∙ (λ i. header32 0x864AB572 (f .table) (f .count) z (f .height) (f .width) ++ mid i ++ psf2-to-vfont2-tail s f n y ready i)

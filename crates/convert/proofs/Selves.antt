@@ -157,7 +157,7 @@ module _ (s : List ℕ) (f : Font) (y : Bytes s) (e : checkOf s ≡ Sound f) whe
       let hb = header-back s y (h .0) 0x864AB572 (psf2-magic s (r .0)) (h .1) e8 (h .2) in
       let p = parts-of s 32 (le32 s 16) (le32 s 20) in
       let w : s ≡ header32 0x864AB572 (eqb (le32 s 12) 1) (le32 s 16) (le32 s 20) (le32 s 24) (le32 s 28) ++ take (le32 s 16 * le32 s 20) (drop (le32 s 8) s) ++ drop (le32 s 8 + le32 s 16 * le32 s 20) s =
-          p ∙ λ i. sym hb i ++ take (le32 s 16 * le32 s 20) (drop (sym e8 i) s) ++ drop (sym e8 i + le32 s 16 * le32 s 20) s in
+      p ∙ λ i. sym hb i ++ take (le32 s 16 * le32 s 20) (drop (sym e8 i) s) ++ drop (sym e8 i + le32 s 16 * le32 s 20) s in
       subst (λ (g : Font). s ≡ header32 0x864AB572 (g .table) (g .count) (g .size) (g .height) (g .width) ++ bitmapsOf s g ++ tailOf s g) (r .2 .0) w
 
   -- a PSF1 file of mode 0 to 3
@@ -168,5 +168,5 @@ module _ (s : List ℕ) (f : Font) (y : Bytes s) (e : checkOf s ≡ Sound f) whe
       let n = psf1Count (getD s 2 0) in
       let z = getD s 3 0 in
       let w : s ≡ header4 n (psf1Table (getD s 2 0)) z ++ take (n * z) (drop 4 s) ++ drop (4 + n * z) s =
-          parts-of s 4 n z ∙ λ i. sym hb i ++ take (n * z) (drop 4 s) ++ drop (4 + n * z) s in
+      parts-of s 4 n z ∙ λ i. sym hb i ++ take (n * z) (drop 4 s) ++ drop (4 + n * z) s in
       subst (λ (g : Font). s ≡ header4 (g .count) (g .table) (g .height) ++ bitmapsOf s g ++ tailOf s g) (r .1 .0) w
