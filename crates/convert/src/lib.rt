@@ -1,4 +1,4 @@
-// The public conversions of Lavandol: each takes any bytes and any buffer. Definitions: specs/Conversions.antt (what a call answers and
+// Inner layer: the conversions, each on any bytes and any buffer; `fonts` is their public face. Definitions: specs/Conversions.antt (what a call answers and
 // leaves in the buffer), specs/Outputs.antt (the outputs).
 use coding::Coding;
 use header::Font;

@@ -3,9 +3,11 @@
 //! and buffer. All fonts come from fixed seeds, so every run asks the same.
 //!
 //! A difference prints the question, both answers and the file in hexadecimal, and
-//! the run ends with status 1. `compare THREADS` sets how many threads share the work.
+//! the run ends with status 1. `compare THREADS` sets how many threads share the work;
+//! `compare files FONTLIST FILE..` asks everything of the files named (tools/real-fonts).
 
 mod ask;
+mod files;
 mod fonts;
 #[allow(dead_code)]
 #[path = "../../vectors/src/make.rs"]
@@ -98,6 +100,10 @@ fn run(series: &Series, threads: usize) -> Tally {
 }
 
 fn main() {
+    let words: Vec<String> = std::env::args().skip(1).collect();
+    if words.first().is_some_and(|w| w == "files") {
+        return report(files::run(&words[1], &words[2..]), Instant::now());
+    }
     let most = std::thread::available_parallelism().map_or(1, |n| n.get());
     let threads = std::env::args().nth(1).map_or(most, |n| n.parse().expect("a number of threads"));
     let start = Instant::now();
@@ -118,6 +124,10 @@ fn main() {
             break;
         }
     }
+    report(total, start);
+}
+
+fn report(total: Tally, start: Instant) {
     println!(
         "{} files, {} of them sound, {} answers, {:.0} s, differences: {}",
         total.files,
