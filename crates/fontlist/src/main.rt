@@ -1,6 +1,6 @@
 // Reads a file of up to 65,536 bytes from standard input and writes its listing: what the text holds is proved of `listing::list`.
-// One byte more is read, so that a longer file is told. The buffer is as long as the longest listing (the contract of `list`),
-// so ROOM is never answered; nothing would be written.
+// One byte more is read, so that a longer file is told. No listing is longer than the buffer (the contract of `listing::list`), so
+// ROOM is never answered; for it nothing would be written.
 use listing::Listed;
 
 // The listing of a file, by way of a buffer.

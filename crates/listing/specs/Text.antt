@@ -96,6 +96,7 @@ tableText c s = linesOf 0 true (itemsIn c s)
 unfoldable pub linesText : List ℕ → Font → List ℕ
 linesText s f = pick (f .table) (tableText (codingOf (f .kind)) (tailOf s f)) []
 
+-- the first line, and the lines after it
 unfoldable pub fontText : List ℕ → Font → List ℕ
 fontText s f = firstLine f ++ linesText s f
 
@@ -107,6 +108,7 @@ refusedText r = (114 ∷ 101 ∷ 102 ∷ 117 ∷ 115 ∷ 101 ∷ 100 ∷ 32 ∷ 
 abbrev pub bigText : List ℕ
 bigText = 116 ∷ 111 ∷ 111 ∷ 32 ∷ 98 ∷ 105 ∷ 103 ∷ 10 ∷ []
 
+-- what the check answers, as text
 abbrev pub answerText : List ℕ → Checked → List ℕ
 answerText s (Sound f) = fontText s f
 answerText s (Refused r) = refusedText r
