@@ -1,16 +1,18 @@
 -- The bitmap questions on a sound font: ASK and NO GLYPH are given exactly when their rows say, and else the part stands in the file.
--- `glyph_part` answers `glyphPartOf s g`.
+-- `glyph_part` answers `glyphPartOf s g`, `row_part` answers `rowPartOf s g y`, `pixel` answers `pixelAt s g y x`.
 use mathlib.Core.Path.{_≡_, refl, sym, _∙_, ap, subst}
 use mathlib.Core.Logic.{_↔_, _⊎_, inl, inr}
 use mathlib.Core.List.{List}
-use Prim.Native.Nat.{ℕ, _+_, _*_, _≤_, _<_}
+use Prim.Native.Nat.{ℕ, _+_, _*_, _/_, _%_, _≤_, _<_}
 use native.Mathlib.Omega.{arith}
-use lib.ListN.{length}
+use lib.ListN.{length, getD}
+use borrow.Author.Tests.{lt-ltb, le-ltb}
+use Rattle.base.specs.Choice.{when}
 use Rattle.base.specs.Bytes.{Bytes}
 use Rattle.base.proofs.Tests.{below}
 use Rattle.refusal.specs.declared.Refusal.{Refusal}
 use Rattle.refusal.specs.declared.Refusal.the-variants.{Ask, NoGlyph}
-use Rattle.entries.specs.Entries.{sizeAt, entryOf}
+use Rattle.entries.specs.Entries.{sizeAt, rowBytes, entryOf}
 use Rattle.entries.specs.Rules.{entryAt, HasGlyph, Breaks}
 use Rattle.entries.specs.declared.Entry.{Entry}
 use Rattle.entries.specs.declared.Entry.the-variants.{Empty, Glyph, Broken}
@@ -28,11 +30,13 @@ use Rattle.bitmap.specs.declared.Located.{Located}
 use Rattle.bitmap.specs.declared.Located.the-variants.{Found, Missing}
 use Rattle.bitmap.specs.declared.Part.{Part}
 use Rattle.bitmap.specs.declared.Part.the-variants.{At, Refused}
-use Rattle.bitmap.specs.Bitmaps.{evenBitmap, entryBitmap, bitmapOf, wholeOf, Inside, LocatedInside}
-use Rattle.bitmap.proofs.Places.{known, located-inside, too-high}
+use Rattle.bitmap.specs.declared.Pixel.{Pixel}
+use Rattle.bitmap.specs.declared.Pixel.the-variants.{Bit, NoPixel}
+use Rattle.bitmap.specs.Bitmaps.{evenBitmap, entryBitmap, bitmapOf, wholeOf, rowOf, bitOf, pixelOf, Inside, LocatedInside}
+use Rattle.bitmap.proofs.Places.{known, located-inside, too-high, row-below, pixel-below}
 use Rattle.font.specs.Check.{checkOf}
 use Rattle.font.proofs.Cases.{accepted}
-use Rattle.fonts.specs.Questions.{glyphPartOf}
+use Rattle.fonts.specs.Questions.{glyphPartOf, rowPartOf, pixelAt}
 use Rattle.laws.proofs.Rows.{equal}
 use Rattle.laws.proofs.Reading.{third-byte}
 
@@ -41,6 +45,23 @@ ask-glyph x e f = let z : _≡_ {A = ℕ} 0 1 = cc in absurd (omega arith)
 
 found-refused : {A : Type 0} (x : Part) (a b : ℕ) (r : Refusal) → x ≡ At a b → x ≡ Refused r → A
 found-refused x a b r e f = let z : _≡_ {A = ℕ} 0 1 = cc in absurd (omega arith)
+
+bit-refused : {A : Type 0} (x : Pixel) (v : ℕ) (r : Refusal) → x ≡ Bit v → x ≡ NoPixel r → A
+bit-refused x v r e f = let z : _≡_ {A = ℕ} 0 1 = cc in absurd (omega arith)
+
+-- a row and a pixel that a bitmap has, and a column that it has not
+row-at : (b : Bitmap) (y : ℕ) → y < b .height → rowOf (Found b) y ≡ At (b .start + y * rowBytes (b .width)) (rowBytes (b .width))
+unfolding when
+row-at b y h = rw (lt-ltb y (b .height) h)
+
+pixel-in : (s : List ℕ) (b : Bitmap) (y x : ℕ) → y < b .height → x < b .width →
+    pixelOf s (Found b) y x ≡ Bit (bitOf (getD s (b .start + y * rowBytes (b .width) + x / 8) 0) (x % 8))
+unfolding when
+pixel-in s b y x h w = rw (lt-ltb y (b .height) h, lt-ltb x (b .width) w)
+
+pixel-past : (s : List ℕ) (b : Bitmap) (y x : ℕ) → y < b .height → b .width ≤ x → pixelOf s (Found b) y x ≡ NoPixel Ask
+unfolding when
+pixel-past s b y x h w = rw (lt-ltb y (b .height) h, le-ltb x (b .width) w)
 
 -- a glyph's bitmap is found, or its entry has none
 abbrev Outcome : List ℕ → Font → ℕ → Type 0
@@ -130,3 +151,39 @@ module _ (s : List ℕ) (y : Bytes s) (f : Font) (sound : checkOf s ≡ Sound f)
       go : Outcome s f g → (b : Bitmap) × (glyphPartOf s g ≡ At (b .start) (b .len)) × (bitmapOf s f g ≡ Found b) × Inside s b
       go (inl o) = absurd (some (o .0) (o .1))
       go (inr (b, k, o)) = (b, asks g ∙ ap wholeOf o, o, subst (LocatedInside s) o (located-inside s f g stands h))
+
+  row-asks : (g y : ℕ) → rowPartOf s g y ≡ rowOf (bitmapOf s f g) y
+  unfolding rowPartOf
+  row-asks g y = rw sound
+
+  -- a row of a glyph that has a bitmap is refused with ASK exactly when the row number is too high
+  pub row-ask-exactly : (g y : ℕ) (b : Bitmap) → bitmapOf s f g ≡ Found b → (rowPartOf s g y ≡ Refused Ask) ↔ (b .height ≤ y)
+  row-ask-exactly g y b e = (go (below y (b .height)), λ h. told ∙ sym (row-below b y h))
+    where
+      told : rowPartOf s g y ≡ rowOf (Found b) y
+      told = row-asks g y ∙ ap (λ (l : Located). rowOf l y) e
+
+      go : (y < b .height) ⊎ (b .height ≤ y) → rowPartOf s g y ≡ Refused Ask → b .height ≤ y
+      go (inl h) q = found-refused _ _ _ _ (told ∙ row-at b y h) q
+      go (inr h) q = h
+
+  pixel-asks : (g y x : ℕ) → pixelAt s g y x ≡ pixelOf s (bitmapOf s f g) y x
+  unfolding pixelAt
+  pixel-asks g y x = rw sound
+
+  -- and a pixel exactly when its row or its column is
+  pub pixel-ask-exactly : (g y x : ℕ) (b : Bitmap) → bitmapOf s f g ≡ Found b → (pixelAt s g y x ≡ NoPixel Ask) ↔ ((b .height ≤ y) ⊎ (b .width ≤ x))
+  pixel-ask-exactly g y x b e = (there (below y (b .height)) (below x (b .width)), back (below y (b .height)))
+    where
+      told : pixelAt s g y x ≡ pixelOf s (Found b) y x
+      told = pixel-asks g y x ∙ ap (λ (l : Located). pixelOf s l y x) e
+
+      there : (y < b .height) ⊎ (b .height ≤ y) → (x < b .width) ⊎ (b .width ≤ x) → pixelAt s g y x ≡ NoPixel Ask → (b .height ≤ y) ⊎ (b .width ≤ x)
+      there (inl h) (inl w) q = bit-refused _ _ _ (told ∙ pixel-in s b y x h w) q
+      there (inl h) (inr w) q = inr w
+      there (inr h) w q = inl h
+
+      back : (y < b .height) ⊎ (b .height ≤ y) → (b .height ≤ y) ⊎ (b .width ≤ x) → pixelAt s g y x ≡ NoPixel Ask
+      back u (inl h) = told ∙ sym (pixel-below s b y x h)
+      back (inl h) (inr w) = told ∙ pixel-past s b y x h w
+      back (inr h) (inr w) = told ∙ sym (pixel-below s b y x h)
