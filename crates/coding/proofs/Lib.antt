@@ -1,4 +1,3 @@
--- Both codings keep the laws of a coding; what a first byte decides.
+-- Both codings keep the laws of a coding.
 pub mod Codings
-pub mod Firsts
 pub mod Written

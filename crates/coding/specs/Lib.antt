@@ -1,3 +1,2 @@
 -- The two codings as one.
 pub mod Coding
-pub mod First

@@ -39,7 +39,7 @@ pub fn item_at(c: Coding, tail: &[u8], g: usize, k: usize) -> Walked
     let mut inside = false;
     let mut at: usize = 0;
     while at < tail.len() {
-        let t = table::step_at(c, tail, at);
+        let t = table::next_step(c, tail, at);
         match t {
             Step::Value(v, next) => {
                 if glyphs == 0 {
@@ -145,7 +145,7 @@ pub fn find_sequence(c: Coding, tail: &[u8], vs: &[u32]) -> Found
     let mut m: usize = 0;
     let mut at: usize = 0;
     while at < tail.len() {
-        let t = table::step_at(c, tail, at);
+        let t = table::next_step(c, tail, at);
         match t {
             Step::Value(v, next) => {
                 if inside {

@@ -21,6 +21,14 @@ stepOf m at TokenEnd = StepEnd (at + m)
 stepOf m at TokenCut = StepCut
 stepOf m at (TokenBad k) = StepBad (at + k)
 
+-- a step whose place is a number of the machine
+abbrev pub StepFits : Step → Type 0
+StepFits (StepValue v next) = next < 18446744073709551616
+StepFits (StepStart next) = next < 18446744073709551616
+StepFits (StepEnd next) = next < 18446744073709551616
+StepFits StepCut = Unit {0}
+StepFits (StepBad k) = k < 18446744073709551616
+
 -- the step from a place on
 abbrev pub stepAt : Coding → List ℕ → ℕ → Step
 stepAt c s at = stepOf (markLen c) at (readToken c (drop at s))

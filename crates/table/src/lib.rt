@@ -3,10 +3,10 @@
 ghost use mathlib.Core.Path.{_≡_};
 ghost use Prim.Native.Nat.{_-_, _≤_};
 ghost use Rattle.table.specs.declared.TableAnswer.the-variants.{Bad as TableBad};
-ghost use Rattle.table.specs.Steps.{stepAt, StepSays};
+ghost use Rattle.coding.specs.declared.Coding.the-variants.{Utf8, Ucs2};
+ghost use Rattle.table.specs.Steps.{stepOf, stepAt, StepFits, StepSays};
 ghost use Rattle.table.specs.Check.{tableOf};
 use coding::Coding;
-use coding::First;
 use token::Token;
 
 // What stands in a description, one after the other: a single value, a start mark, a value in a sequence, the end mark.
@@ -26,15 +26,12 @@ pub enum Step {
     Bad(usize),
 }
 
-// The step from a place on; Cut from the end on. The place after it is past `at` and within the bytes.
-pub fn step_at(c: Coding, s: &[u8], at: usize) -> Step
-    ensures { λ r. ⌜ (r ≡ stepAt c (now (s .entry)) at) × StepSays c (now (s .entry)) at r ⌝ }
+// The step that a token at a place makes, where marks are so many bytes long. Asks that the place after it is a number: it stands within
+// the bytes that the token was read from.
+fn step_of(mark: usize, at: usize, t: Token) -> Step
+    requires { ⌜ StepFits (stepOf mark at t) ⌝ }
+    ensures { λ r. ⌜ r ≡ stepOf mark at t ⌝ }
 {
-    if s.len() <= at {
-        return Step::Cut;
-    }
-    let mark = coding::mark_len(c);
-    let t = coding::read_token(c, &s[at..]);
     match t {
         Token::Value(v, l) => Step::Value(v, at + l),
         Token::Start => Step::Start(at + mark),
@@ -44,20 +41,66 @@ pub fn step_at(c: Coding, s: &[u8], at: usize) -> Step
     }
 }
 
-// The same step, by its first byte where that decides: what a loop over a whole table asks.
-pub fn next_step(c: Coding, s: &[u8], at: usize) -> Step
+// The step in UTF-8.
+fn utf8_step(s: &[u8], at: usize) -> Step
+    ensures { λ r. ⌜ (r ≡ stepAt Utf8 (now (s .entry)) at) × StepSays Utf8 (now (s .entry)) at r ⌝ }
+{
+    if s.len() <= at {
+        return Step::Cut;
+    }
+    let t = utf8::read_utf8(&s[at..]);
+    step_of(1, at, t)
+}
+
+// The step in two bytes.
+fn ucs2_step(s: &[u8], at: usize) -> Step
+    ensures { λ r. ⌜ (r ≡ stepAt Ucs2 (now (s .entry)) at) × StepSays Ucs2 (now (s .entry)) at r ⌝ }
+{
+    if s.len() <= at {
+        return Step::Cut;
+    }
+    let t = ucs2::read_ucs2(&s[at..]);
+    step_of(2, at, t)
+}
+
+// The step from a place on; Cut from the end on. The place after it is past `at` and within the bytes.
+pub fn step_at(c: Coding, s: &[u8], at: usize) -> Step
     ensures { λ r. ⌜ (r ≡ stepAt c (now (s .entry)) at) × StepSays c (now (s .entry)) at r ⌝ }
+{
+    match c {
+        Coding::Utf8 => utf8_step(s, at),
+        Coding::Ucs2 => ucs2_step(s, at),
+    }
+}
+
+// The step in UTF-8, by its first byte where that decides.
+fn utf8_next(s: &[u8], at: usize) -> Step
+    ensures { λ r. ⌜ (r ≡ stepAt Utf8 (now (s .entry)) at) × StepSays Utf8 (now (s .entry)) at r ⌝ }
 {
     if s.len() <= at {
         return Step::Cut;
     }
     let b = s[at];
-    let f = coding::first_of(c, b);
-    match f {
-        First::One => Step::Value(base::wide(b), at + 1),
-        First::Start => Step::Start(at + 1),
-        First::End => Step::End(at + 1),
-        First::More => step_at(c, s, at),
+    if b < 0x80 {
+        return Step::Value(base::wide(b), at + 1);
+    }
+    if b == 0xFF {
+        return Step::End(at + 1);
+    }
+    if b == 0xFE {
+        return Step::Start(at + 1);
+    }
+    utf8_step(s, at)
+}
+
+// The same step as `step_at`, small enough for the compiler to put into a loop over a whole table: values of one byte and marks, and
+// all of PSF1, are read there, and only a longer value of UTF-8 costs a call (docs/DECISIONS.md, "Speed").
+pub fn next_step(c: Coding, s: &[u8], at: usize) -> Step
+    ensures { λ r. ⌜ (r ≡ stepAt c (now (s .entry)) at) × StepSays c (now (s .entry)) at r ⌝ }
+{
+    match c {
+        Coding::Utf8 => utf8_next(s, at),
+        Coding::Ucs2 => ucs2_step(s, at),
     }
 }
 

@@ -1,7 +1,7 @@
 -- `readUtf8` by the length of the list and its first element.
 use mathlib.Core.Path.{_≡_, refl}
 use mathlib.Core.List.{List, [], _∷_}
-use Prim.Native.Nat.{ℕ, _-_, _%_, _<_, _≤_}
+use Prim.Native.Nat.{ℕ, suc, _-_, _%_, _<_, _≤_}
 use native.Mathlib.Omega.{arith}
 use lib.ListN.{length, getD, drop}
 use lib.Dec.{eqb}
@@ -41,6 +41,12 @@ module _ (s : List ℕ) (h : 0 < length s) where
 
       pub as-value : (l .len ≡ 0 → ⊥) → conts (l .len - 1) (l .lo) (l .hi) (getD s 0 0 % l .modulus) 1 (drop 1 s) ≡ readUtf8 s
       as-value z = rw (first s h, ne-eqb (getD s 0 0) 254 a, ne-eqb (getD s 0 0) 255 b, ← e, ne-eqb (l .len) 0 z)
+
+      -- the same by the length
+      pub as-long : (n : ℕ) → l .len ≡ suc n → (v : ℕ) → v ≡ getD s 0 0 % l .modulus → conts n (l .lo) (l .hi) v 1 (drop 1 s) ≡ readUtf8 s
+      as-long n z v u =
+          let k : l .len - 1 ≡ n = omega arith in
+          rw (k, ← u) at (as-value (λ y. absurd (omega arith)))
 
 -- a first byte below 80 gives itself, one byte long, whatever follows
 pub ascii : (s : List ℕ) → 0 < length s → getD s 0 0 < 128 → Value (getD s 0 0) 1 ≡ readUtf8 s

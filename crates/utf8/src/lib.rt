@@ -1,8 +1,9 @@
 // Inner layer: one token at the front of some bytes, in UTF-8 with FE and FF as marks, and a value written. Definitions: specs/Utf8.antt,
 // specs/Scalar.antt.
 ghost use mathlib.Core.Path.{_≡_};
-ghost use Prim.Native.Nat.{_+_, _-_, _≤_, _<_};
+ghost use Prim.Native.Nat.{_+_, _-_, _*_, _≤_, _<_};
 ghost use lib.ListN.{length, drop};
+ghost use Rattle.base.specs.Choice.{within};
 ghost use Rattle.base.specs.Over.{over};
 ghost use Rattle.utf8.specs.Utf8.{leadOf, readUtf8, conts};
 ghost use Rattle.utf8.specs.Scalar.{Scalar, isScalar, utf8Bytes};
@@ -96,32 +97,94 @@ fn lead_of(b: u8) -> Lead
     }
 }
 
-// The rest of a value of n bytes whose first byte gave v: each further byte has its bounds.
-fn rest_of(s: &[u8], n: usize, v: u32, lo: u8, hi: u8) -> Token
-    requires { ⌜ (1 ≤ n) × (n ≤ 4) × (v < 128) × (128 ≤ lo) × (hi ≤ 191) ⌝ }
-    ensures { λ r. ⌜ r ≡ conts (n - 1) lo hi v 1 (drop 1 (now (s .entry))) ⌝ }
+// Whether a byte is within bounds.
+fn is_within(x: u8, lo: u8, hi: u8) -> bool
+    ensures { λ r. ⌜ r ≡ within lo hi x ⌝ }
 {
-    let mut v = v;
-    let mut lo = lo;
-    let mut hi = hi;
-    let mut k: usize = 1;
-    while k < n {
-        if s.len() <= k {
-            return Token::Cut;
-        }
-        let x = s[k];
-        if x < lo {
-            return Token::Bad(k);
-        }
-        if hi < x {
-            return Token::Bad(k);
-        }
-        v = v * 64 + wide(x - 0x80);
-        lo = 0x80;
-        hi = 0xBF;
-        k += 1;
+    if x < lo {
+        return false;
     }
-    Token::Value(v, k)
+    x <= hi
+}
+
+// A value's bits so far and six more. Asks for bits that leave room and for a byte from 80 on: the bounds give both.
+fn six_more(v: u32, x: u8) -> u32
+    requires { ⌜ (v < 1048576) × (128 ≤ x) ⌝ }
+    ensures { λ r. ⌜ (r ≡ v * 64 + (x - 128)) × (r < v * 64 + 128) ⌝ }
+{
+    v * 64 + wide(x - 0x80)
+}
+
+// A value of two bytes whose first gave v: the second has its bounds. Asks for what Table 3-7's rows have, as do the next two.
+fn two(s: &[u8], v: u32, lo: u8, hi: u8) -> Token
+    requires { ⌜ (v < 128) × (128 ≤ lo) ⌝ }
+    ensures { λ r. ⌜ r ≡ conts 1 lo hi v 1 (drop 1 (now (s .entry))) ⌝ }
+{
+    if s.len() <= 1 {
+        return Token::Cut;
+    }
+    let x = s[1];
+    let second = is_within(x, lo, hi);
+    if !second {
+        return Token::Bad(1);
+    }
+    Token::Value(six_more(v, x), 2)
+}
+
+// A value of three bytes: the third is 80 to BF.
+fn three(s: &[u8], v: u32, lo: u8, hi: u8) -> Token
+    requires { ⌜ (v < 128) × (128 ≤ lo) ⌝ }
+    ensures { λ r. ⌜ r ≡ conts 2 lo hi v 1 (drop 1 (now (s .entry))) ⌝ }
+{
+    if s.len() <= 1 {
+        return Token::Cut;
+    }
+    let x = s[1];
+    let second = is_within(x, lo, hi);
+    if !second {
+        return Token::Bad(1);
+    }
+    if s.len() <= 2 {
+        return Token::Cut;
+    }
+    let y = s[2];
+    let third = is_within(y, 0x80, 0xBF);
+    if !third {
+        return Token::Bad(2);
+    }
+    Token::Value(six_more(six_more(v, x), y), 3)
+}
+
+// A value of four bytes: the third and the fourth are 80 to BF.
+fn four(s: &[u8], v: u32, lo: u8, hi: u8) -> Token
+    requires { ⌜ (v < 128) × (128 ≤ lo) ⌝ }
+    ensures { λ r. ⌜ r ≡ conts 3 lo hi v 1 (drop 1 (now (s .entry))) ⌝ }
+{
+    if s.len() <= 1 {
+        return Token::Cut;
+    }
+    let x = s[1];
+    let second = is_within(x, lo, hi);
+    if !second {
+        return Token::Bad(1);
+    }
+    if s.len() <= 2 {
+        return Token::Cut;
+    }
+    let y = s[2];
+    let third = is_within(y, 0x80, 0xBF);
+    if !third {
+        return Token::Bad(2);
+    }
+    if s.len() <= 3 {
+        return Token::Cut;
+    }
+    let z = s[3];
+    let fourth = is_within(z, 0x80, 0xBF);
+    if !fourth {
+        return Token::Bad(3);
+    }
+    Token::Value(six_more(six_more(six_more(v, x), y), z), 4)
 }
 
 // The token at the front of some bytes: a value and its length, a mark, Cut where the bytes end too soon,
@@ -140,12 +203,16 @@ pub fn read_utf8(s: &[u8]) -> Token
         return Token::End;
     }
     let l = lead_of(b);
-    let n = l.len;
-    if n == 0 {
-        return Token::Bad(0);
-    }
     let m = l.modulus;
-    rest_of(s, n, wide(b % m), l.lo, l.hi)
+    let v = wide(b % m);
+    let n = l.len;
+    match n {
+        0 => Token::Bad(0),
+        1 => Token::Value(v, 1),
+        2 => two(s, v, l.lo, l.hi),
+        3 => three(s, v, l.lo, l.hi),
+        _ => four(s, v, l.lo, l.hi),
+    }
 }
 
 // Whether a number is a value of UTF-8: a code point that is no surrogate.

@@ -22,8 +22,8 @@ abbrev μ-loop : tie.MeasureT-loop
 loop-holds : tie.Need-loop-holds Inv-loop μ-loop
 loop-holds c = search needs
 
-step-at-requires : tie.Need-step-at-requires Inv-loop μ-loop
-step-at-requires c κs = search needs
+next-step-requires : tie.Need-next-step-requires Inv-loop μ-loop
+next-step-requires c κs = search needs
 
 enum-known-t : tie.Need-enum-known-t Inv-loop μ-loop
 enum-known-t c = search needs
@@ -36,11 +36,11 @@ add-m c = search needs
 
 loop-less : tie.Need-loop-less Inv-loop μ-loop
 loop-less c =
-    let w = rw (c .before .before .before .t .given .1) at (c .before .before .before .before .before .step-at .ensures .1) in omega (arith, w .0, w .1)
+    let w = rw (c .before .before .before .t .given .1) at (c .before .before .before .before .before .next-step .ensures .1) in omega (arith, w .0, w .1)
 
 loop-again : tie.Need-loop-again Inv-loop μ-loop
 loop-again c =
-    let w = rw (c .before .before .before .t .given .1) at (c .before .before .before .before .before .step-at .ensures .1) in
+    let w = rw (c .before .before .before .t .given .1) at (c .before .before .before .before .before .next-step .ensures .1) in
     let l = c .before .before .before .before .before .before .before .loop in
     let s = c .before .before .before .before .before .before .before .before .before .before .args .vs .now in (
       w .1,
@@ -52,11 +52,11 @@ loop-again c =
 
 loop-less-2 : tie.Need-loop-less-2 Inv-loop μ-loop
 loop-less-2 c =
-    let w = rw (c .before .before .t .given .1) at (c .before .before .before .before .step-at .ensures .1) in omega (arith, w .0, w .1)
+    let w = rw (c .before .before .t .given .1) at (c .before .before .before .before .next-step .ensures .1) in omega (arith, w .0, w .1)
 
 loop-again-2 : tie.Need-loop-again-2 Inv-loop μ-loop
 loop-again-2 c =
-    let w = rw (c .before .before .t .given .1) at (c .before .before .before .before .step-at .ensures .1) in
+    let w = rw (c .before .before .t .given .1) at (c .before .before .before .before .next-step .ensures .1) in
     let l = c .before .before .before .before .before .before .loop in
     let s = c .before .before .before .before .before .before .before .before .before .args .vs .now in (
       w .1,
@@ -74,7 +74,7 @@ is-whole-requires c κs = search needs
 
 returns : tie.Need-returns Inv-loop μ-loop
 returns c =
-    let w = rw (c .before .before .before .t2 .given .1) at (c .before .before .before .before .before .step-at .ensures .1) in
+    let w = rw (c .before .before .before .t2 .given .1) at (c .before .before .before .before .before .next-step .ensures .1) in
     let l = c .before .before .before .before .before .before .before .loop in
     let s = c .before .before .before .before .before .before .before .before .before .before .args .vs .now in
     sym (ap (seek _ _ _ _) (told-start _ _ _ _ (w .2)) ∙ whole-start s _ _ (l .m) _ _ (c .before .is-whole .ensures) (c .if2 .taken))
@@ -82,11 +82,11 @@ returns c =
 
 loop-less-3 : tie.Need-loop-less-3 Inv-loop μ-loop
 loop-less-3 c =
-    let w = rw (c .before .before .before .t2 .given .1) at (c .before .before .before .before .before .step-at .ensures .1) in omega (arith, w .0, w .1)
+    let w = rw (c .before .before .before .t2 .given .1) at (c .before .before .before .before .before .next-step .ensures .1) in omega (arith, w .0, w .1)
 
 loop-again-3 : tie.Need-loop-again-3 Inv-loop μ-loop
 loop-again-3 c =
-    let w = rw (c .before .before .before .t2 .given .1) at (c .before .before .before .before .before .step-at .ensures .1) in
+    let w = rw (c .before .before .before .t2 .given .1) at (c .before .before .before .before .before .next-step .ensures .1) in
     let l = c .before .before .before .before .before .before .before .loop in
     let s = c .before .before .before .before .before .before .before .before .before .before .args .vs .now in (
       w .1,
@@ -104,7 +104,7 @@ is-whole-requires-2 c κs = search needs
 
 returns-2 : tie.Need-returns-2 Inv-loop μ-loop
 returns-2 c =
-    let w = rw (c .before .before .before .t3 .given .1) at (c .before .before .before .before .before .step-at .ensures .1) in
+    let w = rw (c .before .before .before .t3 .given .1) at (c .before .before .before .before .before .next-step .ensures .1) in
     let l = c .before .before .before .before .before .before .before .loop in
     let s = c .before .before .before .before .before .before .before .before .before .before .args .vs .now in
     sym (ap (seek _ _ _ _) (told-end _ _ _ _ (w .2)) ∙ whole-end s _ _ (l .m) _ _ (c .before .is-whole2 .ensures) (c .if3 .taken))
@@ -115,11 +115,11 @@ add-g c = search needs
 
 loop-less-4 : tie.Need-loop-less-4 Inv-loop μ-loop
 loop-less-4 c =
-    let w = rw (c .before .before .before .t3 .given .1) at (c .before .before .before .before .before .step-at .ensures .1) in omega (arith, w .0, w .1)
+    let w = rw (c .before .before .before .t3 .given .1) at (c .before .before .before .before .before .next-step .ensures .1) in omega (arith, w .0, w .1)
 
 loop-again-4 : tie.Need-loop-again-4 Inv-loop μ-loop
 loop-again-4 c =
-    let w = rw (c .before .before .before .t3 .given .1) at (c .before .before .before .before .before .step-at .ensures .1) in
+    let w = rw (c .before .before .before .t3 .given .1) at (c .before .before .before .before .before .next-step .ensures .1) in
     let l = c .before .before .before .before .before .before .before .loop in
     let s = c .before .before .before .before .before .before .before .before .before .before .args .vs .now in (
       w .1,
@@ -134,7 +134,7 @@ enum-told c = search needs
 
 returns-3 : tie.Need-returns-3 Inv-loop μ-loop
 returns-3 c =
-    let w = rw (c .enum-told .given .1) at (c .before .before .step-at .ensures .1) in
+    let w = rw (c .enum-told .given .1) at (c .before .before .next-step .ensures .1) in
     sym (ap (seek _ _ _ _) (told-cut _ _ _ (w (omega arith))) ∙ seek-none _ _ _ _)
     ∙ c .before .before .before .before .loop .inv .3
 
@@ -143,7 +143,7 @@ enum-told-2 c = search needs
 
 returns-4 : tie.Need-returns-4 Inv-loop μ-loop
 returns-4 c =
-    let w = rw (c .enum-told2 .given .1) at (c .before .before .step-at .ensures .1) in
+    let w = rw (c .enum-told2 .given .1) at (c .before .before .next-step .ensures .1) in
     sym (ap (seek _ _ _ _) (told-bad _ _ _ _ (w .2)) ∙ seek-none _ _ _ _) ∙ c .before .before .before .before .loop .inv .3
 
 returns-5 : tie.Need-returns-5 Inv-loop μ-loop
@@ -157,7 +157,7 @@ find-sequence-spec =
     Inv-loop
     μ-loop
     loop-holds
-    step-at-requires
+    next-step-requires
     enum-known-t
     goes-on-requires
     add-m
