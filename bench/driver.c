@@ -2,16 +2,18 @@
  * Calls the library once for each figure of tools/bench, each from a function of its own whose instructions callgrind counts:
  *   driver FONT       prints the value of the last glyph that is looked up, and the stack that each call used
  *   driver FONT CALL OUT   converts by CALL (psf2_to_vfont2, ..) and writes the file OUT
+ *   driver FONT ROUNDS     prints the best time of a check and of a lookup that finds nothing, in microseconds
  */
 #include <lavandol.h>
 #include <stdio.h>
 #include <stdlib.h>
 #include <string.h>
+#include <time.h>
 #include <ucontext.h>
 
 #define ROOM 1048576
 static uint8_t file[ROOM + 1], out[ROOM];
-static size_t length;
+static size_t length, bitmaps, bitmap_bytes;
 static uint32_t last;
 static volatile size_t kept; /* so that no call is left out */
 
@@ -29,6 +31,7 @@ FIGURE(pixel, lav_pixel(file, length, 0, 0, 0).number)
 FIGURE(item, lav_item(file, length, 0, 0).value)
 FIGURE(sequence, lav_find_sequence(file, length, &last, 1).number)
 __attribute__((noinline)) void bench_copy(void) { memcpy(out, file, length); kept += out[length - 1]; }
+__attribute__((noinline)) void bench_bitmaps(void) { memcpy(out, file + bitmaps, bitmap_bytes); kept += out[0]; }
 __attribute__((noinline)) void bench_empty(void) { kept += length; }
 
 static const struct { const char *name; void (*call)(void); } FIGURES[] = {
@@ -37,6 +40,19 @@ static const struct { const char *name; void (*call)(void); } FIGURES[] = {
     {"psf2_to_vfont2", bench_psf2_to_vfont2}, {"vfont2_to_psf2", bench_vfont2_to_psf2},
     {"glyph", bench_glyph}, {"row", bench_row}, {"pixel", bench_pixel}, {"item", bench_item}, {"find_sequence", bench_sequence},
 };
+
+static double best_of(void (*call)(void), int rounds) {
+    double best = 1e9;
+    for (int i = 0; i < rounds; i++) {
+        struct timespec a, b;
+        clock_gettime(CLOCK_MONOTONIC, &a);
+        call();
+        clock_gettime(CLOCK_MONOTONIC, &b);
+        double took = (b.tv_sec - a.tv_sec) * 1e6 + (b.tv_nsec - a.tv_nsec) / 1e3;
+        if (took < best) best = took;
+    }
+    return best;
+}
 
 /* The stack that a call used, from a painted stack of its own. */
 static uint8_t stack[65536];
@@ -63,6 +79,13 @@ int main(int argc, char **argv) {
     lav_font font = lav_check(file, length);
     if (font.refusal) return 1;
     last = lav_item(file, length, font.count - 1, 0).value;
+    bitmaps = font.bitmaps;
+    bitmap_bytes = font.end - font.bitmaps;
+    if (argc == 3) {
+        int rounds = atoi(argv[2]);
+        printf("check %.2f us lookup %.2f us\n", best_of(bench_check, rounds), best_of(bench_none, rounds));
+        return 0;
+    }
     if (argc == 4) {
         for (size_t i = 3; i < 7; i++) {
             if (strcmp(argv[2], FIGURES[i].name)) continue;
@@ -75,6 +98,7 @@ int main(int argc, char **argv) {
     }
     printf("last %X\n", (unsigned)last);
     bench_copy();
+    bench_bitmaps();
     size_t base = stack_of(bench_empty);
     for (size_t i = 0; i < sizeof FIGURES / sizeof *FIGURES; i++) {
         size_t used = stack_of(FIGURES[i].call);

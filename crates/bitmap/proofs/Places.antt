@@ -65,6 +65,20 @@ pub too-high : (s : List ℕ) (f : Font) (g : ℕ) → f .count ≤ g → Missin
 unfolding bitmapOf when
 too-high s f g h = rw (le-ltb g (f .count) h)
 
+-- a row and a pixel that a bitmap has, and a column that it has not
+pub row-in : (b : Bitmap) (y : ℕ) → y < b .height → rowOf (Found b) y ≡ At (b .start + y * rowBytes (b .width)) (rowBytes (b .width))
+unfolding when
+row-in b y h = rw (lt-ltb y (b .height) h)
+
+pub pixel-in : (s : List ℕ) (b : Bitmap) (y x : ℕ) → y < b .height → x < b .width →
+    pixelOf s (Found b) y x ≡ Bit (bitOf (getD s (b .start + y * rowBytes (b .width) + x / 8) 0) (x % 8))
+unfolding when
+pixel-in s b y x h w = rw (lt-ltb y (b .height) h, lt-ltb x (b .width) w)
+
+pub pixel-past : (s : List ℕ) (b : Bitmap) (y x : ℕ) → y < b .height → b .width ≤ x → pixelOf s (Found b) y x ≡ NoPixel Ask
+unfolding when
+pixel-past s b y x h w = rw (lt-ltb y (b .height) h, le-ltb x (b .width) w)
+
 -- rows
 module _ (s : List ℕ) (b : Bitmap) (i : Inside s b) (y : ℕ) (h : y < b .height) where
   pub row-inside : b .start + y * rowBytes (b .width) + rowBytes (b .width) ≤ length s
@@ -79,20 +93,17 @@ module _ (s : List ℕ) (b : Bitmap) (i : Inside s b) (y : ℕ) (h : y < b .heig
     row-fits = rw e row-inside
 
     pub row-read : At (b .start + y * k) k ≡ rowOf (Found b) y
-    unfolding when
-    row-read = rw (e, lt-ltb y (b .height) h)
+    row-read = rw e (sym (row-in b y h))
 
     module _ (x : ℕ) (w : x < b .width) where
       pub pixel-inside : b .start + y * k + x / 8 < length s
       pixel-inside = let z : x / 8 < (b .width + 7) / 8 = omega arith in omega (arith, row-fits, e)
 
       pub pixel-read : (v : ℕ) → v ≡ bitOf (getD s (b .start + y * k + x / 8) 0) (x % 8) → Bit v ≡ pixelOf s (Found b) y x
-      unfolding when
-      pixel-read v q = rw (q, e, lt-ltb y (b .height) h, lt-ltb x (b .width) w)
+      pixel-read v q = rw (q, e) (sym (pixel-in s b y x h w))
 
   pub pixel-beside : (x : ℕ) → b .width ≤ x → NoPixel Ask ≡ pixelOf s (Found b) y x
-  unfolding when
-  pixel-beside x w = rw (lt-ltb y (b .height) h, le-ltb x (b .width) w)
+  pixel-beside x w = sym (pixel-past s b y x h w)
 
 pub row-below : (b : Bitmap) (y : ℕ) → b .height ≤ y → Refused Ask ≡ rowOf (Found b) y
 unfolding when

@@ -33,7 +33,7 @@ use Rattle.bitmap.specs.declared.Part.the-variants.{At, Refused}
 use Rattle.bitmap.specs.declared.Pixel.{Pixel}
 use Rattle.bitmap.specs.declared.Pixel.the-variants.{Bit, NoPixel}
 use Rattle.bitmap.specs.Bitmaps.{evenBitmap, entryBitmap, bitmapOf, wholeOf, rowOf, bitOf, pixelOf, Inside, LocatedInside}
-use Rattle.bitmap.proofs.Places.{known, located-inside, too-high, row-below, pixel-below}
+use Rattle.bitmap.proofs.Places.{known, located-inside, too-high, row-in, row-below, pixel-in, pixel-past, pixel-below}
 use Rattle.font.specs.Check.{checkOf}
 use Rattle.font.proofs.Cases.{accepted}
 use Rattle.fonts.specs.Questions.{glyphPartOf, rowPartOf, pixelAt}
@@ -48,20 +48,6 @@ found-refused x a b r e f = let z : _≡_ {A = ℕ} 0 1 = cc in absurd (omega ar
 
 bit-refused : {A : Type 0} (x : Pixel) (v : ℕ) (r : Refusal) → x ≡ Bit v → x ≡ NoPixel r → A
 bit-refused x v r e f = let z : _≡_ {A = ℕ} 0 1 = cc in absurd (omega arith)
-
--- a row and a pixel that a bitmap has, and a column that it has not
-row-at : (b : Bitmap) (y : ℕ) → y < b .height → rowOf (Found b) y ≡ At (b .start + y * rowBytes (b .width)) (rowBytes (b .width))
-unfolding when
-row-at b y h = rw (lt-ltb y (b .height) h)
-
-pixel-in : (s : List ℕ) (b : Bitmap) (y x : ℕ) → y < b .height → x < b .width →
-    pixelOf s (Found b) y x ≡ Bit (bitOf (getD s (b .start + y * rowBytes (b .width) + x / 8) 0) (x % 8))
-unfolding when
-pixel-in s b y x h w = rw (lt-ltb y (b .height) h, lt-ltb x (b .width) w)
-
-pixel-past : (s : List ℕ) (b : Bitmap) (y x : ℕ) → y < b .height → b .width ≤ x → pixelOf s (Found b) y x ≡ NoPixel Ask
-unfolding when
-pixel-past s b y x h w = rw (lt-ltb y (b .height) h, le-ltb x (b .width) w)
 
 -- a glyph's bitmap is found, or its entry has none
 abbrev Outcome : List ℕ → Font → ℕ → Type 0
@@ -164,7 +150,7 @@ module _ (s : List ℕ) (y : Bytes s) (f : Font) (sound : checkOf s ≡ Sound f)
       told = row-asks g y ∙ ap (λ (l : Located). rowOf l y) e
 
       go : (y < b .height) ⊎ (b .height ≤ y) → rowPartOf s g y ≡ Refused Ask → b .height ≤ y
-      go (inl h) q = found-refused _ _ _ _ (told ∙ row-at b y h) q
+      go (inl h) q = found-refused _ _ _ _ (told ∙ row-in b y h) q
       go (inr h) q = h
 
   pixel-asks : (g y x : ℕ) → pixelAt s g y x ≡ pixelOf s (bitmapOf s f g) y x

@@ -11,7 +11,6 @@ ghost use mathlib.Core.List.{[], _∷_};
 ghost use Prim.Native.Nat.{ℕ, _+_, _*_, _≤_, _<_};
 ghost use lib.ListN.{length};
 ghost use Rattle.base.specs.Over.{over};
-ghost use Rattle.table.specs.Steps.{toldAs};
 ghost use Rattle.header.specs.Placed.{Placed};
 ghost use Rattle.listing.specs.Text.{digitOf, decimal, hexadecimal, numberText, kindText, tableWord, firstLine, itemText, pieceOf, tableText, linesText, fontText, refusedText, bigText, listingOf, listedOf, leftOf};
 
@@ -196,16 +195,6 @@ fn put_piece(fresh: bool, g: usize, i: Item, out: &mut [u8]) -> usize
     put_item(i, out)
 }
 
-// A value as an item: before the first start mark of its description it is a single.
-fn value_item(inside: bool, v: u32) -> Item
-    ensures { λ r. ⌜ r ≡ toldAs inside v ⌝ }
-{
-    if inside {
-        return Item::Value(v);
-    }
-    Item::Single(v)
-}
-
 // How many bytes the lines of a tail are: one pass. Asks for a tail no longer than a file that is listed, so that the sum can't wrap.
 fn table_len(c: Coding, tail: &[u8]) -> usize
     requires { ⌜ length (now tail) ≤ 65536 ⌝ }
@@ -220,7 +209,7 @@ fn table_len(c: Coding, tail: &[u8]) -> usize
         let t = table::step_at(c, tail, at);
         match t {
             Step::Value(v, next) => {
-                n += piece_len(fresh, g, value_item(inside, v));
+                n += piece_len(fresh, g, table::told_as(inside, v));
                 fresh = false;
                 at = next;
             }
@@ -258,7 +247,7 @@ fn put_table(c: Coding, tail: &[u8], out: &mut [u8])
         let t = table::step_at(c, tail, at);
         match t {
             Step::Value(v, next) => {
-                let i = value_item(inside, v);
+                let i = table::told_as(inside, v);
                 let l = put_piece(fresh, g, i, &mut out[n..]);
                 n += l;
                 fresh = false;

@@ -2,7 +2,7 @@
 // Definitions: specs/Lookup.antt. They hold on any tail, as far as it can be read.
 ghost use mathlib.Core.Path.{_≡_};
 ghost use lib.ListN.{drop};
-ghost use Rattle.table.specs.Steps.{toldAs, itemsIn};
+ghost use Rattle.table.specs.Steps.{itemsIn};
 ghost use Rattle.lookup.specs.Lookup.{itemAt, findValue, findSequence, goesOn, isWhole};
 use coding::Coding;
 use table::Item;
@@ -20,16 +20,6 @@ pub enum Found {
     Nothing,
 }
 
-// A value as an item: before the first start mark of its description it is a single.
-fn told_as(inside: bool, v: u32) -> Item
-    ensures { λ r. ⌜ r ≡ toldAs inside v ⌝ }
-{
-    if inside {
-        return Item::Value(v);
-    }
-    Item::Single(v)
-}
-
 // Item k of glyph g, counted from 0, in the order of the file.
 pub fn item_at(c: Coding, tail: &[u8], g: usize, k: usize) -> Walked
     ensures { λ r. ⌜ r ≡ itemAt g k (itemsIn c (now (tail .entry))) ⌝ }
@@ -44,7 +34,7 @@ pub fn item_at(c: Coding, tail: &[u8], g: usize, k: usize) -> Walked
             Step::Value(v, next) => {
                 if glyphs == 0 {
                     if left == 0 {
-                        return Walked::Found(told_as(inside, v));
+                        return Walked::Found(table::told_as(inside, v));
                     }
                     left -= 1;
                 }

@@ -4,7 +4,7 @@ ghost use mathlib.Core.Path.{_≡_};
 ghost use Prim.Native.Nat.{_-_, _≤_};
 ghost use Rattle.table.specs.declared.TableAnswer.the-variants.{Bad as TableBad};
 ghost use Rattle.coding.specs.declared.Coding.the-variants.{Utf8, Ucs2};
-ghost use Rattle.table.specs.Steps.{stepOf, stepAt, StepFits, StepSays};
+ghost use Rattle.table.specs.Steps.{stepOf, stepAt, StepFits, StepSays, toldAs};
 ghost use Rattle.table.specs.Check.{tableOf};
 use coding::Coding;
 use token::Token;
@@ -102,6 +102,16 @@ pub fn next_step(c: Coding, s: &[u8], at: usize) -> Step
         Coding::Utf8 => utf8_next(s, at),
         Coding::Ucs2 => ucs2_step(s, at),
     }
+}
+
+// A value as an item: before the first start mark of its description it is a single.
+pub fn told_as(inside: bool, v: u32) -> Item
+    ensures { λ r. ⌜ r ≡ toldAs inside v ⌝ }
+{
+    if inside {
+        return Item::Value(v);
+    }
+    Item::Single(v)
 }
 
 // What the check of a table says. Places are counted from the table's first byte.

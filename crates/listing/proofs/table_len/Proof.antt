@@ -14,7 +14,7 @@ use Rattle.listing.proofs.table_len.Tie as tie
 use Rattle.listing.proofs.table_len.Reads as reads
 use Rattle.listing.proofs.table_len.Lts as lts
 use Rattle.listing.proofs.piece_len.Reads as piece-len-reads
-use Rattle.listing.proofs.value_item.Reads as value-item-reads
+use Rattle.table.proofs.told_as.Reads as told-as-reads
 use Rattle.table.proofs.step_at.Reads as step-at-reads
 
 abbrev Inv-loop : tie.InvT-loop
@@ -32,8 +32,8 @@ step-at-requires c κs = search needs
 enum-known-t : tie.Need-enum-known-t Inv-loop μ-loop
 enum-known-t c = search needs
 
-value-item-requires : tie.Need-value-item-requires Inv-loop μ-loop
-value-item-requires c κs = search needs
+told-as-requires : tie.Need-told-as-requires Inv-loop μ-loop
+told-as-requires c κs = search needs
 
 piece-len-requires : tie.Need-piece-len-requires Inv-loop μ-loop
 piece-len-requires c κs = search needs
@@ -47,7 +47,7 @@ loop-less c = let w = rw (c .before .before .before .t .given .1) at (c .before 
 loop-again : tie.Need-loop-again Inv-loop μ-loop
 loop-again c = let w = rw (c .before .before .before .t .given .1) at (c .before .before .before .before .before .step-at .ensures .1) in
     let k = c .piece-len .ensures .1 (omega arith) in
-    (w .1, c .before .before .before .before .before .before .before .loop .inv .1, omega (arith, w .0), omega (arith, w .0, k), value-length _ _ _ _ _ _ _ _ _ (w .2) (c .before .value-item .ensures) _ _ (c .piece-len .ensures .0) (c .before .before .before .before .before .before .before .loop .inv .4))
+    (w .1, c .before .before .before .before .before .before .before .loop .inv .1, omega (arith, w .0), omega (arith, w .0, k), value-length _ _ _ _ _ _ _ _ _ (w .2) (c .before .told-as .ensures) _ _ (c .piece-len .ensures .0) (c .before .before .before .before .before .before .before .loop .inv .4))
 
 enum-known-t-2 : tie.Need-enum-known-t-2 Inv-loop μ-loop
 enum-known-t-2 c = search needs
@@ -110,7 +110,7 @@ table-len-spec =
     loop-holds
     step-at-requires
     enum-known-t
-    value-item-requires
+    told-as-requires
     piece-len-requires
     add-n
     loop-less

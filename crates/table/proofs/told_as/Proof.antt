@@ -1,7 +1,7 @@
--- `lookup::told_as` meets its contract: by the one test.
+-- `table::told_as` meets its contract: by the one test.
 use Rattle.table.specs.Steps.{toldAs}
-use Rattle.lookup.proofs.told_as.Statement.{statement}
-use Rattle.lookup.proofs.told_as.Tie as tie
+use Rattle.table.proofs.told_as.Statement.{statement}
+use Rattle.table.proofs.told_as.Tie as tie
 
 returns : tie.Need-returns
 unfolding toldAs
