@@ -4,7 +4,7 @@ use mathlib.Core.List.{List, [], _∷_}
 use Prim.Native.Nat.{ℕ}
 use Rattle.base.specs.Choice.{when}
 use Rattle.base.specs.Numbers.{le16, le32}
-use Rattle.utf8.specs.Utf8.{leadOf, conts, readUtf8}
+use Rattle.utf8.specs.Utf8.{leadOf, conts, readValue, readUtf8}
 use Rattle.coding.specs.Coding.{markLen, readToken}
 use Rattle.table.specs.Steps.{stepsFrom, toldAs, told}
 use Rattle.table.specs.Check.{checkSteps}
@@ -27,5 +27,5 @@ smallText =
     ∷ 49 ∷ 32 ∷ 67 ∷ 53 ∷ 32 ∷ 43 ∷ 52 ∷ 49 ∷ 43 ∷ 51 ∷ 48 ∷ 65 ∷ 10 ∷ []
 
 pub small-listed : listingOf small ≡ smallText
-unfolding when le16 le32 leadOf conts readUtf8 markLen readToken stepsFrom toldAs told checkSteps glyphBytes kindOf headOf psf2Body headerOf bodyOf checkOf listingOf fontText linesText tableText linesOf pieceOf firstLine numberText decimal hexadecimal digits digitOf
+unfolding when le16 le32 leadOf conts readValue readUtf8 markLen readToken stepsFrom toldAs told checkSteps glyphBytes kindOf headOf psf2Body headerOf bodyOf checkOf listingOf fontText linesText tableText linesOf pieceOf firstLine numberText decimal hexadecimal digits digitOf
 small-listed = refl

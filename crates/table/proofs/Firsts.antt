@@ -8,8 +8,9 @@ use lib.Seq.{drop-cons}
 use Rattle.base.proofs.Parts.{rest-all}
 use Rattle.token.specs.declared.Token.{Token}
 use Rattle.token.specs.declared.Token.the-variants.{Value as TokenValue, Start as TokenStart, End as TokenEnd}
-use Rattle.utf8.specs.Utf8.{readUtf8}
-use Rattle.utf8.proofs.First.{ascii, as-start, as-end}
+use Rattle.utf8.specs.declared.Read.{Read}
+use Rattle.utf8.specs.Utf8.{readValue, asToken, readUtf8}
+use Rattle.utf8.proofs.First.{ascii, as-start, as-end, no-mark}
 use Rattle.ucs2.specs.Ucs2.{readUcs2}
 use Rattle.coding.specs.declared.Coding.{Coding}
 use Rattle.coding.specs.declared.Coding.the-variants.{Utf8, Ucs2}
@@ -60,6 +61,12 @@ module _ (s : List ℕ) (i : ℕ) (h : i < length s) where
   -- the byte stands in front of the list from its place on
   here : (t : Token) → t ≡ readUtf8 (getD s i 0 ∷ drop (suc i) s) → Stepped Utf8 s i (stepOf 1 i t)
   here t e = token-says Utf8 s i h 1 utf8-mark t (e ∙ ap readUtf8 (sym (drop-cons s i 0 h)) ∙ utf8-token (drop i s))
+
+  -- a byte that is no mark begins a value
+  pub value-step : (getD s i 0 ≡ 254 → ⊥) → (getD s i 0 ≡ 255 → ⊥) → (r : Read) → r ≡ readValue (take (length s - i) (drop i s)) → Stepped Utf8 s i (stepOf 1 i (asToken r))
+  value-step a b r e =
+      here (asToken r)
+      (ap asToken (e ∙ ap readValue (rest-all s i ∙ drop-cons s i 0 h)) ∙ no-mark (getD s i 0 ∷ drop (suc i) s) (omega arith) a b)
 
   pub first-one : getD s i 0 < 128 → (v : ℕ) → v ≡ getD s i 0 → Stepped Utf8 s i (StepValue v (i + 1))
   first-one k v e = rw e (here (TokenValue (getD s i 0) 1) (ascii (getD s i 0 ∷ drop (suc i) s) (omega arith) k))

@@ -6,7 +6,7 @@ use mathlib.Core.Logic.{inl, inr}
 use Prim.Native.Nat.{ℕ}
 use native.Mathlib.Omega.{arith}
 use lib.ListN.{length}
-use Rattle.utf8.specs.Utf8.{readUtf8, leadOf, conts}
+use Rattle.utf8.specs.Utf8.{readUtf8, readValue, leadOf, conts}
 use Rattle.utf8.specs.Scalar.{utf8Bytes}
 use Rattle.ucs2.specs.Ucs2.{readUcs2}
 use Rattle.coding.specs.declared.Coding.{Coding}
@@ -73,7 +73,7 @@ cases =
     ∷ []
 
 pub vectors : AllMeet cases
-unfolding checkSteps stepsFrom readToken markLen valueOf valueBytes startBytes endBytes readUtf8 leadOf conts utf8Bytes readUcs2
+unfolding checkSteps stepsFrom readToken markLen valueOf valueBytes startBytes endBytes readUtf8 readValue leadOf conts utf8Bytes readUcs2
 vectors = (
   (refl, refl, refl, (inl (omega arith), (inl (omega arith), (inl (omega arith), (inl (omega arith), tt))))),
   (

@@ -8,6 +8,7 @@ ghost use Rattle.table.specs.Steps.{stepOf, stepAt, StepFits, StepSays, 
 ghost use Rattle.table.specs.Check.{tableOf};
 use coding::Coding;
 use token::Token;
+use utf8::Read;
 
 // What stands in a description, one after the other: a single value, a start mark, a value in a sequence, the end mark.
 pub enum Item {
@@ -73,7 +74,7 @@ pub fn step_at(c: Coding, s: &[u8], at: usize) -> Step
     }
 }
 
-// The step in UTF-8, by its first byte where that decides.
+// The step in UTF-8, by its first byte where that decides; else it is a value's.
 fn utf8_next(s: &[u8], at: usize) -> Step
     ensures { λ r. ⌜ (r ≡ stepAt Utf8 (now (s .entry)) at) × StepSays Utf8 (now (s .entry)) at r ⌝ }
 {
@@ -90,7 +91,12 @@ fn utf8_next(s: &[u8], at: usize) -> Step
     if b == 0xFE {
         return Step::Start(at + 1);
     }
-    utf8_step(s, at)
+    let r = utf8::read_value(&s[at..]);
+    match r {
+        Read::Value(v, l) => Step::Value(v, at + l),
+        Read::Cut => Step::Cut,
+        Read::Bad(k) => Step::Bad(at + k),
+    }
 }
 
 // The same step as `step_at`, small enough for the compiler to put into a loop over a whole table: values of one byte and marks, and

@@ -13,26 +13,14 @@ use Rattle.base.proofs.Tests.{by-test}
 use Rattle.token.specs.declared.Token.{Token}
 use Rattle.token.specs.declared.Token.the-variants.{Value, Start, End, Cut, Bad}
 use Rattle.token.proofs.Coded.{Coded}
-use Rattle.utf8.specs.Utf8.{leadOf, conts, readUtf8}
+use Rattle.utf8.specs.declared.Read.{Read}
+use Rattle.utf8.specs.declared.Read.the-variants.{Value as ReadValue, Cut as ReadCut, Bad as ReadBad}
+use Rattle.utf8.specs.Utf8.{readValue, asToken, readUtf8}
 use Rattle.utf8.specs.Scalar.{utf8Bytes, Scalar}
 use Rattle.utf8.proofs.Writing.{value-read}
 use Rattle.utf8.proofs.Reading.{Written, value-of}
 
--- marks are one byte
-abbrev NoMark : Token → Type 0
-NoMark (Value v l) = Unit {0}
-NoMark Start = ⊥
-NoMark End = ⊥
-NoMark Cut = Unit {0}
-NoMark (Bad k) = Unit {0}
-
-conts-no-mark : (n lo hi v k : ℕ) (s : List ℕ) → NoMark (conts n lo hi v k s)
-unfolding conts
-conts-no-mark zero lo hi v k s = tt
-conts-no-mark (suc n) lo hi v k [] = tt
-conts-no-mark (suc n) lo hi v k (b ∷ s) =
-    by-test NoMark (within lo hi b) _ _ (λ _. conts-no-mark n 0x80 0xBF (v * 64 + (b - 0x80)) (k + 1) s) (λ _. tt)
-
+-- what a token says of its first byte: marks are one byte
 abbrev pub First : ℕ → Token → Type 0
 First b (Value v l) = b < 254
 First b Start = b ≡ 254
@@ -40,22 +28,19 @@ First b End = b ≡ 255
 First b Cut = Unit {0}
 First b (Bad k) = Unit {0}
 
-of-conts : (b : ℕ) (x : Token) → NoMark x → b < 254 → First b x
-of-conts b (Value v l) n h = h
-of-conts b Cut n h = tt
-of-conts b (Bad k) n h = tt
-of-conts b Start n h = absurd n
-of-conts b End n h = absurd n
+of-value : (b : ℕ) (x : Read) → b < 254 → First b (asToken x)
+of-value b (ReadValue v l) h = h
+of-value b ReadCut h = tt
+of-value b (ReadBad k) h = tt
 
 pub first-byte : (b : ℕ) (s : List ℕ) → b < 256 → First b (readUtf8 (b ∷ s))
 unfolding readUtf8
 first-byte b s h =
     by-test (First b) (eqb b 0xFE) _ _ (λ p. eqb-true b 0xFE p) (λ p.
     by-test (First b) (eqb b 0xFF) _ _ (λ q. eqb-true b 0xFF q) (λ q.
-    by-test (First b) (eqb (leadOf b .len) 0) _ _ (λ _. tt) (λ _.
     let x = eqb-false b 0xFE p in
     let y = eqb-false b 0xFF q in
-    of-conts b (conts (leadOf b .len - 1) (leadOf b .lo) (leadOf b .hi) (b % leadOf b .modulus) 1 s) (conts-no-mark (leadOf b .len - 1) (leadOf b .lo) (leadOf b .hi) (b % leadOf b .modulus) 1 s) (omega arith))))
+    of-value b (readValue (b ∷ s)) (omega arith)))
 
 pub read-nil : readUtf8 [] ≡ Cut
 unfolding readUtf8

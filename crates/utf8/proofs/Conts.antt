@@ -10,7 +10,7 @@ use lib.Seq.{drop-cons}
 use lib.Dec.{leb}
 use borrow.Author.Tests.{le-leb, lt-leb, leb-true}
 use Rattle.base.specs.Choice.{pick, within}
-use Rattle.token.specs.declared.Token.the-variants.{Value, Cut, Bad}
+use Rattle.utf8.specs.declared.Read.the-variants.{Value, Cut, Bad}
 use Rattle.utf8.specs.Utf8.{conts}
 
 module _ (s : List ℕ) (n k lo hi v : ℕ) (h : k < n) where

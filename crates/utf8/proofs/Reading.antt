@@ -11,12 +11,13 @@ use lib.Dec.{leb}
 use borrow.Author.Tests.{leb-true}
 use Rattle.base.specs.Choice.{pick}
 use Rattle.base.proofs.Tests.{below}
-use Rattle.token.specs.declared.Token.the-variants.{Value, Bad}
+use Rattle.token.specs.declared.Token.the-variants.{Value as TokenValue, Bad as TokenBad}
+use Rattle.utf8.specs.declared.Read.the-variants.{Value, Bad}
 use Rattle.utf8.specs.declared.Lead.{Lead}
 use Rattle.utf8.specs.Utf8.{row, leadOf, conts, readUtf8}
 use Rattle.utf8.specs.Scalar.{utf8Bytes, Scalar}
 use Rattle.utf8.proofs.Rows.{row-1, row-2, row-3a, row-3b, row-3c, row-3d, row-4a, row-4b, row-4c, row-x, row-y}
-use Rattle.utf8.proofs.First.{as-bad, as-value}
+use Rattle.utf8.proofs.First.{as-bad, as-value, back-value}
 use Rattle.utf8.proofs.Writing.{bytes1, bytes2, bytes3, bytes4}
 
 -- a continuation byte that was taken
@@ -157,13 +158,13 @@ back4 b t v l lo hi k g h i j m u =
     (written (b ∷ k .c ∷ k .d ∷ k .f ∷ []) (k .rest) v l (bytes4 v m ∙ list4 _ _ _ _ _ _ _ _ (omega arith) (omega arith) (omega arith) (omega arith)) (k .long) (inr (omega arith, u)))
 
 -- from the first byte's row
-module _ (b : ℕ) (t : List ℕ) (v l : ℕ) (e : readUtf8 (b ∷ t) ≡ Value v l) (h : b < 254) where
+module _ (b : ℕ) (t : List ℕ) (v l : ℕ) (e : readUtf8 (b ∷ t) ≡ TokenValue v l) (h : b < 254) where
   by-row : (r : Lead) → r ≡ leadOf b → (r .len ≡ 0 → ⊥) → conts (r .len - 1) (r .lo) (r .hi) (b % r .modulus) 1 t ≡ Value v l
-  by-row r q z = as-value (b ∷ t) (omega arith) (λ p. omega arith) (λ p. omega arith) r q z ∙ e
+  by-row r q z = back-value _ v l (as-value (b ∷ t) (omega arith) (λ p. omega arith) (λ p. omega arith) r q z ∙ e)
 
   no-row : (r : Lead) → r ≡ leadOf b → r .len ≡ 0 → Written (b ∷ t) v l
   no-row r q z =
-      let f : Bad 0 ≡ Value v l = as-bad (b ∷ t) (omega arith) (λ p. omega arith) (λ p. omega arith) r q z ∙ e in
+      let f : TokenBad 0 ≡ TokenValue v l = as-bad (b ∷ t) (omega arith) (λ p. omega arith) (λ p. omega arith) r q z ∙ e in
       let z : _≡_ {A = ℕ} 0 1 = cc in absurd (omega arith)
 
   w3a : Took3 0xA0 0xBF (b % 16) t v l → b ≡ 0xE0 → Written (b ∷ t) v l

@@ -13,11 +13,13 @@ use Rattle.base.specs.Choice.{pick, within}
 use Rattle.base.specs.Bytes.{Bytes}
 use Rattle.base.proofs.Ranged.{ranged}
 use Rattle.token.specs.declared.Token.{Token}
-use Rattle.token.specs.declared.Token.the-variants.{Value, Start, End, Cut, Bad}
+use Rattle.token.specs.declared.Token.the-variants.{Value as TokenValue, Start, End, Cut as TokenCut, Bad as TokenBad}
 use Rattle.token.proofs.Stopping.{Begun, Stopping}
-use Rattle.utf8.specs.Utf8.{leadOf, conts, readUtf8}
+use Rattle.utf8.specs.declared.Read.{Read}
+use Rattle.utf8.specs.declared.Read.the-variants.{Value, Cut, Bad}
+use Rattle.utf8.specs.Utf8.{leadOf, conts, readValue, asToken, readUtf8}
 use Rattle.utf8.specs.Scalar.{utf8Bytes, Scalar}
-use Rattle.utf8.proofs.First.{as-value}
+use Rattle.utf8.proofs.First.{as-value, back-cut, back-bad}
 use Rattle.utf8.proofs.Writing.{further, reached}
 use Rattle.utf8.proofs.Reading.{value-of}
 use Rattle.utf8.proofs.Coding.{read-nil}
@@ -63,7 +65,7 @@ record Stopped (n lo hi v k : ℕ) (s : List ℕ) (j : ℕ) : Type 0 where
   cut : conts n lo hi v k (take good s) ≡ Cut
   never : (x : List ℕ) → conts n lo hi v k (take (suc good) s ++ x) ≡ Bad j
 
-no-bad : {A : Type 0} (x : Token) (j : ℕ) → x ≡ Bad j → x ≡ Cut → A
+no-bad : {A : Type 0} (x : Token) (j : ℕ) → x ≡ TokenBad j → x ≡ TokenCut → A
 no-bad x j e f = let z : _≡_ {A = ℕ} 0 1 = cc in absurd (omega arith)
 
 stopped : (n lo hi v k : ℕ) (s : List ℕ) (j : ℕ) → conts n lo hi v k s ≡ Bad j → Stopped n lo hi v k s j
@@ -82,7 +84,7 @@ stopped (suc n) lo hi v k (b ∷ s) j e = go (within lo hi b) refl e (stopped n 
         record { good = 0; place = omega arith; within-list = omega arith; cut = refl; never = λ x. rw (p, q) }
 
 -- a first byte with a row, and the rest
-abbrev inner : ℕ → List ℕ → Token
+abbrev inner : ℕ → List ℕ → Read
 inner b t = conts (leadOf b .len - 1) (leadOf b .lo) (leadOf b .hi) (b % leadOf b .modulus) 1 t
 
 record Inner (b : ℕ) : Type 0 where
@@ -90,67 +92,67 @@ record Inner (b : ℕ) : Type 0 where
   no-end : b ≡ 0xFF → ⊥
   some-row : leadOf b .len ≡ 0 → ⊥
 
-read-inner : (b : ℕ) (t : List ℕ) → Inner b → readUtf8 (b ∷ t) ≡ inner b t
+read-inner : (b : ℕ) (t : List ℕ) → Inner b → readUtf8 (b ∷ t) ≡ asToken (inner b t)
 read-inner b t i = sym (as-value (b ∷ t) (omega arith) (i .no-start) (i .no-end) (leadOf b) refl (i .some-row))
 
 -- where a value is begun, or is bad after its first byte
-cut-inner : (b : ℕ) (t : List ℕ) → readUtf8 (b ∷ t) ≡ Cut → Inner b
-unfolding readUtf8
+cut-inner : (b : ℕ) (t : List ℕ) → readUtf8 (b ∷ t) ≡ TokenCut → Inner b
+unfolding readUtf8 readValue
 cut-inner b t e = go (eqb b 0xFE) refl (eqb b 0xFF) refl (eqb (leadOf b .len) 0) refl e
   where
     go : (x : Bool) → eqb b 0xFE ≡ x → (y : Bool) → eqb b 0xFF ≡ y → (z : Bool) → eqb (leadOf b .len) 0 ≡ z →
-        pick x Start (pick y End (pick z (Bad 0) (inner b t))) ≡ Cut → Inner b
+        pick x Start (pick y End (asToken (pick z (Bad 0) (inner b t)))) ≡ TokenCut → Inner b
     go true p y q z r f = let z : _≡_ {A = ℕ} 0 1 = cc in absurd (omega arith)
     go false p true q z r f = let z : _≡_ {A = ℕ} 0 1 = cc in absurd (omega arith)
     go false p false q true r f = let z : _≡_ {A = ℕ} 0 1 = cc in absurd (omega arith)
     go false p false q false r f = record { no-start = eqb-false b 0xFE p; no-end = eqb-false b 0xFF q; some-row = eqb-false (leadOf b .len) 0 r }
 
 abbrev BadAt : ℕ → List ℕ → ℕ → Type 0
-BadAt b t k = (good : ℕ) × (k ≡ good) × (good < suc (length t)) × (readUtf8 (take good (b ∷ t)) ≡ Cut) × ((x : List ℕ) → readUtf8 (take (suc good) (b ∷ t) ++ x) ≡ Bad k)
+BadAt b t k = (good : ℕ) × (k ≡ good) × (good < suc (length t)) × (readUtf8 (take good (b ∷ t)) ≡ TokenCut) × ((x : List ℕ) → readUtf8 (take (suc good) (b ∷ t) ++ x) ≡ TokenBad k)
 
-bad-at : (b : ℕ) (t : List ℕ) (k : ℕ) → readUtf8 (b ∷ t) ≡ Bad k → BadAt b t k
-unfolding readUtf8
+bad-at : (b : ℕ) (t : List ℕ) (k : ℕ) → readUtf8 (b ∷ t) ≡ TokenBad k → BadAt b t k
+unfolding readUtf8 readValue
 bad-at b t k e = go (eqb b 0xFE) refl (eqb b 0xFF) refl (eqb (leadOf b .len) 0) refl e
   where
     go : (x : Bool) → eqb b 0xFE ≡ x → (y : Bool) → eqb b 0xFF ≡ y → (z : Bool) → eqb (leadOf b .len) 0 ≡ z →
-        pick x Start (pick y End (pick z (Bad 0) (inner b t))) ≡ Bad k → BadAt b t k
+        pick x Start (pick y End (asToken (pick z (Bad 0) (inner b t)))) ≡ TokenBad k → BadAt b t k
     go true p y q z r f = let z : _≡_ {A = ℕ} 0 1 = cc in absurd (omega arith)
     go false p true q z r f = let z : _≡_ {A = ℕ} 0 1 = cc in absurd (omega arith)
     go false p false q true r f =
         let w : 0 ≡ k = cc in
         (0, sym w, omega arith, refl, λ x. rw (p, q, r, w))
     go false p false q false r f =
-        let u = stopped (leadOf b .len - 1) (leadOf b .lo) (leadOf b .hi) (b % leadOf b .modulus) 1 t k f in
-        (suc (u .good), omega (arith, u .place), omega (arith, u .within-list), rw (p, q, r) (u .cut), λ x. rw (p, q, r) (u .never x))
+        let u = stopped (leadOf b .len - 1) (leadOf b .lo) (leadOf b .hi) (b % leadOf b .modulus) 1 t k (back-bad (inner b t) k f) in
+        (suc (u .good), omega (arith, u .place), omega (arith, u .within-list), rw (p, q, r) (ap asToken (u .cut)), λ x. rw (p, q, r) (ap asToken (u .never x)))
 
-begun-value : (b : ℕ) (t more : List ℕ) (w : ℕ) → b < 254 → readUtf8 (b ∷ (t ++ more)) ≡ Value w (length (b ∷ (t ++ more))) → Begun Scalar utf8Bytes (b ∷ t)
+begun-value : (b : ℕ) (t more : List ℕ) (w : ℕ) → b < 254 → readUtf8 (b ∷ (t ++ more)) ≡ TokenValue w (length (b ∷ (t ++ more))) → Begun Scalar utf8Bytes (b ∷ t)
 begun-value b t more w h e =
     let r = value-of b (t ++ more) w (length (b ∷ (t ++ more))) e h in
     record { value = w; more = more; of = r .0; same = rw (drop-length (b ∷ (t ++ more)), append-nil) at (r .2) }
 
-cut-begun : (s : List ℕ) → Bytes s → readUtf8 s ≡ Cut → Begun Scalar utf8Bytes s
+cut-begun : (s : List ℕ) → Bytes s → readUtf8 s ≡ TokenCut → Begun Scalar utf8Bytes s
 unfolding utf8Bytes
 cut-begun [] y e = record { value = 0x41; more = 0x41 ∷ []; of = inl (omega arith); same = refl }
 cut-begun (b ∷ t) y e =
     let i = cut-inner b t e in
-    let g = grow (leadOf b .len - 1) (leadOf b .lo) (leadOf b .hi) (b % leadOf b .modulus) 1 t (some-bounds b (y .0)) (sym (read-inner b t i) ∙ e) in
+    let g = grow (leadOf b .len - 1) (leadOf b .lo) (leadOf b .hi) (b % leadOf b .modulus) 1 t (some-bounds b (y .0)) (back-cut (inner b t) (sym (read-inner b t i) ∙ e)) in
     let l : 1 + length (t ++ g .more) ≡ length (b ∷ (t ++ g .more)) = omega arith in
     let n = i .no-start in
     let m = i .no-end in
     let a = y .0 in
-    begun-value b t (g .more) (g .value) (omega arith) (read-inner b (t ++ g .more) i ∙ g .reads ∙ ap (Value (g .value)) l)
+    begun-value b t (g .more) (g .value) (omega arith) (read-inner b (t ++ g .more) i ∙ ap asToken (g .reads) ∙ ap (TokenValue (g .value)) l)
 
-bad-within : (s : List ℕ) (k : ℕ) → readUtf8 s ≡ Bad k → k < length s
+bad-within : (s : List ℕ) (k : ℕ) → readUtf8 s ≡ TokenBad k → k < length s
 bad-within [] k e = no-bad _ k e read-nil
 bad-within (b ∷ t) k e = let r = bad-at b t k e in omega (arith, r .1, r .2)
 
-bad-cut : (s : List ℕ) (k : ℕ) → readUtf8 s ≡ Bad k → readUtf8 (take k s) ≡ Cut
+bad-cut : (s : List ℕ) (k : ℕ) → readUtf8 s ≡ TokenBad k → readUtf8 (take k s) ≡ TokenCut
 bad-cut [] k e = no-bad _ k e read-nil
 bad-cut (b ∷ t) k e = let r = bad-at b t k e in rw (r .1) (r .3)
 
-bad-never : (s : List ℕ) (k : ℕ) (x : List ℕ) → readUtf8 s ≡ Bad k → readUtf8 (take (suc k) s ++ x) ≡ Bad k
+bad-never : (s : List ℕ) (k : ℕ) (x : List ℕ) → readUtf8 s ≡ TokenBad k → readUtf8 (take (suc k) s ++ x) ≡ TokenBad k
 bad-never [] k x e = no-bad _ k e read-nil
-bad-never (b ∷ t) k x e = let r = bad-at b t k e in mathlib.Core.Path.subst (λ (j : ℕ). readUtf8 (take (suc j) (b ∷ t) ++ x) ≡ Bad k) (sym (r .1)) (r .4 x)
+bad-never (b ∷ t) k x e = let r = bad-at b t k e in mathlib.Core.Path.subst (λ (j : ℕ). readUtf8 (take (suc j) (b ∷ t) ++ x) ≡ TokenBad k) (sym (r .1)) (r .4 x)
 
 pub stopping-utf8 : Stopping readUtf8 1 Scalar utf8Bytes (0xFE ∷ []) (0xFF ∷ [])
 stopping-utf8 = record {

@@ -1,5 +1,5 @@
 -- What is written in UTF-8 is read: the bytes of each length of value, and the reader on them.
-use mathlib.Core.Path.{_≡_, refl, sym, _∙_}
+use mathlib.Core.Path.{_≡_, refl, sym, _∙_, ap}
 use mathlib.Core.List.{List, [], _∷_, _++_}
 use mathlib.Core.Logic.{_⊎_, inl, inr}
 use Prim.Native.Nat.{ℕ, suc, _+_, _-_, _*_, _/_, _%_, _≤_, _<_}
@@ -8,7 +8,8 @@ use lib.ListN.{length}
 use borrow.Author.Tests.{le-leb, lt-ltb, le-ltb}
 use Rattle.base.proofs.Tests.{below}
 use Rattle.token.specs.declared.Token.the-variants.{Value}
-use Rattle.utf8.specs.Utf8.{row, leadOf, conts, readUtf8}
+use Rattle.utf8.specs.declared.Read.the-variants.{Value as ReadValue}
+use Rattle.utf8.specs.Utf8.{row, leadOf, conts, asToken, readUtf8}
 use Rattle.utf8.specs.Scalar.{utf8Bytes, Scalar}
 use Rattle.utf8.proofs.Rows.{row-1, row-2, row-3a, row-3b, row-3c, row-3d, row-4a, row-4b, row-4c}
 use Rattle.utf8.proofs.First.{as-value}
@@ -39,37 +40,37 @@ pub further : (n lo hi v k b : ℕ) (s : List ℕ) → lo ≤ b → b ≤ hi →
 unfolding conts
 further n lo hi v k b s g h = rw (le-leb lo b g, le-leb b hi h)
 
-pub reached : (lo hi v k : ℕ) (s : List ℕ) → conts 0 lo hi v k s ≡ Value v k
+pub reached : (lo hi v k : ℕ) (s : List ℕ) → conts 0 lo hi v k s ≡ ReadValue v k
 unfolding conts
 reached lo hi v k s = refl
 
 -- a value of n bytes, read
 module _ (b : ℕ) (h : b < 254) (m lo hi : ℕ) where
   read1 : (s : List ℕ) (v : ℕ) → v ≡ b % m → row 1 m lo hi ≡ leadOf b → readUtf8 (b ∷ s) ≡ Value v 1
-  read1 s v w e = sym (as-value (b ∷ s) (omega arith) (λ p. omega arith) (λ p. omega arith) (row 1 m lo hi) e (λ p. omega arith)) ∙ reached lo hi (b % m) 1 s ∙ rw w
+  read1 s v w e = sym (as-value (b ∷ s) (omega arith) (λ p. omega arith) (λ p. omega arith) (row 1 m lo hi) e (λ p. omega arith)) ∙ ap asToken (reached lo hi (b % m) 1 s) ∙ rw w
 
   read2 : (c : ℕ) (s : List ℕ) (v : ℕ) → v ≡ b % m * 64 + (c - 0x80) → row 2 m lo hi ≡ leadOf b → lo ≤ c → c ≤ hi → readUtf8 (b ∷ c ∷ s) ≡ Value v 2
   read2 c s v w e p q =
       sym (as-value (b ∷ c ∷ s) (omega arith) (λ p. omega arith) (λ p. omega arith) (row 2 m lo hi) e (λ p. omega arith))
-      ∙ further 0 lo hi (b % m) 1 c s p q
-      ∙ reached 0x80 0xBF (b % m * 64 + (c - 0x80)) 2 s ∙ rw w
+      ∙ ap asToken (further 0 lo hi (b % m) 1 c s p q
+      ∙ reached 0x80 0xBF (b % m * 64 + (c - 0x80)) 2 s) ∙ rw w
 
   read3 : (c d : ℕ) (s : List ℕ) (v : ℕ) → v ≡ (b % m * 64 + (c - 0x80)) * 64 + (d - 0x80) → row 3 m lo hi ≡ leadOf b → lo ≤ c → c ≤ hi → 0x80 ≤ d → d ≤ 0xBF →
       readUtf8 (b ∷ c ∷ d ∷ s) ≡ Value v 3
   read3 c d s v w e p q p' q' =
       sym (as-value (b ∷ c ∷ d ∷ s) (omega arith) (λ p. omega arith) (λ p. omega arith) (row 3 m lo hi) e (λ p. omega arith))
-      ∙ further 1 lo hi (b % m) 1 c (d ∷ s) p q
+      ∙ ap asToken (further 1 lo hi (b % m) 1 c (d ∷ s) p q
       ∙ further 0 0x80 0xBF (b % m * 64 + (c - 0x80)) 2 d s p' q'
-      ∙ reached 0x80 0xBF ((b % m * 64 + (c - 0x80)) * 64 + (d - 0x80)) 3 s ∙ rw w
+      ∙ reached 0x80 0xBF ((b % m * 64 + (c - 0x80)) * 64 + (d - 0x80)) 3 s) ∙ rw w
 
   read4 : (c d f : ℕ) (s : List ℕ) (v : ℕ) → v ≡ ((b % m * 64 + (c - 0x80)) * 64 + (d - 0x80)) * 64 + (f - 0x80) → row 4 m lo hi ≡ leadOf b → lo ≤ c → c ≤ hi → 0x80 ≤ d → d ≤ 0xBF → 0x80 ≤ f → f ≤ 0xBF →
       readUtf8 (b ∷ c ∷ d ∷ f ∷ s) ≡ Value v 4
   read4 c d f s v w e p q p' q' p'' q'' =
       sym (as-value (b ∷ c ∷ d ∷ f ∷ s) (omega arith) (λ p. omega arith) (λ p. omega arith) (row 4 m lo hi) e (λ p. omega arith))
-      ∙ further 2 lo hi (b % m) 1 c (d ∷ f ∷ s) p q
+      ∙ ap asToken (further 2 lo hi (b % m) 1 c (d ∷ f ∷ s) p q
       ∙ further 1 0x80 0xBF (b % m * 64 + (c - 0x80)) 2 d (f ∷ s) p' q'
       ∙ further 0 0x80 0xBF ((b % m * 64 + (c - 0x80)) * 64 + (d - 0x80)) 3 f s p'' q''
-      ∙ reached 0x80 0xBF (((b % m * 64 + (c - 0x80)) * 64 + (d - 0x80)) * 64 + (f - 0x80)) 4 s ∙ rw w
+      ∙ reached 0x80 0xBF (((b % m * 64 + (c - 0x80)) * 64 + (d - 0x80)) * 64 + (f - 0x80)) 4 s) ∙ rw w
 
 -- a value of each length, written and read
 two : (v : ℕ) (s : List ℕ) → 0x80 ≤ v → v < 0x800 → readUtf8 (utf8Bytes v ++ s) ≡ Value v (length (utf8Bytes v))

@@ -1,11 +1,14 @@
--- One token at the front of a list of bytes: well-formed UTF-8 (Unicode, Table 3-7); FE starts a sequence, FF ends a description.
+-- One value at the front of a list of bytes: well-formed UTF-8 (Unicode, Table 3-7). And one token: FE starts a sequence, FF ends a
+-- description, and anything else is a value.
 use mathlib.Core.List.{List, [], _∷_}
 use Prim.Native.Nat.{ℕ, zero, suc, _+_, _-_, _*_, _%_}
 use lib.Dec.{eqb}
 use Rattle.base.specs.Choice.{pick, within}
 use Rattle.token.specs.declared.Token.{Token}
-use Rattle.token.specs.declared.Token.the-variants.{Value, Start, End, Cut, Bad}
+use Rattle.token.specs.declared.Token.the-variants.{Value as TokenValue, Start, End, Cut as TokenCut, Bad as TokenBad}
 use Rattle.utf8.specs.declared.Lead.{Lead}
+use Rattle.utf8.specs.declared.Read.{Read}
+use Rattle.utf8.specs.declared.Read.the-variants.{Value, Cut, Bad}
 
 -- a row of Table 3-7: the value's length, the modulus that leaves the first byte's bits, the bounds of the second byte
 abbrev pub row : ℕ → ℕ → ℕ → ℕ → Lead
@@ -26,16 +29,25 @@ leadOf b =
     (row 0 1 0x80 0xBF)))))))))
 
 -- the bytes after the first: n more, the next within lo and hi; v so far, k bytes taken
-unfoldable pub conts : ℕ → ℕ → ℕ → ℕ → ℕ → List ℕ → Token
+unfoldable pub conts : ℕ → ℕ → ℕ → ℕ → ℕ → List ℕ → Read
 conts zero lo hi v k s = Value v k
 conts (suc n) lo hi v k [] = Cut
 conts (suc n) lo hi v k (b ∷ s) = pick (within lo hi b) (conts n 0x80 0xBF (v * 64 + (b - 0x80)) (k + 1) s) (Bad k)
 
+-- the value in front
+unfoldable pub readValue : List ℕ → Read
+readValue [] = Cut
+readValue (b ∷ s) =
+    pick (eqb (leadOf b .len) 0) (Bad 0)
+    (conts (leadOf b .len - 1) (leadOf b .lo) (leadOf b .hi) (b % leadOf b .modulus) 1 s)
+
+-- the same as a token
+abbrev pub asToken : Read → Token
+asToken (Value v l) = TokenValue v l
+asToken Cut = TokenCut
+asToken (Bad k) = TokenBad k
+
 -- the token in front
 unfoldable pub readUtf8 : List ℕ → Token
-readUtf8 [] = Cut
-readUtf8 (b ∷ s) =
-    pick (eqb b 0xFE) Start
-    (pick (eqb b 0xFF) End
-    (pick (eqb (leadOf b .len) 0) (Bad 0)
-    (conts (leadOf b .len - 1) (leadOf b .lo) (leadOf b .hi) (b % leadOf b .modulus) 1 s)))
+readUtf8 [] = TokenCut
+readUtf8 (b ∷ s) = pick (eqb b 0xFE) Start (pick (eqb b 0xFF) End (asToken (readValue (b ∷ s))))

@@ -1,11 +1,11 @@
-// Inner layer: one token at the front of some bytes, in UTF-8 with FE and FF as marks, and a value written. Definitions: specs/Utf8.antt,
+// Inner layer: one value at the front of some bytes, in UTF-8, or one token, FE and FF being marks; and a value written. Definitions: specs/Utf8.antt,
 // specs/Scalar.antt.
 ghost use mathlib.Core.Path.{_≡_};
 ghost use Prim.Native.Nat.{_+_, _-_, _*_, _≤_, _<_};
 ghost use lib.ListN.{length, drop};
 ghost use Rattle.base.specs.Choice.{within};
 ghost use Rattle.base.specs.Over.{over};
-ghost use Rattle.utf8.specs.Utf8.{leadOf, readUtf8, conts};
+ghost use Rattle.utf8.specs.Utf8.{leadOf, readValue, readUtf8, conts};
 ghost use Rattle.utf8.specs.Scalar.{Scalar, isScalar, utf8Bytes};
 use base::wide;
 use token::Token;
@@ -97,6 +97,14 @@ fn lead_of(b: u8) -> Lead
     }
 }
 
+// What stands at the front of some bytes: a value and how many bytes it has, the beginning of one whose end is missing, or bytes that
+// begin none, the place of the first wrong byte with it.
+pub enum Read {
+    Value(u32, usize),
+    Cut,
+    Bad(usize),
+}
+
 // Whether a byte is within bounds.
 fn is_within(x: u8, lo: u8, hi: u8) -> bool
     ensures { λ r. ⌜ r ≡ within lo hi x ⌝ }
@@ -116,79 +124,100 @@ fn six_more(v: u32, x: u8) -> u32
 }
 
 // A value of two bytes whose first gave v: the second has its bounds. Asks for what Table 3-7's rows have, as do the next two.
-fn two(s: &[u8], v: u32, lo: u8, hi: u8) -> Token
+fn two(s: &[u8], v: u32, lo: u8, hi: u8) -> Read
     requires { ⌜ (v < 128) × (128 ≤ lo) ⌝ }
     ensures { λ r. ⌜ r ≡ conts 1 lo hi v 1 (drop 1 (now (s .entry))) ⌝ }
 {
     if s.len() <= 1 {
-        return Token::Cut;
+        return Read::Cut;
     }
     let x = s[1];
     let second = is_within(x, lo, hi);
     if !second {
-        return Token::Bad(1);
+        return Read::Bad(1);
     }
-    Token::Value(six_more(v, x), 2)
+    Read::Value(six_more(v, x), 2)
 }
 
 // A value of three bytes: the third is 80 to BF.
-fn three(s: &[u8], v: u32, lo: u8, hi: u8) -> Token
+fn three(s: &[u8], v: u32, lo: u8, hi: u8) -> Read
     requires { ⌜ (v < 128) × (128 ≤ lo) ⌝ }
     ensures { λ r. ⌜ r ≡ conts 2 lo hi v 1 (drop 1 (now (s .entry))) ⌝ }
 {
     if s.len() <= 1 {
-        return Token::Cut;
+        return Read::Cut;
     }
     let x = s[1];
     let second = is_within(x, lo, hi);
     if !second {
-        return Token::Bad(1);
+        return Read::Bad(1);
     }
     if s.len() <= 2 {
-        return Token::Cut;
+        return Read::Cut;
     }
     let y = s[2];
     let third = is_within(y, 0x80, 0xBF);
     if !third {
-        return Token::Bad(2);
+        return Read::Bad(2);
     }
-    Token::Value(six_more(six_more(v, x), y), 3)
+    Read::Value(six_more(six_more(v, x), y), 3)
 }
 
 // A value of four bytes: the third and the fourth are 80 to BF.
-fn four(s: &[u8], v: u32, lo: u8, hi: u8) -> Token
+fn four(s: &[u8], v: u32, lo: u8, hi: u8) -> Read
     requires { ⌜ (v < 128) × (128 ≤ lo) ⌝ }
     ensures { λ r. ⌜ r ≡ conts 3 lo hi v 1 (drop 1 (now (s .entry))) ⌝ }
 {
     if s.len() <= 1 {
-        return Token::Cut;
+        return Read::Cut;
     }
     let x = s[1];
     let second = is_within(x, lo, hi);
     if !second {
-        return Token::Bad(1);
+        return Read::Bad(1);
     }
     if s.len() <= 2 {
-        return Token::Cut;
+        return Read::Cut;
     }
     let y = s[2];
     let third = is_within(y, 0x80, 0xBF);
     if !third {
-        return Token::Bad(2);
+        return Read::Bad(2);
     }
     if s.len() <= 3 {
-        return Token::Cut;
+        return Read::Cut;
     }
     let z = s[3];
     let fourth = is_within(z, 0x80, 0xBF);
     if !fourth {
-        return Token::Bad(3);
+        return Read::Bad(3);
     }
-    Token::Value(six_more(six_more(six_more(v, x), y), z), 4)
+    Read::Value(six_more(six_more(six_more(v, x), y), z), 4)
 }
 
-// The token at the front of some bytes: a value and its length, a mark, Cut where the bytes end too soon,
-// Bad with the place of the first byte that no well-formed value has there.
+// The value at the front of some bytes, and its length; Cut where the bytes end too soon, Bad with the place of the first byte that no
+// well-formed value has there.
+pub fn read_value(s: &[u8]) -> Read
+    ensures { λ r. ⌜ r ≡ readValue (now (s .entry)) ⌝ }
+{
+    if s.len() == 0 {
+        return Read::Cut;
+    }
+    let b = s[0];
+    let l = lead_of(b);
+    let m = l.modulus;
+    let v = wide(b % m);
+    let n = l.len;
+    match n {
+        0 => Read::Bad(0),
+        1 => Read::Value(v, 1),
+        2 => two(s, v, l.lo, l.hi),
+        3 => three(s, v, l.lo, l.hi),
+        _ => four(s, v, l.lo, l.hi),
+    }
+}
+
+// The token at the front of some bytes: a mark, or what is read as a value.
 pub fn read_utf8(s: &[u8]) -> Token
     ensures { λ r. ⌜ r ≡ readUtf8 (now (s .entry)) ⌝ }
 {
@@ -202,16 +231,11 @@ pub fn read_utf8(s: &[u8]) -> Token
     if b == 0xFF {
         return Token::End;
     }
-    let l = lead_of(b);
-    let m = l.modulus;
-    let v = wide(b % m);
-    let n = l.len;
-    match n {
-        0 => Token::Bad(0),
-        1 => Token::Value(v, 1),
-        2 => two(s, v, l.lo, l.hi),
-        3 => three(s, v, l.lo, l.hi),
-        _ => four(s, v, l.lo, l.hi),
+    let r = read_value(s);
+    match r {
+        Read::Value(v, l) => Token::Value(v, l),
+        Read::Cut => Token::Cut,
+        Read::Bad(k) => Token::Bad(k),
     }
 }
 

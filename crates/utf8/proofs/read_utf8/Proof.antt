@@ -1,22 +1,15 @@
--- `utf8::read_utf8` meets its contract: the first byte decides, the others follow its row. Assumes nothing.
-use mathlib.Core.Path.{_≡_, _∙_}
+-- `utf8::read_utf8` meets its contract: a mark, or what is read as a value. Assumes nothing.
+use mathlib.Core.Path.{_≡_, _∙_, ap, sym}
 use native.Mathlib.Omega.{arith}
-use native.Mathlib.Nat.{mod-lt}
-use lib.ListN.{getD}
 use denote.Ref.{now}
-use Rattle.utf8.proofs.First.{empty, as-start, as-end, as-bad, as-long}
-use Rattle.utf8.proofs.Conts.{done}
-use Rattle.utf8.proofs.Rows.{Fine, all-fine}
+use Rattle.utf8.specs.Utf8.{asToken}
+use Rattle.utf8.proofs.First.{empty, as-start, as-end, no-mark}
 use borrow.Author.Needs.{needs}
 use Rattle.utf8.proofs.read_utf8.Statement.{statement}
 use Rattle.utf8.proofs.read_utf8.Tie as tie
 use Rattle.utf8.proofs.read_utf8.Reads as reads
 use Rattle.utf8.proofs.read_utf8.Lts as lts
-use Rattle.base.proofs.wide.Reads as wide-reads
-use Rattle.utf8.proofs.four.Reads as four-reads
-use Rattle.utf8.proofs.lead_of.Reads as lead-of-reads
-use Rattle.utf8.proofs.three.Reads as three-reads
-use Rattle.utf8.proofs.two.Reads as two-reads
+use Rattle.utf8.proofs.read_value.Reads as read-value-reads
 
 returns : tie.Need-returns
 returns c = empty _ (c .if1 .taken)
@@ -30,38 +23,26 @@ returns-2 c = as-start _ (omega arith) (c .if2 .taken)
 returns-3 : tie.Need-returns-3
 returns-3 c = as-end _ (omega arith) (c .before .if2 .left) (c .if3 .taken)
 
-lead-of-requires : tie.Need-lead-of-requires
-lead-of-requires c κs = search needs
+read-value-requires : tie.Need-read-value-requires
+read-value-requires c κs = search needs
 
-rem-wide : tie.Need-rem-wide
-rem-wide c = let f : Fine (c .lead-of .result) = rw (c .lead-of .ensures) (all-fine _ (omega (arith, c .before .before .before .shared-slice-known2 .given 0))) in omega arith
+enum-known-r : tie.Need-enum-known-r
+enum-known-r c = search needs
 
-wide-requires : tie.Need-wide-requires
-wide-requires c κs = search needs
+enum-told : tie.Need-enum-told
+enum-told c = search needs
 
-two-requires : tie.Need-two-requires
-two-requires c κs = let f : Fine (c .before .before .lead-of .result) = rw (c .before .before .lead-of .ensures) (all-fine _ (omega (arith, c .before .before .before .before .before .shared-slice-known2 .given 0))) in let w = c .before .wide .ensures .0 in (omega (arith, mod-lt (getD (now (c .before .before .before .before .before .before .before .before .args .s)) 0 0) (f .some)), omega arith)
-
-three-requires : tie.Need-three-requires
-three-requires c κs = let f : Fine (c .before .before .lead-of .result) = rw (c .before .before .lead-of .ensures) (all-fine _ (omega (arith, c .before .before .before .before .before .shared-slice-known2 .given 0))) in let w = c .before .wide .ensures .0 in (omega (arith, mod-lt (getD (now (c .before .before .before .before .before .before .before .before .args .s)) 0 0) (f .some)), omega arith)
-
-four-requires : tie.Need-four-requires
-four-requires c κs = let f : Fine (c .before .before .lead-of .result) = rw (c .before .before .lead-of .ensures) (all-fine _ (omega (arith, c .before .before .before .before .before .shared-slice-known2 .given 0))) in let w = c .before .wide .ensures .0 in (omega (arith, mod-lt (getD (now (c .before .before .before .before .before .before .before .before .args .s)) 0 0) (f .some)), omega arith)
+enum-known-r-2 : tie.Need-enum-known-r-2
+enum-known-r-2 c = search needs
 
 returns-4 : tie.Need-returns-4
-returns-4 c = as-bad _ (omega arith) (c .before .before .before .before .if2 .left) (c .before .before .before .if3 .left) _ (c .before .before .lead-of .ensures) (c .match .keys1)
+returns-4 c = ap asToken (sym (c .before .r .given .1) ∙ c .before .before .before .read-value .ensures) ∙ no-mark (now (c .before .before .before .before .before .before .before .before .before .args .s)) (omega arith) (c .before .before .before .before .before .if2 .left) (c .before .before .before .before .if3 .left)
 
 returns-5 : tie.Need-returns-5
-returns-5 c = done (now (c .before .before .before .before .before .before .before .before .args .s)) 1 1 _ _ _ (omega arith) ∙ as-long _ (omega arith) (c .before .before .before .before .if2 .left) (c .before .before .before .if3 .left) _ (c .before .before .lead-of .ensures) 0 (c .match .keys2) _ (c .before .wide .ensures .0)
+returns-5 c = ap asToken (sym (c .enum-told .given .1) ∙ c .before .before .read-value .ensures) ∙ no-mark (now (c .before .before .before .before .before .before .before .before .args .s)) (omega arith) (c .before .before .before .before .if2 .left) (c .before .before .before .if3 .left)
 
 returns-6 : tie.Need-returns-6
-returns-6 c = c .two .ensures ∙ as-long _ (omega arith) (c .before .before .before .before .before .if2 .left) (c .before .before .before .before .if3 .left) _ (c .before .before .before .lead-of .ensures) 1 (c .before .match .keys3) _ (c .before .before .wide .ensures .0)
-
-returns-7 : tie.Need-returns-7
-returns-7 c = c .three .ensures ∙ as-long _ (omega arith) (c .before .before .before .before .before .if2 .left) (c .before .before .before .before .if3 .left) _ (c .before .before .before .lead-of .ensures) 2 (c .before .match .keys4) _ (c .before .before .wide .ensures .0)
-
-returns-8 : tie.Need-returns-8
-returns-8 c = let f : Fine (c .before .before .before .lead-of .result) = rw (c .before .before .before .lead-of .ensures) (all-fine _ (omega (arith, c .before .before .before .before .before .before .shared-slice-known2 .given 0))) in let m = c .before .match .rest in let n : c .before .before .before .lead-of .result .len ≡ 4 = omega (arith, f .few, m .0 .0 .0 .1, m .0 .0 .1, m .0 .1, m .1) in c .four .ensures ∙ as-long _ (omega arith) (c .before .before .before .before .before .if2 .left) (c .before .before .before .before .if3 .left) _ (c .before .before .before .lead-of .ensures) 3 n _ (c .before .before .wide .ensures .0)
+returns-6 c = ap asToken (sym (c .before .r2 .given .1) ∙ c .before .before .before .read-value .ensures) ∙ no-mark (now (c .before .before .before .before .before .before .before .before .before .args .s)) (omega arith) (c .before .before .before .before .before .if2 .left) (c .before .before .before .before .if3 .left)
 
 pub read-utf8-spec : {M : Type 1} → statement M
 read-utf8-spec =
@@ -71,14 +52,10 @@ read-utf8-spec =
     shared-slice-read-b
     returns-2
     returns-3
-    lead-of-requires
-    rem-wide
-    wide-requires
-    two-requires
-    three-requires
-    four-requires
+    read-value-requires
+    enum-known-r
+    enum-told
+    enum-known-r-2
     returns-4
     returns-5
-    returns-6
-    returns-7
-    returns-8)
+    returns-6)
