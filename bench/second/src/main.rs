@@ -3,46 +3,26 @@
 
 use std::hint::black_box;
 
-#[inline(never)]
-#[no_mangle]
-extern "C" fn bench_check(file: &Vec<u8>) {
-    black_box(second::check(black_box(file)).is_ok());
+/// A function of its own for each figure, whose instructions callgrind counts.
+macro_rules! figures {
+    ($($name:ident($($word:ident: $kind:ty),*) = $call:expr;)*) => {$(
+        #[inline(never)]
+        #[no_mangle]
+        pub fn $name(file: &Vec<u8>, $($word: $kind),*) {
+            let asked: fn(&[u8], $($kind),*) -> bool = $call;
+            black_box(asked(black_box(file), $($word),*));
+        }
+    )*};
 }
 
-#[inline(never)]
-#[no_mangle]
-extern "C" fn bench_none(file: &Vec<u8>) {
-    black_box(second::find_value(black_box(file), 0x10FFF0).is_ok());
-}
-
-#[inline(never)]
-#[no_mangle]
-extern "C" fn bench_last(file: &Vec<u8>, v: u32) {
-    black_box(second::find_value(black_box(file), v).is_ok());
-}
-
-#[inline(never)]
-#[no_mangle]
-extern "C" fn bench_psf1_to_psf2(file: &Vec<u8>, out: &mut Vec<u8>) {
-    black_box(second::psf1_to_psf2(black_box(file), out).is_ok());
-}
-
-#[inline(never)]
-#[no_mangle]
-extern "C" fn bench_psf2_to_psf1(file: &Vec<u8>, out: &mut Vec<u8>) {
-    black_box(second::psf2_to_psf1(black_box(file), out).is_ok());
-}
-
-#[inline(never)]
-#[no_mangle]
-extern "C" fn bench_psf2_to_vfont2(file: &Vec<u8>, out: &mut Vec<u8>) {
-    black_box(second::psf2_to_vfont2(black_box(file), out).is_ok());
-}
-
-#[inline(never)]
-#[no_mangle]
-extern "C" fn bench_vfont2_to_psf2(file: &Vec<u8>, out: &mut Vec<u8>) {
-    black_box(second::vfont2_to_psf2(black_box(file), out).is_ok());
+figures! {
+    bench_check() = |file| second::check(file).is_ok();
+    bench_none() = |file| second::find_value(file, 0x10FFF0).is_ok();
+    bench_last(v: u32) = |file, v| second::find_value(file, v).is_ok();
+    bench_psf1_to_psf2(out: &mut [u8]) = |file, out| second::psf1_to_psf2(file, out).is_ok();
+    bench_psf2_to_psf1(out: &mut [u8]) = |file, out| second::psf2_to_psf1(file, out).is_ok();
+    bench_psf2_to_vfont2(out: &mut [u8]) = |file, out| second::psf2_to_vfont2(file, out).is_ok();
+    bench_vfont2_to_psf2(out: &mut [u8]) = |file, out| second::vfont2_to_psf2(file, out).is_ok();
 }
 
 fn main() {

@@ -68,7 +68,7 @@ fn entry_bitmap(file: &[u8], f: Font, at: usize) -> Located
     }
 }
 
-// Glyph g's bitmap; and that it stands in the file.
+// Glyph g's bitmap; and that it stands in the file. Asks for a font whose header passed (`Placed`), as do all public functions here.
 pub fn locate(file: &[u8], f: Font, g: usize) -> Located
     requires { ⌜ Placed (now file) f ⌝ }
     ensures equal { λ r. ⌜ r ≡ bitmapOf (now (file .entry)) f g ⌝ }

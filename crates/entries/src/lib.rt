@@ -29,7 +29,8 @@ fn raised(v: u32) -> u32
     if v < 32768 { v + 32768 } else { v - 32768 }
 }
 
-// The sum of two signed numbers of 16 bits, as a whole number, or 0 where it is below zero.
+// The sum of two signed numbers of 16 bits, as a whole number, or 0 where it is below zero. Asks for numbers of two bytes: each
+// caller has just read them.
 pub fn span(a: u32, b: u32) -> u32
     requires { ⌜ (a < 65536) × (b < 65536) ⌝ }
     ensures { λ r. ⌜ (r ≡ countOf (signed16 a +ℤ signed16 b)) × (r < 65536) ⌝ }
@@ -82,7 +83,8 @@ fn larger_of(a: usize, b: usize) -> usize
     a
 }
 
-// What the entry at `at` says, where the bitmaps have `total` bytes. Asks that the entry stands in the file.
+// What the entry at `at` says, where the bitmaps have `total` bytes. Asks that the entry stands in the file: each caller has
+// tested the length.
 pub fn entry_at(file: &[u8], total: usize, at: usize) -> Entry
     requires { ⌜ at + 18 ≤ length (now file) ⌝ }
     ensures { λ r. ⌜ r ≡ entryOf (now (file .entry)) total at ⌝ }

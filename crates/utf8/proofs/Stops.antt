@@ -20,7 +20,8 @@ use Rattle.utf8.specs.declared.Read.the-variants.{Value, Cut, Bad}
 use Rattle.utf8.specs.Utf8.{leadOf, conts, readValue, asToken, readUtf8}
 use Rattle.utf8.specs.Scalar.{utf8Bytes, Scalar}
 use Rattle.utf8.proofs.First.{as-value, back-cut, back-bad}
-use Rattle.utf8.proofs.Writing.{further, reached}
+use Rattle.utf8.proofs.Conts.{reached}
+use Rattle.utf8.proofs.Writing.{further}
 use Rattle.utf8.proofs.Reading.{value-of}
 use Rattle.utf8.proofs.Coding.{read-nil}
 

@@ -8,10 +8,10 @@ use lib.ListN.{length}
 use borrow.Author.Tests.{le-leb, lt-ltb, le-ltb}
 use Rattle.base.proofs.Tests.{below}
 use Rattle.token.specs.declared.Token.the-variants.{Value}
-use Rattle.utf8.specs.declared.Read.the-variants.{Value as ReadValue}
 use Rattle.utf8.specs.Utf8.{row, leadOf, conts, asToken, readUtf8}
 use Rattle.utf8.specs.Scalar.{utf8Bytes, Scalar}
 use Rattle.utf8.proofs.Rows.{row-1, row-2, row-3a, row-3b, row-3c, row-3d, row-4a, row-4b, row-4c}
+use Rattle.utf8.proofs.Conts.{reached}
 use Rattle.utf8.proofs.First.{as-value}
 
 -- how many bytes a value has
@@ -39,10 +39,6 @@ bytes4 v g =
 pub further : (n lo hi v k b : ℕ) (s : List ℕ) → lo ≤ b → b ≤ hi → conts (suc n) lo hi v k (b ∷ s) ≡ conts n 0x80 0xBF (v * 64 + (b - 0x80)) (k + 1) s
 unfolding conts
 further n lo hi v k b s g h = rw (le-leb lo b g, le-leb b hi h)
-
-pub reached : (lo hi v k : ℕ) (s : List ℕ) → conts 0 lo hi v k s ≡ ReadValue v k
-unfolding conts
-reached lo hi v k s = refl
 
 -- a value of n bytes, read
 module _ (b : ℕ) (h : b < 254) (m lo hi : ℕ) where

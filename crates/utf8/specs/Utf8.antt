@@ -1,7 +1,8 @@
 -- One value at the front of a list of bytes: well-formed UTF-8 (Unicode, Table 3-7). And one token: FE starts a sequence, FF ends a
 -- description, and anything else is a value.
 use mathlib.Core.List.{List, [], _∷_}
-use Prim.Native.Nat.{ℕ, zero, suc, _+_, _-_, _*_, _%_}
+use mathlib.Core.Path.{_≡_}
+use Prim.Native.Nat.{ℕ, zero, suc, _+_, _-_, _*_, _%_, _<_}
 use lib.Dec.{eqb}
 use Rattle.base.specs.Choice.{pick, within}
 use Rattle.token.specs.declared.Token.{Token}
@@ -33,6 +34,12 @@ unfoldable pub conts : ℕ → ℕ → ℕ → ℕ → ℕ → List ℕ → Read
 conts zero lo hi v k s = Value v k
 conts (suc n) lo hi v k [] = Cut
 conts (suc n) lo hi v k (b ∷ s) = pick (within lo hi b) (conts n 0x80 0xBF (v * 64 + (b - 0x80)) (k + 1) s) (Bad k)
+
+-- a value that was read is below a number, and so many bytes long
+abbrev pub Reached : ℕ → ℕ → Read → Type 0
+Reached n k (Value v l) = (v < n) × (l ≡ k)
+Reached n k Cut = Unit {0}
+Reached n k (Bad j) = Unit {0}
 
 -- the value in front
 unfoldable pub readValue : List ℕ → Read

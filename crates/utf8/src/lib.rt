@@ -5,7 +5,7 @@ ghost use Prim.Native.Nat.{_+_, _-_, _*_, _≤_, _<_};
 ghost use lib.ListN.{length, drop};
 ghost use Rattle.base.specs.Choice.{within};
 ghost use Rattle.base.specs.Over.{over};
-ghost use Rattle.utf8.specs.Utf8.{leadOf, readValue, readUtf8, conts};
+ghost use Rattle.utf8.specs.Utf8.{leadOf, readValue, readUtf8, conts, Reached};
 ghost use Rattle.utf8.specs.Scalar.{Scalar, isScalar, utf8Bytes};
 use base::wide;
 use token::Token;
@@ -123,76 +123,47 @@ fn six_more(v: u32, x: u8) -> u32
     v * 64 + wide(x - 0x80)
 }
 
-// A value of two bytes whose first gave v: the second has its bounds. Asks for what Table 3-7's rows have, as do the next two.
-fn two(s: &[u8], v: u32, lo: u8, hi: u8) -> Read
-    requires { ⌜ (v < 128) × (128 ≤ lo) ⌝ }
-    ensures { λ r. ⌜ r ≡ conts 1 lo hi v 1 (drop 1 (now (s .entry))) ⌝ }
+// A value's byte k, within its bounds, where those before it gave v: the value if it ends here. Asks for what the bytes before can give,
+// and for bounds from 80 on, as Table 3-7's rows have them.
+fn further(s: &[u8], k: usize, v: u32, lo: u8, hi: u8) -> Read
+    requires { ⌜ (v < 1048576) × (128 ≤ lo) ⌝ }
+    ensures { λ r. ⌜ (r ≡ conts 1 lo hi v k (drop k (now (s .entry)))) × Reached (v * 64 + 128) (k + 1) r ⌝ }
 {
-    if s.len() <= 1 {
+    if s.len() <= k {
         return Read::Cut;
     }
-    let x = s[1];
-    let second = is_within(x, lo, hi);
-    if !second {
-        return Read::Bad(1);
+    let x = s[k];
+    let inside = is_within(x, lo, hi);
+    if !inside {
+        return Read::Bad(k);
     }
-    Read::Value(six_more(v, x), 2)
+    Read::Value(six_more(v, x), k + 1)
 }
 
-// A value of three bytes: the third is 80 to BF.
+// A value of three bytes whose first gave v: the second has its bounds, the third is 80 to BF. Asks for what the rows have.
 fn three(s: &[u8], v: u32, lo: u8, hi: u8) -> Read
     requires { ⌜ (v < 128) × (128 ≤ lo) ⌝ }
-    ensures { λ r. ⌜ r ≡ conts 2 lo hi v 1 (drop 1 (now (s .entry))) ⌝ }
+    ensures { λ r. ⌜ (r ≡ conts 2 lo hi v 1 (drop 1 (now (s .entry)))) × Reached 532544 3 r ⌝ }
 {
-    if s.len() <= 1 {
-        return Read::Cut;
+    let r = further(s, 1, v, lo, hi);
+    match r {
+        Read::Value(w, _) => further(s, 2, w, 0x80, 0xBF),
+        Read::Cut => Read::Cut,
+        Read::Bad(k) => Read::Bad(k),
     }
-    let x = s[1];
-    let second = is_within(x, lo, hi);
-    if !second {
-        return Read::Bad(1);
-    }
-    if s.len() <= 2 {
-        return Read::Cut;
-    }
-    let y = s[2];
-    let third = is_within(y, 0x80, 0xBF);
-    if !third {
-        return Read::Bad(2);
-    }
-    Read::Value(six_more(six_more(v, x), y), 3)
 }
 
-// A value of four bytes: the third and the fourth are 80 to BF.
+// A value of four bytes: three, and the fourth is 80 to BF too. Asks for what the rows have.
 fn four(s: &[u8], v: u32, lo: u8, hi: u8) -> Read
     requires { ⌜ (v < 128) × (128 ≤ lo) ⌝ }
     ensures { λ r. ⌜ r ≡ conts 3 lo hi v 1 (drop 1 (now (s .entry))) ⌝ }
 {
-    if s.len() <= 1 {
-        return Read::Cut;
+    let r = three(s, v, lo, hi);
+    match r {
+        Read::Value(w, _) => further(s, 3, w, 0x80, 0xBF),
+        Read::Cut => Read::Cut,
+        Read::Bad(k) => Read::Bad(k),
     }
-    let x = s[1];
-    let second = is_within(x, lo, hi);
-    if !second {
-        return Read::Bad(1);
-    }
-    if s.len() <= 2 {
-        return Read::Cut;
-    }
-    let y = s[2];
-    let third = is_within(y, 0x80, 0xBF);
-    if !third {
-        return Read::Bad(2);
-    }
-    if s.len() <= 3 {
-        return Read::Cut;
-    }
-    let z = s[3];
-    let fourth = is_within(z, 0x80, 0xBF);
-    if !fourth {
-        return Read::Bad(3);
-    }
-    Read::Value(six_more(six_more(six_more(v, x), y), z), 4)
 }
 
 // The value at the front of some bytes, and its length; Cut where the bytes end too soon, Bad with the place of the first byte that no
@@ -211,7 +182,7 @@ pub fn read_value(s: &[u8]) -> Read
     match n {
         0 => Read::Bad(0),
         1 => Read::Value(v, 1),
-        2 => two(s, v, l.lo, l.hi),
+        2 => further(s, 1, v, l.lo, l.hi),
         3 => three(s, v, l.lo, l.hi),
         _ => four(s, v, l.lo, l.hi),
     }

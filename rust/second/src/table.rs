@@ -212,10 +212,16 @@ fn describe(parts: Vec<(usize, Vec<(u32, usize)>)>, end_at: usize) -> Option<Des
     Some(description)
 }
 
-/// FE and FF are in no well-formed UTF-8, so every FF ends a description and
-/// every FE starts a sequence.
-fn read_utf8(tail: &[u8]) -> Option<Vec<Description>> {
-    let mut pieces: Vec<&[u8]> = tail.split(|&b| b == 0xFF).collect();
+/// Cuts words of so many bytes at the end marks, each piece at the start marks,
+/// and decodes what is between: each value and the words before it in its part.
+fn cut<W: PartialEq>(
+    words: &[W],
+    width: usize,
+    start: W,
+    end: W,
+    values_of: impl Fn(&[W]) -> Option<Vec<(u32, usize)>>,
+) -> Option<Vec<Description>> {
+    let mut pieces: Vec<&[W]> = words.split(|w| *w == end).collect();
     if !pieces.pop()?.is_empty() {
         return None;
     }
@@ -224,16 +230,25 @@ fn read_utf8(tail: &[u8]) -> Option<Vec<Description>> {
     for piece in pieces {
         let mut parts = Vec::new();
         let mut part_at = at;
-        for part in piece.split(|&b| b == 0xFE) {
-            let text = std::str::from_utf8(part).ok()?;
-            let values = text.char_indices().map(|(i, c)| (c as u32, part_at + i)).collect();
-            parts.push((part_at.wrapping_sub(1), values));
+        for part in piece.split(|w| *w == start) {
+            let values = values_of(part)?;
+            let placed = values.into_iter().map(|(v, i)| (v, width * (part_at + i))).collect();
+            parts.push(((width * part_at).wrapping_sub(width), placed));
             part_at += part.len() + 1;
         }
-        descriptions.push(describe(parts, at + piece.len())?);
+        descriptions.push(describe(parts, width * (at + piece.len()))?);
         at += piece.len() + 1;
     }
     Some(descriptions)
+}
+
+/// FE and FF are in no well-formed UTF-8, so every FF ends a description and
+/// every FE starts a sequence.
+fn read_utf8(tail: &[u8]) -> Option<Vec<Description>> {
+    cut(tail, 1, 0xFE, 0xFF, |part| {
+        let text = std::str::from_utf8(part).ok()?;
+        Some(text.char_indices().map(|(i, c)| (c as u32, i)).collect())
+    })
 }
 
 /// All words are two bytes long, so the units stand at even offsets.
@@ -242,25 +257,9 @@ fn read_units(tail: &[u8]) -> Option<Vec<Description>> {
         return None;
     }
     let units: Vec<u16> = tail.chunks(2).map(|b| u16::from_le_bytes([b[0], b[1]])).collect();
-    let mut pieces: Vec<&[u16]> = units.split(|&u| u == 0xFFFF).collect();
-    if !pieces.pop()?.is_empty() {
-        return None;
-    }
-    let mut descriptions = Vec::new();
-    let mut at = 0;
-    for piece in pieces {
-        let mut parts = Vec::new();
-        let mut part_at = at;
-        for part in piece.split(|&u| u == 0xFFFE) {
-            let values = part.iter().enumerate();
-            let values = values.map(|(i, &u)| (u as u32, 2 * (part_at + i))).collect();
-            parts.push(((2 * part_at).wrapping_sub(2), values));
-            part_at += part.len() + 1;
-        }
-        descriptions.push(describe(parts, 2 * (at + piece.len()))?);
-        at += piece.len() + 1;
-    }
-    Some(descriptions)
+    cut(&units, 2, 0xFFFE, 0xFFFF, |part| {
+        Some(part.iter().enumerate().map(|(i, &u)| (u as u32, i)).collect())
+    })
 }
 
 /// The values a description has as singles.

@@ -1,11 +1,11 @@
 -- `utf8::read_value` meets its contract: the first byte's row decides. Assumes nothing.
-use mathlib.Core.Path.{_≡_, _∙_}
+use mathlib.Core.Path.{_≡_, sym, _∙_}
 use native.Mathlib.Omega.{arith}
 use native.Mathlib.Nat.{mod-lt}
 use lib.ListN.{getD}
 use denote.Ref.{now}
 use Rattle.utf8.proofs.First.{no-bytes, no-value, long-value}
-use Rattle.utf8.proofs.Conts.{done}
+use Rattle.utf8.proofs.Conts.{reached}
 use Rattle.utf8.proofs.Rows.{Fine, all-fine}
 use borrow.Author.Needs.{needs}
 use Rattle.utf8.proofs.read_value.Statement.{statement}
@@ -14,9 +14,9 @@ use Rattle.utf8.proofs.read_value.Reads as reads
 use Rattle.utf8.proofs.read_value.Lts as lts
 use Rattle.base.proofs.wide.Reads as wide-reads
 use Rattle.utf8.proofs.four.Reads as four-reads
+use Rattle.utf8.proofs.further.Reads as further-reads
 use Rattle.utf8.proofs.lead_of.Reads as lead-of-reads
 use Rattle.utf8.proofs.three.Reads as three-reads
-use Rattle.utf8.proofs.two.Reads as two-reads
 
 returns : tie.Need-returns
 returns c = no-bytes _ (c .if1 .taken)
@@ -33,8 +33,8 @@ rem-wide c = let f : Fine (c .lead-of .result) = rw (c .lead-of .ensures) (all-f
 wide-requires : tie.Need-wide-requires
 wide-requires c κs = search needs
 
-two-requires : tie.Need-two-requires
-two-requires c κs = let f : Fine (c .before .before .lead-of .result) = rw (c .before .before .lead-of .ensures) (all-fine _ (omega (arith, c .before .before .before .shared-slice-known2 .given 0))) in let w = c .before .wide .ensures .0 in (omega (arith, mod-lt (getD (now (c .before .before .before .before .before .before .args .s)) 0 0) (f .some)), omega arith)
+further-requires : tie.Need-further-requires
+further-requires c κs = let f : Fine (c .before .before .lead-of .result) = rw (c .before .before .lead-of .ensures) (all-fine _ (omega (arith, c .before .before .before .shared-slice-known2 .given 0))) in let w = c .before .wide .ensures .0 in (omega (arith, mod-lt (getD (now (c .before .before .before .before .before .before .args .s)) 0 0) (f .some), f .small), omega arith)
 
 three-requires : tie.Need-three-requires
 three-requires c κs = let f : Fine (c .before .before .lead-of .result) = rw (c .before .before .lead-of .ensures) (all-fine _ (omega (arith, c .before .before .before .shared-slice-known2 .given 0))) in let w = c .before .wide .ensures .0 in (omega (arith, mod-lt (getD (now (c .before .before .before .before .before .before .args .s)) 0 0) (f .some)), omega arith)
@@ -46,13 +46,13 @@ returns-2 : tie.Need-returns-2
 returns-2 c = no-value _ (omega arith) _ (c .before .before .lead-of .ensures) (c .match .keys1)
 
 returns-3 : tie.Need-returns-3
-returns-3 c = done (now (c .before .before .before .before .before .before .args .s)) 1 1 _ _ _ (omega arith) ∙ long-value _ (omega arith) _ (c .before .before .lead-of .ensures) 0 (c .match .keys2) _ (c .before .wide .ensures .0)
+returns-3 c = sym (reached _ _ _ 1 _) ∙ long-value _ (omega arith) _ (c .before .before .lead-of .ensures) 0 (c .match .keys2) _ (c .before .wide .ensures .0)
 
 returns-4 : tie.Need-returns-4
-returns-4 c = c .two .ensures ∙ long-value _ (omega arith) _ (c .before .before .before .lead-of .ensures) 1 (c .before .match .keys3) _ (c .before .before .wide .ensures .0)
+returns-4 c = c .further .ensures .0 ∙ long-value _ (omega arith) _ (c .before .before .before .lead-of .ensures) 1 (c .before .match .keys3) _ (c .before .before .wide .ensures .0)
 
 returns-5 : tie.Need-returns-5
-returns-5 c = c .three .ensures ∙ long-value _ (omega arith) _ (c .before .before .before .lead-of .ensures) 2 (c .before .match .keys4) _ (c .before .before .wide .ensures .0)
+returns-5 c = c .three .ensures .0 ∙ long-value _ (omega arith) _ (c .before .before .before .lead-of .ensures) 2 (c .before .match .keys4) _ (c .before .before .wide .ensures .0)
 
 returns-6 : tie.Need-returns-6
 returns-6 c = let f : Fine (c .before .before .before .lead-of .result) = rw (c .before .before .before .lead-of .ensures) (all-fine _ (omega (arith, c .before .before .before .before .shared-slice-known2 .given 0))) in let m = c .before .match .rest in let n : c .before .before .before .lead-of .result .len ≡ 4 = omega (arith, f .few, m .0 .0 .0 .1, m .0 .0 .1, m .0 .1, m .1) in c .four .ensures ∙ long-value _ (omega arith) _ (c .before .before .before .lead-of .ensures) 3 n _ (c .before .before .wide .ensures .0)
@@ -66,7 +66,7 @@ read-value-spec =
     lead-of-requires
     rem-wide
     wide-requires
-    two-requires
+    further-requires
     three-requires
     four-requires
     returns-2

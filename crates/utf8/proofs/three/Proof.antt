@@ -1,63 +1,49 @@
--- `utf8::three` meets its contract: by the tests of the second and the third byte. Assumes nothing.
+-- `utf8::three` meets its contract: the second byte, and then the third. Assumes nothing but what it asks.
 use native.Mathlib.Omega.{arith}
-use borrow.Author.Tests.{not-true, not-false}
+use Prim.Native.Nat.{_+_, _*_}
 use mathlib.Core.Path.{_≡_, refl, sym, _∙_}
-use lib.ListN.{getD}
 use denote.Ref.{now}
-use Rattle.utf8.proofs.Conts.{cut, outside, inside, done, bounds}
+use Rattle.utf8.proofs.Conts.{then-value, then-cut, then-bad, reached-low}
 use borrow.Author.Needs.{needs}
 use Rattle.utf8.proofs.three.Statement.{statement}
 use Rattle.utf8.proofs.three.Tie as tie
 use Rattle.utf8.proofs.three.Reads as reads
 use Rattle.utf8.proofs.three.Lts as lts
-use Rattle.utf8.proofs.is_within.Reads as is-within-reads
-use Rattle.utf8.proofs.six_more.Reads as six-more-reads
+use Rattle.utf8.proofs.further.Reads as further-reads
+
+further-requires : tie.Need-further-requires
+further-requires c κs = search needs
+
+enum-known-r : tie.Need-enum-known-r
+enum-known-r c = search needs
+
+further-requires-2 : tie.Need-further-requires-2
+further-requires-2 c κs = let p = rw (c .before .r .given .1) at (c .before .before .before .further .ensures .1) in (omega (arith, p .0), omega arith)
+
+enum-told : tie.Need-enum-told
+enum-told c = search needs
+
+enum-known-r-2 : tie.Need-enum-known-r-2
+enum-known-r-2 c = search needs
 
 returns : tie.Need-returns
-returns c = cut (now (c .before .before .args .s)) 3 1 (c .before .before .args .lo) (c .before .before .args .hi) (c .before .before .args .v) (omega arith) (c .if1 .taken)
-
-shared-slice-read-x : tie.Need-shared-slice-read-x
-shared-slice-read-x c = search needs
-
-is-within-requires : tie.Need-is-within-requires
-is-within-requires c κs = search needs
+returns c = let p = rw (c .before .before .r .given .1) at (c .before .before .before .before .further .ensures .1) in (then-value (now (c .before .before .before .before .before .before .args .s)) 0 1 (c .before .before .before .before .before .before .args .lo) (c .before .before .before .before .before .before .args .hi) (c .before .before .before .before .before .before .args .v) _ _ (sym (c .before .before .r .given .1) ∙ c .before .before .before .before .further .ensures .0) (p .1) _ (c .further2 .ensures .0), reached-low (c .before .before .r .given .0 .0 * 64 + 128) 532544 3 (c .further2 .result) (omega (arith, p .0)) (c .further2 .ensures .1))
 
 returns-2 : tie.Need-returns-2
-returns-2 c = outside (now (c .before .before .before .before .before .args .s)) 3 1 (c .before .before .before .before .before .args .lo) (c .before .before .before .before .before .args .hi) (c .before .before .before .before .before .args .v) (omega arith) (c .before .before .before .if1 .left) (sym (c .before .is-within .ensures) ∙ not-true _ (c .if2 .taken))
+returns-2 c = (then-cut (now (c .before .before .before .before .args .s)) 0 1 (c .before .before .before .before .args .lo) (c .before .before .before .before .args .hi) (c .before .before .before .before .args .v) (sym (c .enum-told .given .1) ∙ c .before .before .further .ensures .0), tt)
 
 returns-3 : tie.Need-returns-3
-returns-3 c = cut (now (c .before .before .before .before .before .before .args .s)) 3 2 128 191 _ (omega arith) (c .if3 .taken) ∙ inside (now (c .before .before .before .before .before .before .args .s)) 3 1 (c .before .before .before .before .before .before .args .lo) (c .before .before .before .before .before .before .args .hi) (c .before .before .before .before .before .before .args .v) (omega arith) (c .before .before .before .before .if1 .left) (sym (c .before .before .is-within .ensures) ∙ not-false _ (c .before .if2 .left)) _ refl
-
-shared-slice-read-y : tie.Need-shared-slice-read-y
-shared-slice-read-y c = search needs
-
-is-within-requires-2 : tie.Need-is-within-requires-2
-is-within-requires-2 c κs = search needs
-
-returns-4 : tie.Need-returns-4
-returns-4 c = outside (now (c .before .before .before .before .before .before .before .before .before .args .s)) 3 2 128 191 _ (omega arith) (c .before .before .before .if3 .left) (sym (c .before .is-within2 .ensures) ∙ not-true _ (c .if4 .taken)) ∙ inside (now (c .before .before .before .before .before .before .before .before .before .args .s)) 3 1 (c .before .before .before .before .before .before .before .before .before .args .lo) (c .before .before .before .before .before .before .before .before .before .args .hi) (c .before .before .before .before .before .before .before .before .before .args .v) (omega arith) (c .before .before .before .before .before .before .before .if1 .left) (sym (c .before .before .before .before .before .is-within .ensures) ∙ not-false _ (c .before .before .before .before .if2 .left)) _ refl
-
-six-more-requires : tie.Need-six-more-requires
-six-more-requires c κs = let b = bounds (c .before .before .before .before .before .before .before .before .before .args .lo) (c .before .before .before .before .before .before .before .before .before .args .hi) _ (sym (c .before .before .before .before .before .is-within .ensures) ∙ not-false _ (c .before .before .before .before .if2 .left)) in (omega arith, omega (arith, b .0))
-
-six-more-requires-2 : tie.Need-six-more-requires-2
-six-more-requires-2 c κs = let e = c .six-more .ensures .1 in let d = bounds 128 191 (getD (now (c .before .before .before .before .before .before .before .before .before .before .args .s)) 2 0) (sym (c .before .before .is-within2 .ensures) ∙ not-false _ (c .before .if4 .left)) in (omega arith, omega (arith, d .0))
-
-returns-5 : tie.Need-returns-5
-returns-5 c = done (now (c .before .before .before .before .before .before .before .before .before .before .before .args .s)) 3 3 128 191 _ (omega arith) ∙ inside (now (c .before .before .before .before .before .before .before .before .before .before .before .args .s)) 3 2 128 191 _ (omega arith) (c .before .before .before .before .before .if3 .left) (sym (c .before .before .before .is-within2 .ensures) ∙ not-false _ (c .before .before .if4 .left)) _ (c .six-more2 .ensures .0) ∙ inside (now (c .before .before .before .before .before .before .before .before .before .before .before .args .s)) 3 1 (c .before .before .before .before .before .before .before .before .before .before .before .args .lo) (c .before .before .before .before .before .before .before .before .before .before .before .args .hi) (c .before .before .before .before .before .before .before .before .before .before .before .args .v) (omega arith) (c .before .before .before .before .before .before .before .before .before .if1 .left) (sym (c .before .before .before .before .before .before .before .is-within .ensures) ∙ not-false _ (c .before .before .before .before .before .before .if2 .left)) _ (c .before .six-more .ensures .0)
+returns-3 c = (then-bad (now (c .before .before .before .before .before .args .s)) 0 1 (c .before .before .before .before .before .args .lo) (c .before .before .before .before .before .args .hi) (c .before .before .before .before .before .args .v) _ (sym (c .before .r2 .given .1) ∙ c .before .before .before .further .ensures .0), tt)
 
 pub three-spec : {M : Type 1} → statement M
 three-spec =
     tie.close
     (tie.spec
+    further-requires
+    enum-known-r
+    further-requires-2
+    enum-told
+    enum-known-r-2
     returns
-    shared-slice-read-x
-    is-within-requires
     returns-2
-    returns-3
-    shared-slice-read-y
-    is-within-requires-2
-    returns-4
-    six-more-requires
-    six-more-requires-2
-    returns-5)
+    returns-3)
