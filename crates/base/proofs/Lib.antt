@@ -3,5 +3,6 @@ pub mod Tests
 pub mod Chain
 pub mod Ranged
 pub mod Parts
+pub mod Lists
 pub mod Over
 pub mod Numbers

@@ -163,6 +163,3 @@ sized-inside s f c e h i l = omega (arith, h i l)
 
 pub counted : (n c d : ℕ) → c ≡ d → n * c ≡ n * d
 counted n c d e = rw e
-
-pub tail-length : (s : List ℕ) (a : ℕ) → length (take (length s - a) (drop a s)) ≡ length s - a
-tail-length s a = ap length (rest-all s a) ∙ length-drop a s

@@ -8,6 +8,7 @@ use native.Mathlib.Nat.{mul-le-mul, mul-le-mul-right}
 use lib.ListN.{length, getD, drop, length-append}
 use lib.Seq.{drop-append-add, getD-drop, drop-drop}
 use borrow.Author.Tests.{lt-ltb, le-ltb}
+use Rattle.entries.proofs.Meaning.{entry-next}
 use Rattle.base.specs.Choice.{pick}
 use Rattle.base.specs.Numbers.{le16, le32, bytes16, bytes32}
 use Rattle.base.proofs.Numbers.{le16-bytes, le32-bytes}
@@ -119,9 +120,6 @@ larger-same a = rw (le-ltb a a (omega arith))
 
 larger-zero : (a : ℕ) → 1 ≤ a → larger 0 a ≡ a
 larger-zero a h = rw (lt-ltb 0 a h)
-
-entry-next : (at i : ℕ) → entryAt (at + 18) i ≡ entryAt at (suc i)
-entry-next at i = omega arith
 
 scan-same : (s : List ℕ) (total h w k at : ℕ) → ((i : ℕ) → i < k → entryOf s total (entryAt at i) ≡ Glyph h w) → scanOf s total k at h w ≡ Greatest h w
 scan-same s total h w zero at f = entry-cases.scanned s total 0 at h w refl

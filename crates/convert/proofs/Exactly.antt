@@ -9,6 +9,7 @@ use native.Mathlib.Decide.{ℕ-discrete}
 use lib.Dec.{ltb, eqb}
 use lib.ListN.{length, length-drop}
 use borrow.Author.Tests.{lt-ltb, le-ltb, ltb-true, ltb-false, eq-eqb, ne-eqb}
+use Rattle.entries.proofs.Meaning.{entry-next, entry-here}
 use Rattle.base.specs.Choice.{when}
 use Rattle.base.specs.Bytes.{Bytes}
 use Rattle.base.proofs.Tests.{below}
@@ -178,12 +179,6 @@ module _ (s : List ℕ) (h w : ℕ) where
   abbrev First : ℕ → ℕ → ℕ → Type 0
   First k at p = (i : ℕ) × (i < k) × (p ≡ entryAt at i) × (isEven s h w p ≡ false) × ((j : ℕ) → j < i → isEven s h w (entryAt at j) ≡ true)
 
-  shift : (at i : ℕ) → entryAt (at + 18) i ≡ entryAt at (suc i)
-  shift at i = omega arith
-
-  start : (at : ℕ) → at ≡ entryAt at 0
-  start at = omega arith
-
   first-uneven : (k at p : ℕ) → evenness s h w k at ≡ Uneven p → First k at p
   unfolding evenness when
   first-uneven zero at p e = let z : _≡_ {A = ℕ} 0 1 = cc in absurd (omega arith)
@@ -192,24 +187,24 @@ module _ (s : List ℕ) (h w : ℕ) where
       go : (t : Bool) → isEven s h w at ≡ t → (evenness s h w k (at + 18) ≡ Uneven p → First k (at + 18) p) → when t (evenness s h w k (at + 18)) (Uneven at) ≡ Uneven p → First (suc k) at p
       go true q ih e =
           let r = ih e in
-          (suc (r .0), omega (arith, r .1), r .2 ∙ shift at (r .0), r .3, before (r .0) (r .4))
+          (suc (r .0), omega (arith, r .1), r .2 ∙ entry-next at (r .0), r .3, before (r .0) (r .4))
         where
           before : (i : ℕ) → ((j : ℕ) → j < i → isEven s h w (entryAt (at + 18) j) ≡ true) → (j : ℕ) → j < suc i → isEven s h w (entryAt at j) ≡ true
-          before i f zero l = ap (isEven s h w) (sym (start at)) ∙ q
-          before i f (suc j) l = ap (isEven s h w) (sym (shift at j)) ∙ f j (omega arith)
+          before i f zero l = ap (isEven s h w) (entry-here at) ∙ q
+          before i f (suc j) l = ap (isEven s h w) (sym (entry-next at j)) ∙ f j (omega arith)
       go false q ih e =
           let z : at ≡ p = cc in
-          (0, omega arith, sym z ∙ start at, ap (isEven s h w) (sym z) ∙ q, λ j l. absurd (omega arith))
+          (0, omega arith, sym z ∙ sym (entry-here at), ap (isEven s h w) (sym z) ∙ q, λ j l. absurd (omega arith))
 
   uneven-found : (k at i : ℕ) → i < k → isEven s h w (entryAt at i) ≡ false → ((j : ℕ) → j < i → isEven s h w (entryAt at j) ≡ true) → evenness s h w k at ≡ Uneven (entryAt at i)
   unfolding evenness when
   uneven-found zero at i l e f = absurd (omega arith)
   uneven-found (suc k) at zero l e f =
-      let z : isEven s h w at ≡ false = ap (isEven s h w) (start at) ∙ e in
-      rw z (ap Uneven (start at))
+      let z : isEven s h w at ≡ false = ap (isEven s h w) (sym (entry-here at)) ∙ e in
+      rw z (ap Uneven (sym (entry-here at)))
   uneven-found (suc k) at (suc i) l e f =
-      let z : isEven s h w at ≡ true = ap (isEven s h w) (start at) ∙ f 0 (omega arith) in
-      rw z (uneven-found k (at + 18) i (omega arith) (ap (isEven s h w) (shift at i) ∙ e) (λ j q. ap (isEven s h w) (shift at j) ∙ f (suc j) (omega arith)) ∙ ap Uneven (shift at i))
+      let z : isEven s h w at ≡ true = ap (isEven s h w) (sym (entry-here at)) ∙ f 0 (omega arith) in
+      rw z (uneven-found k (at + 18) i (omega arith) (ap (isEven s h w) (entry-next at i) ∙ e) (λ j q. ap (isEven s h w) (entry-next at j) ∙ f (suc j) (omega arith)) ∙ ap Uneven (entry-next at i))
 
 -- a test that fails, and one that does not hold
 test-false : {A : Type 0} (t : Bool) → (t ≡ true) ↔ A → (A → ⊥) → t ≡ false

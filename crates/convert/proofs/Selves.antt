@@ -9,6 +9,7 @@ use lib.Dec.{ltb, eqb}
 use lib.ListN.{length, getD, take, drop, take-append-drop, length-drop}
 use lib.Seq.{drop-cons, drop-drop, take-add}
 use borrow.Author.Tests.{eqb-true}
+use Rattle.base.proofs.Parts.{byte-at}
 use Rattle.base.specs.Choice.{pick, when}
 use Rattle.base.specs.Numbers.{le16, le32, bytes32}
 use Rattle.base.specs.Bytes.{Bytes}
@@ -24,7 +25,6 @@ use Rattle.header.proofs.Sources.{source}
 use Rattle.font.specs.Check.{tailOf, checkOf}
 use Rattle.font.proofs.Cases.{accepted}
 use Rattle.convert.specs.Outputs.{bitmapsOf}
-use Rattle.convert.proofs.Shapes.{byte-at}
 
 four : (a b c d p q r s : ℕ) → a ≡ p → b ≡ q → c ≡ r → d ≡ s → a ∷ b ∷ c ∷ d ∷ [] ≡ p ∷ q ∷ r ∷ s ∷ []
 four a b c d p q r s e f g h = λ i. e i ∷ f i ∷ g i ∷ h i ∷ []

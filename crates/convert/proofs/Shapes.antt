@@ -7,6 +7,7 @@ use Prim.Native.Nat.{ℕ, zero, suc, _+_, _-_, _*_, _%_, _≤_, _<_}
 use native.Mathlib.Omega.{arith}
 use lib.Dec.{eqb}
 use lib.ListN.{length, getD}
+use Rattle.base.proofs.Parts.{byte-at}
 use Rattle.base.specs.Choice.{pick}
 use Rattle.base.specs.Bytes.{Bytes}
 use Rattle.entries.specs.Entries.{addressAt, sizeAt, rowsAt, colsAt, glyphBytes, rowBytes, entryOf}
@@ -28,11 +29,6 @@ use Rattle.plan.specs.declared.Evenness.the-variants.{Even as AllEven}
 use Rattle.plan.specs.Plans.{evenness}
 use Rattle.plan.proofs.Evens.{EvenFields, even-each, even-fields, even-rows, even-cols, even-size}
 use Rattle.convert.proofs.Sounds.{Shape}
-
-pub byte-at : (s : List ℕ) → Bytes s → (i : ℕ) → getD s i 0 < 256
-byte-at [] y i = omega arith
-byte-at (b ∷ s) y zero = y .0
-byte-at (b ∷ s) y (suc i) = byte-at s (y .1) i
 
 pub psf1-counts : (m : ℕ) → (psf1Count m ≡ 256) ⊎ (psf1Count m ≡ 512)
 unfolding psf1Count

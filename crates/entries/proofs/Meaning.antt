@@ -100,24 +100,24 @@ record Grown (s : List ℕ) (k at : ℕ) (m : ℕ → ℕ) (h z : ℕ) : Type 0 
   bound : (i : ℕ) → i < k → HasGlyph s (entryAt at i) → m (entryAt at i) ≤ z
   met : (z ≡ h) ⊎ ((i : ℕ) × (i < k) × HasGlyph s (entryAt at i) × (m (entryAt at i) ≡ z))
 
-shift : (at i : ℕ) → entryAt (at + 18) i ≡ entryAt at (suc i)
-shift at i = omega arith
+pub entry-next : (at i : ℕ) → entryAt (at + 18) i ≡ entryAt at (suc i)
+entry-next at i = omega arith
 
-here : (at : ℕ) → entryAt at 0 ≡ at
-here at = omega arith
+pub entry-here : (at : ℕ) → entryAt at 0 ≡ at
+entry-here at = omega arith
 
 -- one more entry in front, which has no glyph
 skip : (s : List ℕ) (k at : ℕ) (m : ℕ → ℕ) (h z : ℕ) → (HasGlyph s at → ⊥) → Grown s k (at + 18) m h z → Grown s (suc k) at m h z
 skip s k at m h z none g = record { above = g .above; bound = bound; met = met (g .met) }
   where
     bound : (i : ℕ) → i < suc k → HasGlyph s (entryAt at i) → m (entryAt at i) ≤ z
-    bound zero l p = absurd (none (rw (here at) at p))
-    bound (suc i) l p = rw (shift at i) at (g .bound i (omega arith) (rw (← (shift at i)) at p))
+    bound zero l p = absurd (none (rw (entry-here at) at p))
+    bound (suc i) l p = rw (entry-next at i) at (g .bound i (omega arith) (rw (← (entry-next at i)) at p))
 
     met : (z ≡ h) ⊎ ((i : ℕ) × (i < k) × HasGlyph s (entryAt (at + 18) i) × (m (entryAt (at + 18) i) ≡ z)) →
         (z ≡ h) ⊎ ((i : ℕ) × (i < suc k) × HasGlyph s (entryAt at i) × (m (entryAt at i) ≡ z))
     met (inl e) = inl e
-    met (inr (i, l, p, e)) = inr (suc i, omega arith, rw (shift at i) at p, rw (shift at i) at e)
+    met (inr (i, l, p, e)) = inr (suc i, omega arith, rw (entry-next at i) at p, rw (entry-next at i) at e)
 
 -- one more entry in front, which has one
 grow : (s : List ℕ) (k at : ℕ) (m : ℕ → ℕ) (h r z : ℕ) → HasGlyph s at → r ≡ m at → Grown s k (at + 18) m (larger h r) z → Grown s (suc k) at m h z
@@ -128,14 +128,14 @@ grow s k at m h r z some er g = record { above = omega (arith, larger-left h r, 
         let x = larger-right h r in
         let y = g .above in
         let u : r ≤ z = omega arith in
-        rw (here at, ← er) u
-    bound (suc i) l p = rw (shift at i) at (g .bound i (omega arith) (rw (← (shift at i)) at p))
+        rw (entry-here at, ← er) u
+    bound (suc i) l p = rw (entry-next at i) at (g .bound i (omega arith) (rw (← (entry-next at i)) at p))
 
     met : (z ≡ larger h r) ⊎ ((i : ℕ) × (i < k) × HasGlyph s (entryAt (at + 18) i) × (m (entryAt (at + 18) i) ≡ z)) → (larger h r ≡ h) ⊎ (larger h r ≡ r) →
         (z ≡ h) ⊎ ((i : ℕ) × (i < suc k) × HasGlyph s (entryAt at i) × (m (entryAt at i) ≡ z))
     met (inl e) (inl f) = inl (e ∙ f)
-    met (inl e) (inr f) = inr (0, omega arith, rw (here at) some, rw (here at) (sym (e ∙ f ∙ er)))
-    met (inr (i, l, p, e)) y = inr (suc i, omega arith, rw (shift at i) at p, rw (shift at i) at e)
+    met (inl e) (inr f) = inr (0, omega arith, rw (entry-here at) some, rw (entry-here at) (sym (e ∙ f ∙ er)))
+    met (inr (i, l, p, e)) y = inr (suc i, omega arith, rw (entry-next at i) at p, rw (entry-next at i) at e)
 
 -- what each answer of the scan says
 abbrev ScanSays : List ℕ → ℕ → ℕ → ℕ → ℕ → ℕ → Scan → Type 0
@@ -148,16 +148,16 @@ past : (s : List ℕ) (total k at h w h' w' : ℕ) → (Breaks s total at → �
     ((z : ℕ) → Grown s k (at + 18) (colsAt s) w' z → Grown s (suc k) at (colsAt s) w z) →
     (x : Scan) → ScanSays s total k (at + 18) h' w' x → ScanSays s total (suc k) at h w x
 past s total k at h w h' w' fine f g (Bad x) b =
-    record { index = suc (b .index); within = let l = b .within in omega arith; place = b .place ∙ shift at (b .index); breaks = b .breaks; first = first }
+    record { index = suc (b .index); within = let l = b .within in omega arith; place = b .place ∙ entry-next at (b .index); breaks = b .breaks; first = first }
   where
     first : (j : ℕ) → j < suc (b .index) → Breaks s total (entryAt at j) → ⊥
-    first zero l p = fine (rw (here at) at p)
-    first (suc j) l p = b .first j (omega arith) (rw (← (shift at j)) at p)
+    first zero l p = fine (rw (entry-here at) at p)
+    first (suc j) l p = b .first j (omega arith) (rw (← (entry-next at j)) at p)
 past s total k at h w h' w' fine f g (Greatest y z) b = (none, f y (b .1), g z (b .2))
   where
     none : (i : ℕ) → i < suc k → Breaks s total (entryAt at i) → ⊥
-    none zero l p = fine (rw (here at) at p)
-    none (suc i) l p = b .0 i (omega arith) (rw (← (shift at i)) at p)
+    none zero l p = fine (rw (entry-here at) at p)
+    none (suc i) l p = b .0 i (omega arith) (rw (← (entry-next at i)) at p)
 
 scan-says : (s : List ℕ) (total k at h w : ℕ) → ScanSays s total k at h w (scanOf s total k at h w)
 unfolding scanOf
@@ -176,7 +176,7 @@ scan-says s total (suc k) at h w = go (λ a b. scan-says s total k (at + 18) a b
         past s total k at h w (larger h r) (larger w c) (λ b. b .1 (e .1))
         (λ z. grow s k at (rowsAt s) h r z (e .0) (e .2)) (λ z. grow s k at (colsAt s) w c z (e .0) (e .3)) (scanOf s total k (at + 18) (larger h r) (larger w c))
         (ih (larger h r) (larger w c))
-    go ih Broken e = record { index = 0; within = omega arith; place = sym (here at); breaks = e; first = λ j l p. absurd (omega arith) }
+    go ih Broken e = record { index = 0; within = omega arith; place = sym (entry-here at); breaks = e; first = λ j l p. absurd (omega arith) }
 
 -- grown from nothing is the greatest
 greatest : (s : List ℕ) (n start : ℕ) (m : ℕ → ℕ) (z : ℕ) → Grown s n start m 0 z → ((i : ℕ) → i < n → HasGlyph s (entryAt start i) → 1 ≤ m (entryAt start i)) → IsGreatest s n start m z

@@ -35,7 +35,7 @@ unfolding when
 passes true r y f e = absurd (never r f e)
 passes false r y f e = (refl, e)
 
-reads : (t : Bool) (r : Refusal) (y : Head) (f : Fields) → when t (Stop r) y ≡ Read f → (t ≡ false) × (y ≡ Read f)
+pub reads : (t : Bool) (r : Refusal) (y : Head) (f : Fields) → when t (Stop r) y ≡ Read f → (t ≡ false) × (y ≡ Read f)
 unfolding when
 reads true r y f e = let z : _≡_ {A = ℕ} 0 1 = cc in absurd (omega arith)
 reads false r y f e = (refl, e)

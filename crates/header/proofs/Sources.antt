@@ -24,12 +24,7 @@ use Rattle.header.specs.declared.Head.{Head}
 use Rattle.header.specs.declared.Head.the-variants.{Read, Stop}
 use Rattle.header.specs.declared.Checked.{Checked}
 use Rattle.header.specs.declared.Checked.the-variants.{Sound, Refused}
-use Rattle.header.proofs.Inverse.{never, passes}
-
-reads : (t : Bool) (r : Refusal) (y : Head) (f : Fields) → when t (Stop r) y ≡ Read f → (t ≡ false) × (y ≡ Read f)
-unfolding when
-reads true r y f e = let z : _≡_ {A = ℕ} 0 1 = cc in absurd (omega arith)
-reads false r y f e = (refl, e)
+use Rattle.header.proofs.Inverse.{never, passes, reads}
 
 module _ (s : List ℕ) where
   abbrev pub Psf1Known : Font → Type 0

@@ -7,6 +7,7 @@ use Prim.Native.Nat.{ℕ, _+_, _*_, _/_, _%_, _≤_, _<_}
 use native.Mathlib.Omega.{arith}
 use lib.ListN.{length, getD}
 use borrow.Author.Tests.{lt-ltb, le-ltb}
+use Rattle.base.proofs.Parts.{byte-at}
 use Rattle.base.specs.Choice.{when}
 use Rattle.base.specs.Bytes.{Bytes}
 use Rattle.base.proofs.Tests.{below}
@@ -38,7 +39,6 @@ use Rattle.font.specs.Check.{checkOf}
 use Rattle.font.proofs.Cases.{accepted}
 use Rattle.fonts.specs.Questions.{glyphPartOf, rowPartOf, pixelAt}
 use Rattle.laws.proofs.Rows.{equal}
-use Rattle.laws.proofs.Reading.{third-byte}
 
 ask-glyph : {A : Type 0} (x : Part) → x ≡ Refused Ask → x ≡ Refused NoGlyph → A
 ask-glyph x e f = let z : _≡_ {A = ℕ} 0 1 = cc in absurd (omega arith)
@@ -66,7 +66,7 @@ module _ (s : List ℕ) (y : Bytes s) (f : Font) (sound : checkOf s ≡ Sound f)
   passed = accepted s f sound .0
 
   stands : Placed s f
-  stands = placed s f (third-byte s y 3) passed
+  stands = placed s f (byte-at s y 3) passed
 
   -- no entry of a sound font breaks a rule
   pub no-entry-breaks : f .kind ≡ Vfont2 → (g : ℕ) → g < f .count → Breaks s (f .size) (entryAt (f .entries) g) → ⊥

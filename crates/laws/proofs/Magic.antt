@@ -5,6 +5,7 @@ use mathlib.Core.List.{List, [], _∷_}
 use Prim.Native.Nat.{ℕ, suc, _+_, _*_, _≤_, _<_}
 use native.Mathlib.Omega.{arith}
 use lib.ListN.{length, take}
+use Rattle.base.proofs.Lists.{same2, same4}
 use Rattle.base.specs.Bytes.{Bytes}
 use Rattle.base.specs.Numbers.{le16, le32}
 use Rattle.base.proofs.Tests.{below, same}
@@ -16,12 +17,6 @@ use Rattle.header.specs.Headers.{kindOf}
 use Rattle.header.proofs.Cases.{under-two, is-psf1, under-four, is-psf2, is-vfont2, no-kind}
 use Rattle.laws.specs.Rows.{Begins, psf1Magic, psf2Magic, vfont2Magic}
 
-two : (a b c d : ℕ) → a ≡ c → b ≡ d → a ∷ b ∷ [] ≡ c ∷ d ∷ []
-two a b c d e f = cc
-
-four : (a b c d e f g h : ℕ) → a ≡ e → b ≡ f → c ≡ g → d ≡ h → a ∷ b ∷ c ∷ d ∷ [] ≡ e ∷ f ∷ g ∷ h ∷ []
-four a b c d e f g h i j k l = cc
-
 -- two bytes
 module _ (m a b : ℕ) (em : m ≡ a + 256 * b) (ha : a < 256) (hb : b < 256) where
   pub begins-two : (s : List ℕ) → Bytes s → 2 ≤ length s → le16 s 0 ≡ m → take 2 s ≡ a ∷ b ∷ []
@@ -32,7 +27,7 @@ module _ (m a b : ℕ) (em : m ≡ a + 256 * b) (ha : a < 256) (hb : b < 256) wh
       let p = y .0 in
       let q = y .1 .0 in
       let u : x + 256 * z ≡ m = e in
-      two x z a b (omega arith) (omega arith)
+      same2 x z a b (omega arith) (omega arith)
 
   pub two-begins : (s : List ℕ) → take 2 s ≡ a ∷ b ∷ [] → (2 ≤ length s) × (le16 s 0 ≡ m)
   unfolding le16
@@ -57,7 +52,7 @@ module _ (m a b c d : ℕ) (em : m ≡ a + 256 * b + 65536 * c + 16777216 * d) (
       let r = y .1 .1 .0 in
       let t = y .1 .1 .1 .0 in
       let u : x + 256 * z + 65536 * v + 16777216 * w ≡ m = e in
-      four x z v w a b c d (omega arith) (omega arith) (omega arith) (omega arith)
+      same4 x z v w a b c d (omega arith) (omega arith) (omega arith) (omega arith)
 
   pub four-begins : (s : List ℕ) → take 4 s ≡ a ∷ b ∷ c ∷ d ∷ [] → (4 ≤ length s) × (le32 s 0 ≡ m)
   unfolding le32

@@ -10,7 +10,7 @@ use lib.Seq.{take-all}
 use borrow.Author.Tests.{le-ltb}
 use Rattle.base.specs.Choice.{when}
 use Rattle.base.specs.Bytes.{Bytes}
-use Rattle.base.proofs.Parts.{bytes-drop}
+use Rattle.base.proofs.Parts.{bytes-drop, byte-at}
 use Rattle.refusal.specs.declared.Refusal.{Refusal}
 use Rattle.refusal.specs.declared.Refusal.the-variants.{TableCut, TableBad, Trailing, Ask, Unmapped}
 use Rattle.refusal.specs.Refusals.{placeOf}
@@ -84,11 +84,6 @@ is-unmapped : (w : Found) → found w ≡ NoLookup Unmapped → w ≡ Nothing
 is-unmapped (At h) e = let z : _≡_ {A = ℕ} 0 1 = cc in absurd (omega arith)
 is-unmapped Nothing e = refl
 
-pub third-byte : (s : List ℕ) → Bytes s → (i : ℕ) → getD s i 0 < 256
-third-byte [] y i = omega arith
-third-byte (b ∷ s) y zero = y .0
-third-byte (b ∷ s) y (suc i) = third-byte s (y .1) i
-
 module _ (s : List ℕ) (y : Bytes s) (f : Font) (passed : headerOf s ≡ Sound f) (marked : f .table ≡ true) where
   c : Coding
   c = codingOf (f .kind)
@@ -100,7 +95,7 @@ module _ (s : List ℕ) (y : Bytes s) (f : Font) (passed : headerOf s ≡ Sound 
   checked = sym (with-table s f marked ∙ header-sound s f passed)
 
   where-it-ends : f .end + length (tailOf s f) ≡ length s
-  where-it-ends = let p = placed s f (third-byte s y 3) passed in omega (arith, p .7, length-drop (f .end) s)
+  where-it-ends = let p = placed s f (byte-at s y 3) passed in omega (arith, p .7, length-drop (f .end) s)
 
   pub accepted-exactly : (checkOf s ≡ Sound f) ↔ IsTable (codingOf (f .kind)) (f .count) (tailOf s f)
   accepted-exactly =

@@ -181,5 +181,3 @@ pub stopped : (x : Checked) (go : Font → Plan) (r : Refusal) → x ≡ Refused
 stopped x go r e = rw e
 
 -- the length of a tail
-pub tail-length : (s : List ℕ) (a : ℕ) → length (take (length s - a) (drop a s)) ≡ length s - a
-tail-length s a = ap length (rest-all s a) ∙ length-drop a s

@@ -10,6 +10,7 @@ use lib.Dec.{eqb}
 use lib.IntN.{ℤ, pos, negsuc, _+ℤ_}
 use lib.ListN.{length, getD}
 use borrow.Author.Tests.{eqb-true, eqb-false, not-false, eq-eqb, ne-eqb}
+use Rattle.base.proofs.Parts.{byte-at}
 use Rattle.base.specs.Choice.{when}
 use Rattle.base.specs.Numbers.{le16}
 use Rattle.base.specs.Bytes.{Bytes}
@@ -17,7 +18,7 @@ use Rattle.base.proofs.Tests.{below}
 use Rattle.entries.specs.Entries.{Metrics, metricsAt, signed16, countOf, sizeAt, addressAt, rowsAt, colsAt, rowBytes, glyphBytes}
 use Rattle.entries.specs.Rules.{entryAt, HasGlyph, Rules, Breaks}
 use Rattle.entries.proofs.Sums.{low, high}
-use Rattle.entries.proofs.Meaning.{keeps-rules}
+use Rattle.entries.proofs.Meaning.{keeps-rules, entry-next, entry-here}
 use Rattle.plan.specs.declared.Evenness.{Evenness}
 use Rattle.plan.specs.declared.Evenness.the-variants.{Even, Uneven}
 use Rattle.plan.specs.Plans.{isEven, evenness}
@@ -25,11 +26,6 @@ use Rattle.plan.specs.Evens.{evenMetrics, EvenGlyph, FirstUneven}
 use Rattle.plan.proofs.Cases.{no-glyph, other-up, other-down, other-left, other-right, last-logical}
 
 -- two bytes are below 65536
-byte-at : (s : List ℕ) → Bytes s → (i : ℕ) → getD s i 0 < 256
-byte-at [] y i = omega arith
-byte-at (b ∷ s) y zero = y .0
-byte-at (b ∷ s) y (suc i) = byte-at s (y .1) i
-
 pub le16-small : (s : List ℕ) → Bytes s → (i : ℕ) → le16 s i < 65536
 unfolding le16
 le16-small s y i = omega (arith, byte-at s y i, byte-at s y (i + 1))
@@ -116,12 +112,6 @@ module _ (s : List ℕ) (h w at : ℕ) where
       (z, omega (arith, r .3, z))
 
 -- entry by entry
-entry-shift : (at i : ℕ) → entryAt (at + 18) i ≡ entryAt at (suc i)
-entry-shift at i = omega arith
-
-entry-here : (at : ℕ) → at ≡ entryAt at 0
-entry-here at = omega arith
-
 module _ (s : List ℕ) (h w : ℕ) where
   goes : (t : Bool) (x : Evenness) (at : ℕ) → when t x (Uneven at) ≡ Even → (t ≡ true) × (x ≡ Even)
   unfolding when
@@ -131,12 +121,12 @@ module _ (s : List ℕ) (h w : ℕ) where
   pub even-each : (k at : ℕ) → evenness s h w k at ≡ Even → (i : ℕ) → i < k → isEven s h w (entryAt at i) ≡ true
   unfolding evenness
   even-each zero at e i l = absurd (omega arith)
-  even-each (suc k) at e zero l = ap (isEven s h w) (sym (entry-here at)) ∙ goes _ _ at e .0
-  even-each (suc k) at e (suc i) l = ap (isEven s h w) (sym (entry-shift at i)) ∙ even-each k (at + 18) (goes _ _ at e .1) i (omega arith)
+  even-each (suc k) at e zero l = ap (isEven s h w) (entry-here at) ∙ goes _ _ at e .0
+  even-each (suc k) at e (suc i) l = ap (isEven s h w) (sym (entry-next at i)) ∙ even-each k (at + 18) (goes _ _ at e .1) i (omega arith)
 
   pub each-even : (k at : ℕ) → ((i : ℕ) → i < k → isEven s h w (entryAt at i) ≡ true) → evenness s h w k at ≡ Even
   unfolding evenness when
   each-even zero at f = refl
   each-even (suc k) at f =
-      let z : isEven s h w at ≡ true = ap (isEven s h w) (entry-here at) ∙ f 0 (omega arith) in
-      rw z (each-even k (at + 18) (λ i l. ap (isEven s h w) (entry-shift at i) ∙ f (suc i) (omega arith)))
+      let z : isEven s h w at ≡ true = ap (isEven s h w) (sym (entry-here at)) ∙ f 0 (omega arith) in
+      rw z (each-even k (at + 18) (λ i l. ap (isEven s h w) (entry-next at i) ∙ f (suc i) (omega arith)))

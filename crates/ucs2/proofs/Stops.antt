@@ -4,6 +4,7 @@ use mathlib.Core.List.{List, [], _∷_}
 use Prim.Native.Nat.{ℕ, _+_, _*_, _<_}
 use native.Mathlib.Omega.{arith}
 use lib.Dec.{eqb}
+use Rattle.base.proofs.Lists.{same2}
 use Rattle.base.specs.Bytes.{Bytes}
 use Rattle.base.proofs.Tests.{by-test}
 use Rattle.token.specs.declared.Token.{Token}
@@ -24,9 +25,6 @@ word-goes w = by-test NoStop (eqb w 0xFFFE) _ _ (λ _. tt) (λ _. by-test NoStop
 
 begun-one : (a : ℕ) → a < 256 → Begun Word wordBytes (a ∷ [])
 begun-one a h = record { value = a; more = 0 ∷ []; of = omega arith; same = same2 _ _ _ _ (omega arith) (omega arith) }
-  where
-    same2 : (a b c d : ℕ) → a ≡ c → b ≡ d → a ∷ b ∷ [] ≡ c ∷ d ∷ []
-    same2 a b c d p q = cc
 
 cut-begun : (s : List ℕ) → Bytes s → readUcs2 s ≡ Cut → Begun Word wordBytes s
 unfolding readUcs2

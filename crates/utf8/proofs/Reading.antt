@@ -9,6 +9,7 @@ use lib.ListN.{length, drop}
 use lib.Seq.{drop-at}
 use lib.Dec.{leb}
 use borrow.Author.Tests.{leb-true}
+use Rattle.base.proofs.Lists.{same2, same3, same4}
 use Rattle.base.specs.Choice.{pick}
 use Rattle.base.proofs.Tests.{below}
 use Rattle.token.specs.declared.Token.the-variants.{Value as TokenValue, Bad as TokenBad}
@@ -56,22 +57,13 @@ back1 b t v l lo hi h e =
     let q : v ≡ b = omega (arith, f .0) in
     written (b ∷ []) t v l (bytes1 v (omega arith) ∙ ap (λ (x : ℕ). x ∷ []) q) (f .1) (inl (omega arith))
 
-list2 : (a b c d : ℕ) → a ≡ c → b ≡ d → a ∷ b ∷ [] ≡ c ∷ d ∷ []
-list2 a b c d p q = cc
-
-list3 : (a b c d e f : ℕ) → a ≡ d → b ≡ e → c ≡ f → a ∷ b ∷ c ∷ [] ≡ d ∷ e ∷ f ∷ []
-list3 a b c d e f p q r = cc
-
-list4 : (a b c d e f g h : ℕ) → a ≡ e → b ≡ f → c ≡ g → d ≡ h → a ∷ b ∷ c ∷ d ∷ [] ≡ e ∷ f ∷ g ∷ h ∷ []
-list4 a b c d e f g h p q r s = cc
-
 back2 : (b : ℕ) (t : List ℕ) (v l : ℕ) → 0xC2 ≤ b → b < 0xE0 → conts 1 0x80 0xBF (b % 32) 1 t ≡ Value v l → Written (b ∷ t) v l
 back2 b t v l g h e =
     let k = took 0 0x80 0xBF (b % 32) 1 t v l e in
     let f = last 0x80 0xBF (b % 32 * 64 + (k .byte - 0x80)) 2 (k .rest) v l (k .then) in
     let q = f .0 in
     rw (k .same)
-    (written (b ∷ k .byte ∷ []) (k .rest) v l (bytes2 v (omega arith) (omega arith) ∙ list2 _ _ _ _ (omega arith) (omega arith)) (f .1) (inl (omega arith)))
+    (written (b ∷ k .byte ∷ []) (k .rest) v l (bytes2 v (omega arith) (omega arith) ∙ same2 _ _ _ _ (omega arith) (omega arith)) (f .1) (inl (omega arith)))
 
 -- three bytes and four, with what their row says of the second
 record Took3 (lo hi x : ℕ) (t : List ℕ) (v l : ℕ) : Type 0 where
@@ -108,7 +100,7 @@ back3 : (b : ℕ) (t : List ℕ) (v l lo hi : ℕ) (k : Took3 lo hi (b % 16) t v
 back3 b t v l lo hi k g h i j m u =
     let x : v / 4096 ≡ v / 64 / 64 = omega arith in
     rw (k .same)
-    (written (b ∷ k .c ∷ k .d ∷ []) (k .rest) v l (bytes3 v m (omega arith) ∙ list3 _ _ _ _ _ _ (omega arith) (omega arith) (omega arith)) (k .long) u)
+    (written (b ∷ k .c ∷ k .d ∷ []) (k .rest) v l (bytes3 v m (omega arith) ∙ same3 _ _ _ _ _ _ (omega arith) (omega arith) (omega arith)) (k .long) u)
 
 record Took4 (lo hi x : ℕ) (t : List ℕ) (v l : ℕ) : Type 0 where
   c : ℕ
@@ -155,7 +147,7 @@ back4 b t v l lo hi k g h i j m u =
     let y : v / 262144 ≡ v / 4096 / 64 = omega arith in
     let z : v / 262144 ≡ b % 8 = omega arith in
     rw (k .same)
-    (written (b ∷ k .c ∷ k .d ∷ k .f ∷ []) (k .rest) v l (bytes4 v m ∙ list4 _ _ _ _ _ _ _ _ (omega arith) (omega arith) (omega arith) (omega arith)) (k .long) (inr (omega arith, u)))
+    (written (b ∷ k .c ∷ k .d ∷ k .f ∷ []) (k .rest) v l (bytes4 v m ∙ same4 _ _ _ _ _ _ _ _ (omega arith) (omega arith) (omega arith) (omega arith)) (k .long) (inr (omega arith, u)))
 
 -- from the first byte's row
 module _ (b : ℕ) (t : List ℕ) (v l : ℕ) (e : readUtf8 (b ∷ t) ≡ TokenValue v l) (h : b < 254) where

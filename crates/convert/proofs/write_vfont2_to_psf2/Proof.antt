@@ -1,4 +1,5 @@
 -- `convert::write_vfont2_to_psf2` meets its contract: header, bitmaps and table, one behind the other. Assumes nothing.
+use Rattle.base.proofs.Parts.{rest-length}
 use Rattle.convert.proofs.Cases as cases
 use Rattle.convert.specs.Outputs.{evenSize}
 use Rattle.layout.proofs.Parts.{header32-length, header4-length, entries-length}
@@ -72,7 +73,7 @@ part-copy-end-2 : tie.Need-part-copy-end-2
 part-copy-end-2 c = search needs
 
 copy-requires : tie.Need-copy-requires
-copy-requires c κs = let m = cases.counted (c .before .before .before .before .before .before .before .before .before .before .before .before .before .before .args .f .count) (c .before .before .before .before .before .before .before .before .before .before .before .glyph-bytes .result) (evenSize (c .before .before .before .before .before .before .before .before .before .before .before .before .before .before .args .f)) (c .before .before .before .before .before .before .before .before .before .before .before .glyph-bytes .ensures .0) in let l = cases.tail-length (c .before .before .before .before .before .before .before .before .before .before .before .before .before .before .args .file .now) (c .before .before .before .before .before .before .before .before .before .before .before .before .before .before .args .f .end) in omega (arith, c .before .before .before .before .before .before .before .before .before .before .before .before .before .before .pre .2)
+copy-requires c κs = let m = cases.counted (c .before .before .before .before .before .before .before .before .before .before .before .before .before .before .args .f .count) (c .before .before .before .before .before .before .before .before .before .before .before .glyph-bytes .result) (evenSize (c .before .before .before .before .before .before .before .before .before .before .before .before .before .before .args .f)) (c .before .before .before .before .before .before .before .before .before .before .before .glyph-bytes .ensures .0) in let l = rest-length (c .before .before .before .before .before .before .before .before .before .before .before .before .before .before .args .file .now) (c .before .before .before .before .before .before .before .before .before .before .before .before .before .before .args .f .end) in omega (arith, c .before .before .before .before .before .before .before .before .before .before .before .before .before .before .pre .2)
 
 same-length : tie.Need-same-length
 same-length c = search needs

@@ -1,4 +1,5 @@
 -- `plan::recode` meets its contract: the table's length added up, or its first value that can't be carried. Assumes nothing.
+use Rattle.base.proofs.Parts.{rest-length}
 use Rattle.transcode.specs.Transcode.{tableLen}
 use Rattle.base.proofs.Parts.{rest-all}
 use lib.ListN.{length, take, drop}
@@ -36,7 +37,7 @@ add-fit : tie.Need-add-fit
 add-fit c = search needs
 
 add-fit-2 : tie.Need-add-fit-2
-add-fit-2 c = let w = rw (c .before .before .m .given .1) at (c .before .before .before .before .table-len .ensures .1) in let l = cases.tail-length (c .before .before .before .before .before .before .before .args .file .now) (c .before .before .before .before .before .before .before .args .f .end) in omega (arith, w, c .before .before .before .before .before .before .before .pre .0 .0, c .before .before .before .before .before .before .before .pre .0 .7, c .before .before .before .before .before .before .before .pre .1 .0)
+add-fit-2 c = let w = rw (c .before .before .m .given .1) at (c .before .before .before .before .table-len .ensures .1) in let l = rest-length (c .before .before .before .before .before .before .before .args .file .now) (c .before .before .before .before .before .before .before .args .f .end) in omega (arith, w, c .before .before .before .before .before .before .before .pre .0 .0, c .before .before .before .before .before .before .before .pre .0 .7, c .before .before .before .before .before .before .before .pre .1 .0)
 
 fit-requires : tie.Need-fit-requires
 fit-requires c κs = search needs
@@ -45,7 +46,7 @@ enum-known-m-2 : tie.Need-enum-known-m-2
 enum-known-m-2 c = search needs
 
 add-t18 : tie.Need-add-t18
-add-t18 c = let w = rw (c .before .m2 .given .1) at (c .before .before .before .table-len .ensures .1) in let l = cases.tail-length (c .before .before .before .before .before .before .args .file .now) (c .before .before .before .before .before .before .args .f .end) in omega (arith, w, c .before .before .before .before .before .before .pre .0 .0, c .before .before .before .before .before .before .pre .0 .7)
+add-t18 c = let w = rw (c .before .m2 .given .1) at (c .before .before .before .table-len .ensures .1) in let l = rest-length (c .before .before .before .before .before .before .args .file .now) (c .before .before .before .before .before .before .args .f .end) in omega (arith, w, c .before .before .before .before .before .before .pre .0 .0, c .before .before .before .before .before .before .pre .0 .7)
 
 returns : tie.Need-returns
 returns c = c .fit .ensures ∙ cases.recoded-length _ _ (c .before .before .before .before .before .before .before .before .args .header) (c .before .before .before .before .before .before .before .before .args .file .now) (c .before .before .before .before .before .before .before .before .args .f) _ (sym (c .before .before .before .before .before .table-len .ensures .0 ∙ ap (tableLen _ _) (rest-all (c .before .before .before .before .before .before .before .before .args .file .now) (c .before .before .before .before .before .before .before .before .args .f .end))) ∙ c .before .before .before .m .given .1)
