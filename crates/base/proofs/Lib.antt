@@ -6,3 +6,4 @@ pub mod Parts
 pub mod Lists
 pub mod Over
 pub mod Numbers
+pub mod Begins

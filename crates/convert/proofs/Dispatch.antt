@@ -11,7 +11,7 @@ use borrow.Author.Tests.{lt-ltb, le-ltb}
 use Rattle.entries.proofs.Meaning.{entry-next}
 use Rattle.base.specs.Choice.{pick}
 use Rattle.base.specs.Numbers.{le16, le32, bytes16, bytes32}
-use Rattle.base.proofs.Numbers.{le16-bytes, le32-bytes}
+use Rattle.base.proofs.Numbers.{le16-bytes, le32-bytes, le16-drop, le32-drop}
 use Rattle.entries.specs.Entries.{addressAt, sizeAt, rowsAt, colsAt, glyphBytes, rowBytes, entryOf, larger, scanOf}
 use Rattle.entries.specs.Rules.{entryAt}
 use Rattle.entries.specs.declared.Entry.the-variants.{Glyph}
@@ -21,21 +21,6 @@ use Rattle.layout.specs.Layout.{header32, metricsBytes, entryBytes, entriesFrom
 use Rattle.layout.proofs.Parts.{header32-length, entry-length}
 use Rattle.plan.proofs.Evens.{EvenFields, even-rows, even-cols}
 use Rattle.convert.proofs.Stretches.{nth-within}
-
--- an offset in a list, and in what is left of it
-pub le32-drop : (s : List ℕ) (a k : ℕ) → le32 s (a + k) ≡ le32 (drop a s) k
-unfolding le32
-le32-drop s a k = rw (getD-drop a s k 0, getD-drop a s (k + 1) 0, getD-drop a s (k + 2) 0, getD-drop a s (k + 3) 0, far a k 1, far a k 2, far a k 3)
-  where
-    far : (a b k : ℕ) → a + b + k ≡ a + (b + k)
-    far a b k = omega arith
-
-pub le16-drop : (s : List ℕ) (a k : ℕ) → le16 s (a + k) ≡ le16 (drop a s) k
-unfolding le16
-le16-drop s a k = rw (getD-drop a s k 0, getD-drop a s (k + 1) 0, far a k 1)
-  where
-    far : (a b k : ℕ) → a + b + k ≡ a + (b + k)
-    far a b k = omega arith
 
 -- the i-th entry of those written
 pub entry-at : (c h w j k i : ℕ) (r : List ℕ) → i < k → (x : List ℕ) × (drop (i * 18) (entriesFrom c h w j k ++ r) ≡ entryBytes ((j + i) * c) c h w ++ x)

@@ -3,13 +3,16 @@ use mathlib.Core.Path.{_≡_, refl, sym, _∙_, ap}
 use mathlib.Core.List.{List}
 use Prim.Native.Nat.{ℕ, zero, suc, _+_, _-_, _*_, _≤_, _<_}
 use native.Mathlib.Omega.{arith}
+use native.Mathlib.Numerals.{add-one}
 use Rattle.base.specs.Choice.{when}
 use Rattle.base.proofs.Chain.{chain}
-use Rattle.entries.specs.Entries.{addressAt, sizeAt, rowsAt, colsAt, glyphBytes, entryOf, larger, scanOf}
+use Rattle.entries.specs.Meaning.{entryAt, addressAt, sizeAt, rowsAt, colsAt}
+use Rattle.entries.specs.Reading.{entryOf, larger, scanOf}
+use Rattle.header.specs.Meaning.{glyphBytes}
 use Rattle.entries.specs.declared.Entry.{Entry}
 use Rattle.entries.specs.declared.Entry.the-variants.{Empty, Glyph, Broken}
 use Rattle.entries.specs.declared.Scan.{Scan}
-use Rattle.entries.specs.declared.Scan.the-variants.{Bad, Greatest}
+use Rattle.entries.specs.declared.Scan.the-variants.{BrokenAt, Greatest}
 
 module _ (s : List ℕ) (total at : ℕ) where
   -- what holds of an entry with a glyph up to its rows, its columns, its size
@@ -64,22 +67,31 @@ module _ (s : List ℕ) (total at : ℕ) where
   unfolding entryOf
   glyph h = search chain depth 30
 
-  module _ (h w : ℕ) where
-    pub past-empty : (k : ℕ) → 0 < k → entryOf s total at ≡ Empty → scanOf s total k at h w ≡ scanOf s total (k - 1) (at + 18) h w
-    unfolding scanOf
-    past-empty zero p e = absurd (omega arith)
-    past-empty (suc k) p e = let z : suc k - 1 ≡ k = omega arith in rw (e, scanOf, z)
+-- one entry of those that are left, the i-th, which stands at an offset
+module _ (s : List ℕ) (total start i at h w : ℕ) (here : at ≡ entryAt start i) where
+  pub past-empty : (k : ℕ) → 0 < k → entryOf s total at ≡ Empty → scanOf s total start k i h w ≡ scanOf s total start (k - 1) (i + 1) h w
+  unfolding scanOf
+  past-empty zero p e = absurd (omega arith)
+  past-empty (suc k) p e =
+      let z : suc k - 1 ≡ k = omega arith in
+      let f : entryOf s total (entryAt start i) ≡ Empty = ap (entryOf s total) (sym here) ∙ e in
+      rw (f, scanOf, z, add-one i)
 
-    pub past-glyph : (k r c : ℕ) → 0 < k → entryOf s total at ≡ Glyph r c → scanOf s total k at h w ≡ scanOf s total (k - 1) (at + 18) (larger h r) (larger w c)
-    unfolding scanOf
-    past-glyph zero r c p e = absurd (omega arith)
-    past-glyph (suc k) r c p e = let z : suc k - 1 ≡ k = omega arith in rw (e, scanOf, z)
+  pub past-glyph : (k r c : ℕ) → 0 < k → entryOf s total at ≡ Glyph r c → scanOf s total start k i h w ≡ scanOf s total start (k - 1) (i + 1) (larger h r) (larger w c)
+  unfolding scanOf
+  past-glyph zero r c p e = absurd (omega arith)
+  past-glyph (suc k) r c p e =
+      let z : suc k - 1 ≡ k = omega arith in
+      let f : entryOf s total (entryAt start i) ≡ Glyph r c = ap (entryOf s total) (sym here) ∙ e in
+      rw (f, scanOf, z, add-one i)
 
-    pub at-broken : (k : ℕ) → 0 < k → entryOf s total at ≡ Broken → scanOf s total k at h w ≡ Bad at
-    unfolding scanOf
-    at-broken zero p e = absurd (omega arith)
-    at-broken (suc k) p e = rw (e, scanOf)
+  pub at-broken : (k : ℕ) → 0 < k → entryOf s total at ≡ Broken → scanOf s total start k i h w ≡ BrokenAt i
+  unfolding scanOf
+  at-broken zero p e = absurd (omega arith)
+  at-broken (suc k) p e =
+      let f : entryOf s total (entryAt start i) ≡ Broken = ap (entryOf s total) (sym here) ∙ e in
+      rw (f, scanOf)
 
-pub scanned : (s : List ℕ) (total k at h w : ℕ) → k ≡ 0 → scanOf s total k at h w ≡ Greatest h w
+pub scanned : (s : List ℕ) (total start k i h w : ℕ) → k ≡ 0 → scanOf s total start k i h w ≡ Greatest h w
 unfolding scanOf
-scanned s total k at h w e = rw e
+scanned s total start k i h w e = rw e

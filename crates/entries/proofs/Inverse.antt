@@ -7,7 +7,9 @@ use native.Mathlib.Omega.{arith}
 use lib.Dec.{ltb, eqb}
 use borrow.Author.Tests.{ltb-false, eqb-true, eqb-false, not-false}
 use Rattle.base.specs.Choice.{when}
-use Rattle.entries.specs.Entries.{addressAt, sizeAt, rowsAt, colsAt, glyphBytes, entryOf}
+use Rattle.entries.specs.Meaning.{addressAt, sizeAt, rowsAt, colsAt}
+use Rattle.entries.specs.Reading.{entryOf}
+use Rattle.header.specs.Meaning.{glyphBytes}
 use Rattle.entries.specs.declared.Entry.{Entry}
 use Rattle.entries.specs.declared.Entry.the-variants.{Empty, Glyph, Broken}
 

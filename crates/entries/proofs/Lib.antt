@@ -1,5 +1,6 @@
 -- Laws of the dispatch table.
 pub mod Sums
+pub mod Machine
 pub mod Cases
 pub mod Inverse
 pub mod Meaning

@@ -9,12 +9,14 @@ use lib.Dec.{ltb, eqb}
 use borrow.Author.Tests.{ltb-true, ltb-false, eqb-true}
 use Rattle.base.specs.Choice.{pick, when}
 use Rattle.base.proofs.Tests.{below}
-use Rattle.entries.specs.Entries.{addressAt, sizeAt, rowsAt, colsAt, rowBytes, glyphBytes, entryOf, larger, scanOf}
-use Rattle.entries.specs.Rules.{entryAt, HasGlyph, Rules, Breaks, FirstBroken, IsGreatest}
+use Rattle.entries.specs.Meaning.{addressAt, sizeAt, rowsAt, colsAt}
+use Rattle.entries.specs.Reading.{entryOf, larger, scanOf}
+use Rattle.header.specs.Meaning.{rowBytes, glyphBytes}
+use Rattle.entries.specs.Meaning.{entryAt, HasGlyph, Rules, Breaks, FirstBroken, IsGreatest}
 use Rattle.entries.specs.declared.Entry.{Entry}
 use Rattle.entries.specs.declared.Entry.the-variants.{Empty, Glyph, Broken}
 use Rattle.entries.specs.declared.Scan.{Scan}
-use Rattle.entries.specs.declared.Scan.the-variants.{Bad, Greatest}
+use Rattle.entries.specs.declared.Scan.the-variants.{BrokenAt, Greatest}
 use Rattle.entries.proofs.Cases as cases
 use Rattle.entries.proofs.Inverse.{Keeps, keeps}
 
@@ -94,98 +96,98 @@ larger-either a b = go (ltb a b)
     go true = inr refl
     go false = inl refl
 
--- k entries from an offset on, with h the greatest before them and z with them
-record Grown (s : List ℕ) (k at : ℕ) (m : ℕ → ℕ) (h z : ℕ) : Type 0 where
-  above : h ≤ z
-  bound : (i : ℕ) → i < k → HasGlyph s (entryAt at i) → m (entryAt at i) ≤ z
-  met : (z ≡ h) ⊎ ((i : ℕ) × (i < k) × HasGlyph s (entryAt at i) × (m (entryAt at i) ≡ z))
+-- k entries from entry i on, with h the greatest before them and z with them
+module _ (s : List ℕ) (start : ℕ) (m : ℕ → ℕ) where
+  record Grown (i k h z : ℕ) : Type 0 where
+    above : h ≤ z
+    bound : (j : ℕ) → i ≤ j → j < i + k → HasGlyph s (entryAt start j) → m (entryAt start j) ≤ z
+    met : (z ≡ h) ⊎ ((j : ℕ) × (i ≤ j) × (j < i + k) × HasGlyph s (entryAt start j) × (m (entryAt start j) ≡ z))
 
-pub entry-next : (at i : ℕ) → entryAt (at + 18) i ≡ entryAt at (suc i)
-entry-next at i = omega arith
+  none-left : (i h : ℕ) → Grown i 0 h h
+  none-left i h = record { above = omega arith; bound = λ j g l p. absurd (omega arith); met = inl refl }
 
-pub entry-here : (at : ℕ) → entryAt at 0 ≡ at
-entry-here at = omega arith
+  -- one more entry in front, which has no glyph
+  skip : (i k h z : ℕ) → (HasGlyph s (entryAt start i) → ⊥) → Grown (suc i) k h z → Grown i (suc k) h z
+  skip i k h z none g = record { above = g .above; bound = λ j a l p. bound j a l p (below i j); met = met (g .met) }
+    where
+      bound : (j : ℕ) → i ≤ j → j < i + suc k → HasGlyph s (entryAt start j) → (i < j) ⊎ (j ≤ i) → m (entryAt start j) ≤ z
+      bound j a l p (inl b) = g .bound j b (omega arith) p
+      bound j a l p (inr b) = let e : j ≡ i = omega arith in absurd (none (subst (λ (x : ℕ). HasGlyph s (entryAt start x)) e p))
 
--- one more entry in front, which has no glyph
-skip : (s : List ℕ) (k at : ℕ) (m : ℕ → ℕ) (h z : ℕ) → (HasGlyph s at → ⊥) → Grown s k (at + 18) m h z → Grown s (suc k) at m h z
-skip s k at m h z none g = record { above = g .above; bound = bound; met = met (g .met) }
-  where
-    bound : (i : ℕ) → i < suc k → HasGlyph s (entryAt at i) → m (entryAt at i) ≤ z
-    bound zero l p = absurd (none (rw (entry-here at) at p))
-    bound (suc i) l p = rw (entry-next at i) at (g .bound i (omega arith) (rw (← (entry-next at i)) at p))
+      met : (z ≡ h) ⊎ ((j : ℕ) × (suc i ≤ j) × (j < suc i + k) × HasGlyph s (entryAt start j) × (m (entryAt start j) ≡ z)) →
+          (z ≡ h) ⊎ ((j : ℕ) × (i ≤ j) × (j < i + suc k) × HasGlyph s (entryAt start j) × (m (entryAt start j) ≡ z))
+      met (inl e) = inl e
+      met (inr (j, a, l, p, e)) = inr (j, omega arith, omega arith, p, e)
 
-    met : (z ≡ h) ⊎ ((i : ℕ) × (i < k) × HasGlyph s (entryAt (at + 18) i) × (m (entryAt (at + 18) i) ≡ z)) →
-        (z ≡ h) ⊎ ((i : ℕ) × (i < suc k) × HasGlyph s (entryAt at i) × (m (entryAt at i) ≡ z))
-    met (inl e) = inl e
-    met (inr (i, l, p, e)) = inr (suc i, omega arith, rw (entry-next at i) at p, rw (entry-next at i) at e)
+  -- one more entry in front, which has one
+  grow : (i k h r z : ℕ) → HasGlyph s (entryAt start i) → r ≡ m (entryAt start i) → Grown (suc i) k (larger h r) z → Grown i (suc k) h z
+  grow i k h r z some er g = record { above = omega (arith, larger-left h r, g .above); bound = λ j a l p. bound j a l p (below i j); met = met (g .met) (larger-either h r) }
+    where
+      bound : (j : ℕ) → i ≤ j → j < i + suc k → HasGlyph s (entryAt start j) → (i < j) ⊎ (j ≤ i) → m (entryAt start j) ≤ z
+      bound j a l p (inl b) = g .bound j b (omega arith) p
+      bound j a l p (inr b) =
+          let e : i ≡ j = omega arith in
+          let u : r ≤ z = omega (arith, larger-right h r, g .above) in
+          subst (λ (x : ℕ). x ≤ z) (er ∙ ap (λ (x : ℕ). m (entryAt start x)) e) u
 
--- one more entry in front, which has one
-grow : (s : List ℕ) (k at : ℕ) (m : ℕ → ℕ) (h r z : ℕ) → HasGlyph s at → r ≡ m at → Grown s k (at + 18) m (larger h r) z → Grown s (suc k) at m h z
-grow s k at m h r z some er g = record { above = omega (arith, larger-left h r, g .above); bound = bound; met = met (g .met) (larger-either h r) }
-  where
-    bound : (i : ℕ) → i < suc k → HasGlyph s (entryAt at i) → m (entryAt at i) ≤ z
-    bound zero l p =
-        let x = larger-right h r in
-        let y = g .above in
-        let u : r ≤ z = omega arith in
-        rw (entry-here at, ← er) u
-    bound (suc i) l p = rw (entry-next at i) at (g .bound i (omega arith) (rw (← (entry-next at i)) at p))
-
-    met : (z ≡ larger h r) ⊎ ((i : ℕ) × (i < k) × HasGlyph s (entryAt (at + 18) i) × (m (entryAt (at + 18) i) ≡ z)) → (larger h r ≡ h) ⊎ (larger h r ≡ r) →
-        (z ≡ h) ⊎ ((i : ℕ) × (i < suc k) × HasGlyph s (entryAt at i) × (m (entryAt at i) ≡ z))
-    met (inl e) (inl f) = inl (e ∙ f)
-    met (inl e) (inr f) = inr (0, omega arith, rw (entry-here at) some, rw (entry-here at) (sym (e ∙ f ∙ er)))
-    met (inr (i, l, p, e)) y = inr (suc i, omega arith, rw (entry-next at i) at p, rw (entry-next at i) at e)
+      met : (z ≡ larger h r) ⊎ ((j : ℕ) × (suc i ≤ j) × (j < suc i + k) × HasGlyph s (entryAt start j) × (m (entryAt start j) ≡ z)) → (larger h r ≡ h) ⊎ (larger h r ≡ r) →
+          (z ≡ h) ⊎ ((j : ℕ) × (i ≤ j) × (j < i + suc k) × HasGlyph s (entryAt start j) × (m (entryAt start j) ≡ z))
+      met (inl e) (inl f) = inl (e ∙ f)
+      met (inl e) (inr f) = inr (i, omega arith, omega arith, some, sym (e ∙ f ∙ er))
+      met (inr (j, a, l, p, e)) y = inr (j, omega arith, omega arith, p, e)
 
 -- what each answer of the scan says
-abbrev ScanSays : List ℕ → ℕ → ℕ → ℕ → ℕ → ℕ → Scan → Type 0
-ScanSays s total k at h w (Bad x) = FirstBroken s total k at x
-ScanSays s total k at h w (Greatest y z) = ((i : ℕ) → i < k → Breaks s total (entryAt at i) → ⊥) × Grown s k at (rowsAt s) h y × Grown s k at (colsAt s) w z
+module _ (s : List ℕ) (total start : ℕ) where
+  -- no entry from i on breaks a rule, up to entry j
+  abbrev Fine : ℕ → ℕ → Type 0
+  Fine i j = (x : ℕ) → i ≤ x → x < j → Breaks s total (entryAt start x) → ⊥
 
--- an entry in front that breaks no rule
-past : (s : List ℕ) (total k at h w h' w' : ℕ) → (Breaks s total at → ⊥) →
-    ((z : ℕ) → Grown s k (at + 18) (rowsAt s) h' z → Grown s (suc k) at (rowsAt s) h z) →
-    ((z : ℕ) → Grown s k (at + 18) (colsAt s) w' z → Grown s (suc k) at (colsAt s) w z) →
-    (x : Scan) → ScanSays s total k (at + 18) h' w' x → ScanSays s total (suc k) at h w x
-past s total k at h w h' w' fine f g (Bad x) b =
-    record { index = suc (b .index); within = let l = b .within in omega arith; place = b .place ∙ entry-next at (b .index); breaks = b .breaks; first = first }
-  where
-    first : (j : ℕ) → j < suc (b .index) → Breaks s total (entryAt at j) → ⊥
-    first zero l p = fine (rw (entry-here at) at p)
-    first (suc j) l p = b .first j (omega arith) (rw (← (entry-next at j)) at p)
-past s total k at h w h' w' fine f g (Greatest y z) b = (none, f y (b .1), g z (b .2))
-  where
-    none : (i : ℕ) → i < suc k → Breaks s total (entryAt at i) → ⊥
-    none zero l p = fine (rw (entry-here at) at p)
-    none (suc i) l p = b .0 i (omega arith) (rw (← (entry-next at i)) at p)
+  abbrev ScanSays : ℕ → ℕ → ℕ → ℕ → Scan → Type 0
+  ScanSays i k h w (BrokenAt x) = (i ≤ x) × (x < i + k) × Breaks s total (entryAt start x) × Fine i x
+  ScanSays i k h w (Greatest y z) = Fine i (i + k) × Grown s start (rowsAt s) i k h y × Grown s start (colsAt s) i k w z
 
-scan-says : (s : List ℕ) (total k at h w : ℕ) → ScanSays s total k at h w (scanOf s total k at h w)
-unfolding scanOf
-scan-says s total zero at h w = (
-  λ i l p. absurd (omega arith),
-  record { above = omega arith; bound = λ i l p. absurd (omega arith); met = inl refl },
-  record { above = omega arith; bound = λ i l p. absurd (omega arith); met = inl refl },
-)
-scan-says s total (suc k) at h w = go (λ a b. scan-says s total k (at + 18) a b) (entryOf s total at) (entry-meaning s total at)
-  where
-    go : ((a b : ℕ) → ScanSays s total k (at + 18) a b (scanOf s total k (at + 18) a b)) → (x : Entry) → EntrySays s total at x →
-        ScanSays s total (suc k) at h w (elim x [ Empty ↦ scanOf s total k (at + 18) h w | Glyph r c ↦ scanOf s total k (at + 18) (larger h r) (larger w c) | Broken ↦ Bad at ])
-    go ih Empty e =
-        past s total k at h w h w (λ b. e (b .0)) (λ z. skip s k at (rowsAt s) h z e) (λ z. skip s k at (colsAt s) w z e) (scanOf s total k (at + 18) h w) (ih h w)
-    go ih (Glyph r c) e =
-        past s total k at h w (larger h r) (larger w c) (λ b. b .1 (e .1))
-        (λ z. grow s k at (rowsAt s) h r z (e .0) (e .2)) (λ z. grow s k at (colsAt s) w c z (e .0) (e .3)) (scanOf s total k (at + 18) (larger h r) (larger w c))
-        (ih (larger h r) (larger w c))
-    go ih Broken e = record { index = 0; within = omega arith; place = sym (entry-here at); breaks = e; first = λ j l p. absurd (omega arith) }
+  -- one entry more that breaks no rule
+  fine-more : (i j n : ℕ) → j ≡ n → (Breaks s total (entryAt start i) → ⊥) → Fine (suc i) j → Fine i n
+  fine-more i j n e f g x a l p = go (below i x)
+    where
+      go : (i < x) ⊎ (x ≤ i) → ⊥
+      go (inl b) = g x b (omega arith) p
+      go (inr b) = let q : x ≡ i = omega arith in f (subst (λ (y : ℕ). Breaks s total (entryAt start y)) q p)
+
+  -- an entry in front that breaks no rule
+  past : (i k h w h' w' : ℕ) → (Breaks s total (entryAt start i) → ⊥) →
+      ((z : ℕ) → Grown s start (rowsAt s) (suc i) k h' z → Grown s start (rowsAt s) i (suc k) h z) →
+      ((z : ℕ) → Grown s start (colsAt s) (suc i) k w' z → Grown s start (colsAt s) i (suc k) w z) →
+      (x : Scan) → ScanSays (suc i) k h' w' x → ScanSays i (suc k) h w x
+  past i k h w h' w' fine f g (BrokenAt x) (a, l, b, c) = (omega arith, omega arith, b, fine-more i x x refl fine c)
+  past i k h w h' w' fine f g (Greatest y z) (c, a, b) = (fine-more i (suc i + k) (i + suc k) (omega arith) fine c, f y a, g z b)
+
+  scan-says : (k i h w : ℕ) → ScanSays i k h w (scanOf s total start k i h w)
+  unfolding scanOf
+  scan-says zero i h w = ((λ x a l p. absurd (omega arith)), none-left s start (rowsAt s) i h, none-left s start (colsAt s) i w)
+  scan-says (suc k) i h w = go (λ a b. scan-says k (suc i) a b) (entryOf s total (entryAt start i)) (entry-meaning s total (entryAt start i))
+    where
+      go : ((a b : ℕ) → ScanSays (suc i) k a b (scanOf s total start k (suc i) a b)) → (x : Entry) → EntrySays s total (entryAt start i) x →
+          ScanSays i (suc k) h w (elim x [ Empty ↦ scanOf s total start k (suc i) h w | Glyph r c ↦ scanOf s total start k (suc i) (larger h r) (larger w c) | Broken ↦ BrokenAt i ])
+      go ih Empty e =
+          past i k h w h w (λ b. e (b .0)) (λ z. skip s start (rowsAt s) i k h z e) (λ z. skip s start (colsAt s) i k w z e) (scanOf s total start k (suc i) h w) (ih h w)
+      go ih (Glyph r c) e =
+          past i k h w (larger h r) (larger w c) (λ b. b .1 (e .1))
+          (λ z. grow s start (rowsAt s) i k h r z (e .0) (e .2)) (λ z. grow s start (colsAt s) i k w c z (e .0) (e .3)) (scanOf s total start k (suc i) (larger h r) (larger w c))
+          (ih (larger h r) (larger w c))
+      go ih Broken e = (omega arith, omega arith, e, λ x a l p. absurd (omega arith))
 
 -- grown from nothing is the greatest
-greatest : (s : List ℕ) (n start : ℕ) (m : ℕ → ℕ) (z : ℕ) → Grown s n start m 0 z → ((i : ℕ) → i < n → HasGlyph s (entryAt start i) → 1 ≤ m (entryAt start i)) → IsGreatest s n start m z
-greatest s n start m z g pos = record { bound = g .bound; met = go (g .met) }
+greatest : (s : List ℕ) (n start : ℕ) (m : ℕ → ℕ) (z : ℕ) → Grown s start m 0 n 0 z → ((i : ℕ) → i < n → HasGlyph s (entryAt start i) → 1 ≤ m (entryAt start i)) → IsGreatest s n start m z
+greatest s n start m z g pos = record { bound = bound; met = go (g .met) }
   where
-    go : (z ≡ 0) ⊎ ((i : ℕ) × (i < n) × HasGlyph s (entryAt start i) × (m (entryAt start i) ≡ z)) →
+    bound : (i : ℕ) → i < n → HasGlyph s (entryAt start i) → m (entryAt start i) ≤ z
+    bound i l p = g .bound i (omega arith) (omega arith) p
+
+    go : (z ≡ 0) ⊎ ((i : ℕ) × (0 ≤ i) × (i < 0 + n) × HasGlyph s (entryAt start i) × (m (entryAt start i) ≡ z)) →
         ((z ≡ 0) × ((i : ℕ) → i < n → HasGlyph s (entryAt start i) → ⊥)) ⊎ ((i : ℕ) × (i < n) × HasGlyph s (entryAt start i) × (m (entryAt start i) ≡ z))
-    go (inl e) = inl (e, λ i l p. absurd (omega (arith, pos i l p, g .bound i l p)))
-    go (inr x) = inr x
+    go (inl e) = inl (e, λ i l p. absurd (omega (arith, pos i l p, g .bound i (omega arith) (omega arith) p)))
+    go (inr (i, a, l, p, e)) = inr (i, omega arith, p, e)
 
 -- an entry with a glyph that breaks no rule keeps them
 pub keeps-rules : (s : List ℕ) (total at : ℕ) → (Breaks s total at → ⊥) → HasGlyph s at → Rules s total at
@@ -197,17 +199,20 @@ keeps-rules s total at b h = go (entryOf s total at) (entry-meaning s total at)
     go Broken e = absurd (b e)
 
 -- the scan stops at the first entry that breaks a rule
-pub scan-broken : (s : List ℕ) (total n start at : ℕ) → scanOf s total n start 0 0 ≡ Bad at → FirstBroken s total n start at
-scan-broken s total n start at e = rw e at (scan-says s total n start 0 0)
+pub scan-broken : (s : List ℕ) (total n start i : ℕ) → scanOf s total start n 0 0 0 ≡ BrokenAt i → FirstBroken s total n start i
+scan-broken s total n start i e =
+    let g = rw e at (scan-says s total start n 0 0 0) in
+    record { within = omega (arith, g .1); breaks = g .2; first = λ j l p. g .3 j (omega arith) l p }
 
 -- or no entry does, and it gives the largest sums over the entries with a glyph
-pub scan-greatest : (s : List ℕ) (total n start h w : ℕ) → scanOf s total n start 0 0 ≡ Greatest h w →
+pub scan-greatest : (s : List ℕ) (total n start h w : ℕ) → scanOf s total start n 0 0 0 ≡ Greatest h w →
     ((i : ℕ) → i < n → Breaks s total (entryAt start i) → ⊥) × IsGreatest s n start (rowsAt s) h × IsGreatest s n start (colsAt s) w
 scan-greatest s total n start h w e =
-    let g = rw e at (scan-says s total n start 0 0) in (
-      g .0,
-      greatest s n start (rowsAt s) h (g .1) (λ i l p. keeps-rules s total (entryAt start i) (g .0 i l) p .0 .0),
-      greatest s n start (colsAt s) w (g .2) (λ i l p. keeps-rules s total (entryAt start i) (g .0 i l) p .1 .0),
+    let g = rw e at (scan-says s total start n 0 0 0) in
+    let fine : (i : ℕ) → i < n → Breaks s total (entryAt start i) → ⊥ = λ i l p. g .0 i (omega arith) (omega arith) p in (
+      fine,
+      greatest s n start (rowsAt s) h (g .1) (λ i l p. keeps-rules s total (entryAt start i) (fine i l) p .0 .0),
+      greatest s n start (colsAt s) w (g .2) (λ i l p. keeps-rules s total (entryAt start i) (fine i l) p .1 .0),
     )
 
 -- there is one greatest number

@@ -8,7 +8,7 @@ use lib.IntN.{ℤ, pos, negsuc, subℕ, _+ℤ_, _-ℤ_}
 use mathlib.Core.Logic.{_⊎_, inl, inr}
 use borrow.Author.Tests.{lt-ltb, le-ltb, ltb-true, ltb-false}
 use Rattle.base.proofs.Tests.{below}
-use Rattle.entries.specs.Entries.{signed16, countOf}
+use Rattle.entries.specs.Meaning.{signed16, countOf}
 
 pub low : (v : ℕ) → v < 32768 → signed16 v ≡ pos v
 unfolding signed16

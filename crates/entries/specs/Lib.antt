@@ -1,3 +1,3 @@
 -- The dispatch table of a vfont2 file.
-pub mod Entries
-pub mod Rules
+pub mod Meaning
+pub mod Reading

@@ -1,12 +1,12 @@
-// Inner layer: the dispatch table of a vfont2 file. Definitions: specs/Entries.antt.
+// Inner layer: the dispatch table of a vfont2 file. Definitions: specs/Meaning.antt (the format and its rules), specs/Reading.antt (what
+// an entry, and all entries, say).
+use header::Vfont2;
 ghost use mathlib.Core.Path.{_≡_};
 ghost use Prim.Native.Nat.{ℕ, _+_, _*_, _/_, _≤_, _<_};
 ghost use lib.ListN.{length};
 ghost use lib.IntN.{_+ℤ_};
-ghost use Rattle.entries.specs.Entries.{signed16, countOf, rowsAt, colsAt, rowBytes, glyphBytes, larger, entryOf, scanOf};
-
-// The bytes of an entry.
-pub const ENTRY_LEN: usize = 18;
+ghost use Rattle.entries.specs.Meaning.{entryAt, signed16, metricsAt, countOf, rowsAt, colsAt};
+ghost use Rattle.entries.specs.Reading.{larger, entryOf, scanOf};
 
 // What an entry says: no glyph, a glyph of so many rows and columns, or that it breaks a rule.
 pub enum Entry {
@@ -15,10 +15,41 @@ pub enum Entry {
     Broken,
 }
 
-// What all entries say: where the first that breaks a rule starts, or the greatest numbers of rows and columns.
+// What all entries say: the number of the first that breaks a rule, or the greatest numbers of rows and columns.
 pub enum Scan {
-    Bad(usize),
+    BrokenAt(usize),
     Greatest(usize, usize),
+}
+
+// A glyph's metrics: how far it reaches up, down, left and right of its origin, and its logical width.
+pub struct Metrics {
+    pub up: i32,
+    pub down: i32,
+    pub left: i32,
+    pub right: i32,
+    pub logical: i32,
+}
+
+// A number of two bytes as a signed one. Asks for a number of two bytes: each caller has just read it.
+fn signed(v: u32) -> i32
+    requires { ⌜ v < 65536 ⌝ }
+    ensures { λ r. ⌜ r ≡ signed16 v ⌝ }
+{
+    if v < 32768 { v as i32 } else { v as i32 - 65536 }
+}
+
+// The metrics of the entry at `at`. Asks that the entry stands in the file: each caller has tested the length.
+pub fn metrics_at(file: &[u8], at: usize) -> Metrics
+    requires { ⌜ at + 18 ≤ length (now file) ⌝ }
+    ensures { λ r. ⌜ r ≡ metricsAt (now (file .entry)) at ⌝ }
+{
+    Metrics {
+        up: signed(base::get16(file, at + 8)),
+        down: signed(base::get16(file, at + 10)),
+        left: signed(base::get16(file, at + 12)),
+        right: signed(base::get16(file, at + 14)),
+        logical: signed(base::get16(file, at + 16)),
+    }
 }
 
 // A signed number of 16 bits, moved up by 32,768 so that it is none below zero.
@@ -58,22 +89,7 @@ pub fn cols_at(file: &[u8], at: usize) -> usize
     base::size(span(base::get16(file, at + 12), base::get16(file, at + 14)))
 }
 
-// The bytes of a row of so many pixels. Asks for a width that can be added to: widths are below 65,536.
-pub fn row_bytes(width: usize) -> usize
-    requires { ⌜ width < 65536 ⌝ }
-    ensures { λ r. ⌜ (r ≡ rowBytes width) × (r < 65536) ⌝ }
-{
-    (width + 7) / 8
-}
-
-// The bytes of a glyph's bitmap. Asks for a height and a width within the formats' bounds: each caller has tested them.
-pub fn glyph_bytes(height: usize, width: usize) -> usize
-    requires { ⌜ (height ≤ 255) × (width ≤ 255) ⌝ }
-    ensures { λ r. ⌜ (r ≡ glyphBytes height width) × (r ≤ 8160) ⌝ }
-{
-    height * row_bytes(width)
-}
-
+// The larger of two.
 fn larger_of(a: usize, b: usize) -> usize
     ensures { λ r. ⌜ r ≡ larger a b ⌝ }
 {
@@ -107,7 +123,7 @@ pub fn entry_at(file: &[u8], total: usize, at: usize) -> Entry
     if 255 < cols {
         return Entry::Broken;
     }
-    if size != glyph_bytes(rows, cols) {
+    if size != header::glyph_bytes(rows, cols) {
         return Entry::Broken;
     }
     let address = base::size(base::get32(file, at));
@@ -117,10 +133,10 @@ pub fn entry_at(file: &[u8], total: usize, at: usize) -> Entry
     Entry::Glyph(rows, cols)
 }
 
-// What the n entries from `start` on say. Asks that they stand in the file: the caller has tested the length.
+// What the n entries of the table that begins at `start` say. Asks that they stand in the file: the caller has tested the length.
 pub fn scan_entries(file: &[u8], total: usize, n: usize, start: usize) -> Scan
-    requires { ⌜ start + n * 18 ≤ length (now file) ⌝ }
-    ensures { λ r. ⌜ r ≡ scanOf (now (file .entry)) total n start 0 0 ⌝ }
+    requires { ⌜ entryAt start n ≤ length (now file) ⌝ }
+    ensures { λ r. ⌜ r ≡ scanOf (now (file .entry)) total start n 0 0 0 ⌝ }
 {
     let mut i = 0;
     let mut at = start;
@@ -128,8 +144,8 @@ pub fn scan_entries(file: &[u8], total: usize, n: usize, start: usize) -> Scan
     let mut width = 0;
     while i < n {
         let e = entry_at(file, total, at);
-        let here = at;
-        at += ENTRY_LEN;
+        let here = i;
+        at += Vfont2::ENTRY_LEN;
         i += 1;
         match e {
             Entry::Empty => {}
@@ -137,7 +153,7 @@ pub fn scan_entries(file: &[u8], total: usize, n: usize, start: usize) -> Scan
                 height = larger_of(height, rows);
                 width = larger_of(width, cols);
             }
-            Entry::Broken => return Scan::Bad(here),
+            Entry::Broken => return Scan::BrokenAt(here),
         }
     }
     Scan::Greatest(height, width)

@@ -1,56 +1,44 @@
 -- What each definition of the header's checks is where one of its checks applies: the checks before it did not.
 use mathlib.Core.Path.{_≡_, refl, sym, _∙_}
 use mathlib.Core.List.{List}
-use mathlib.Core.Bool.{Bool}
-use Prim.Native.Nat.{ℕ, _+_, _*_, _/_, _%_, _≤_, _<_}
+use mathlib.Core.Bool.{Bool, true, false}
+use Prim.Native.Nat.{ℕ, _+_, _*_, _≤_, _<_}
 use lib.Dec.{eqb}
 use lib.ListN.{length, getD}
 use Rattle.base.specs.Choice.{when}
-use Rattle.base.specs.Numbers.{le16, le32}
+use Rattle.base.specs.Numbers.{le32}
+use Rattle.base.specs.Begins.{startsWith}
 use Rattle.base.proofs.Chain.{chain}
-use Rattle.refusal.specs.declared.Refusal.the-variants.{TooLong, Kind, HeaderCut, Version, HeaderSize, Count, Shape, BodyCut, Entry}
-use Rattle.entries.specs.Entries.{glyphBytes, scanOf}
-use Rattle.entries.specs.declared.Scan.the-variants.{Bad, Greatest}
-use Rattle.header.specs.Headers.{limit, kindOf, psf1Count, psf1Table, psf1Font, psf1Of, fieldsOf, headOf, psf2Font, psf2Body, vfont2Font, greatestOf, entriesOf, vfont2Body, namedOf, headerOf}
+use Rattle.refusal.specs.Refusals.{refusal}
+use Rattle.refusal.specs.declared.Reason.the-variants.{HeaderCut, Version, HeaderSize, Count, Shape}
+use Rattle.header.specs.Meaning.{magicOf, headerLen, entryLen, glyphBytes, psf1Count, psf1Table, psf1Font, fieldsOf, psf2Font, vfont2Font}
+use Rattle.header.specs.Reading.{kindOf, psf1Says, headOf, psf2Shaped, vfont2Shaped, namedSays, saysOf}
 use Rattle.header.specs.declared.Kind.the-variants.{Psf1, Psf2, Vfont2}
 use Rattle.header.specs.declared.Named.{Named}
 use Rattle.header.specs.declared.Named.the-variants.{Is, Unknown}
 use Rattle.header.specs.declared.Fields.{Fields}
-use Rattle.header.specs.declared.Head.the-variants.{Read, Stop}
-use Rattle.header.specs.declared.Checked.{Checked}
+use Rattle.header.specs.declared.Head.the-variants.{Read, Refused as NoHead}
 use Rattle.header.specs.declared.Checked.the-variants.{Sound, Refused}
 
 -- the magic
 module _ (s : List ℕ) where
-  abbrev pub Two : Type 0
-  Two = (2 ≤ length s) × (le16 s 0 ≡ 0x0436 → ⊥)
+  pub is-psf1 : startsWith (magicOf Psf1) s ≡ true → Is Psf1 ≡ kindOf s
+  unfolding kindOf when
+  is-psf1 a = rw a
 
-  abbrev pub Four : Type 0
-  Four = Two × (4 ≤ length s)
+  module _ (a : startsWith (magicOf Psf1) s ≡ false) where
+    pub is-psf2 : startsWith (magicOf Psf2) s ≡ true → Is Psf2 ≡ kindOf s
+    unfolding kindOf when
+    is-psf2 b = rw (a, b)
 
-  pub under-two : length s < 2 → Unknown ≡ kindOf s
-  unfolding kindOf
-  under-two h = search chain depth 30
+    module _ (b : startsWith (magicOf Psf2) s ≡ false) where
+      pub is-vfont2 : startsWith (magicOf Vfont2) s ≡ true → Is Vfont2 ≡ kindOf s
+      unfolding kindOf when
+      is-vfont2 d = rw (a, b, d)
 
-  pub is-psf1 : (2 ≤ length s) × (le16 s 0 ≡ 0x0436) → Is Psf1 ≡ kindOf s
-  unfolding kindOf
-  is-psf1 h = search chain depth 30
-
-  pub under-four : Two × (length s < 4) → Unknown ≡ kindOf s
-  unfolding kindOf
-  under-four h = search chain depth 30
-
-  pub is-psf2 : Four × (le32 s 0 ≡ 0x864AB572) → Is Psf2 ≡ kindOf s
-  unfolding kindOf
-  is-psf2 h = search chain depth 30
-
-  pub is-vfont2 : Four × (le32 s 0 ≡ 0x864AB572 → ⊥) × (le32 s 0 ≡ 0x68A45B27) → Is Vfont2 ≡ kindOf s
-  unfolding kindOf
-  is-vfont2 h = search chain depth 30
-
-  pub no-kind : Four × (le32 s 0 ≡ 0x864AB572 → ⊥) × (le32 s 0 ≡ 0x68A45B27 → ⊥) → Unknown ≡ kindOf s
-  unfolding kindOf
-  no-kind h = search chain depth 30
+      pub no-kind : startsWith (magicOf Vfont2) s ≡ false → Unknown ≡ kindOf s
+      unfolding kindOf when
+      no-kind d = rw (a, b, d)
 
 -- PSF1, with the mode, the size byte and the count as they were read
 module _ (s : List ℕ) where
@@ -60,34 +48,25 @@ module _ (s : List ℕ) where
   abbrev pub Sized : Type 0
   Sized = Mode × (getD s 3 0 ≡ 0 → ⊥)
 
-  pub psf1-cut : length s < 4 → Refused (HeaderCut (length s)) ≡ psf1Of s
-  unfolding psf1Of
+  pub psf1-cut : length s < 4 → Refused (refusal HeaderCut (length s)) ≡ psf1Says s
+  unfolding psf1Says
   psf1-cut h = search chain depth 30
 
-  pub psf1-mode : (4 ≤ length s) × (5 < getD s 2 0) → Refused (Version 2) ≡ psf1Of s
-  unfolding psf1Of
+  pub psf1-mode : (4 ≤ length s) × (5 < getD s 2 0) → Refused (refusal Version 2) ≡ psf1Says s
+  unfolding psf1Says
   psf1-mode h = search chain depth 30
 
-  pub psf1-shape : Mode × (getD s 3 0 ≡ 0) → Refused (Shape 3) ≡ psf1Of s
-  unfolding psf1Of
+  pub psf1-shape : Mode × (getD s 3 0 ≡ 0) → Refused (refusal Shape 3) ≡ psf1Says s
+  unfolding psf1Says
   psf1-shape h = search chain depth 30
 
-  psf1-body : Sized × (length s < 4 + psf1Count (getD s 2 0) * getD s 3 0) → Refused (BodyCut (length s)) ≡ psf1Of s
-  unfolding psf1Of
-  psf1-body h = search chain depth 30
-
-  psf1-sound : Sized × (4 + psf1Count (getD s 2 0) * getD s 3 0 ≤ length s) →
-      Sound (psf1Font (psf1Count (getD s 2 0)) (getD s 3 0) (psf1Table (getD s 2 0))) ≡ psf1Of s
-  unfolding psf1Of
+  pub psf1-sound : Sized → Sound (psf1Font (psf1Count (getD s 2 0)) (getD s 3 0) (psf1Table (getD s 2 0))) ≡ psf1Says s
+  unfolding psf1Says
   psf1-sound h = search chain depth 30
 
-  module _ (n b : ℕ) (en : n ≡ psf1Count (getD s 2 0)) (eb : b ≡ getD s 3 0) where
-    pub psf1-body-cut : Sized × (length s < 4 + n * b) → Refused (BodyCut (length s)) ≡ psf1Of s
-    psf1-body-cut h = psf1-body (rw (en, eb) at h)
-
-    pub psf1-read : (t : Bool) (m : ℕ) → t ≡ psf1Table (getD s 2 0) → m ≡ 4 → Sized × (4 + n * b ≤ length s) →
-        Sound (record { kind = Psf1; count = n; entries = 4; bitmaps = m; size = b; height = b; width = 8; end = 4 + n * b; table = t }) ≡ psf1Of s
-    psf1-read t m et em h = rw (en, eb, et, em) (psf1-sound (rw (en, eb) at h))
+  pub psf1-read : (n b : ℕ) (t : Bool) (m : ℕ) → n ≡ psf1Count (getD s 2 0) → b ≡ getD s 3 0 → t ≡ psf1Table (getD s 2 0) → m ≡ 4 → Sized →
+      Sound (record { kind = Psf1; count = n; entries = 4; bitmaps = m; size = b; height = b; width = 8; end = 4 + n * b; table = t }) ≡ psf1Says s
+  psf1-read n b t m en eb et em h = rw (en, eb, et, em) (psf1-sound h)
 
 -- the header of 32 bytes
 module _ (s : List ℕ) where
@@ -103,31 +82,31 @@ module _ (s : List ℕ) where
   abbrev pub Whole : Type 0
   Whole = Start × (le32 s 16 ≡ 0 → ⊥) × (le32 s 16 ≤ 4096)
 
-  pub head-cut : length s < 32 → Stop (HeaderCut (length s)) ≡ headOf s
+  pub head-cut : length s < 32 → NoHead (refusal HeaderCut (length s)) ≡ headOf s
   unfolding headOf
   head-cut h = search chain depth 30
 
-  pub head-version : (32 ≤ length s) × (le32 s 4 ≡ 0 → ⊥) → Stop (Version 4) ≡ headOf s
+  pub head-version : (32 ≤ length s) × (le32 s 4 ≡ 0 → ⊥) → NoHead (refusal Version 4) ≡ headOf s
   unfolding headOf
   head-version h = search chain depth 30
 
-  pub head-flags : Long × (1 < le32 s 12) → Stop (Version 12) ≡ headOf s
+  pub head-flags : Long × (1 < le32 s 12) → NoHead (refusal Version 12) ≡ headOf s
   unfolding headOf
   head-flags h = search chain depth 30
 
-  pub head-low : Flags × (le32 s 8 < 32) → Stop HeaderSize ≡ headOf s
+  pub head-low : Flags × (le32 s 8 < 32) → NoHead (refusal HeaderSize 8) ≡ headOf s
   unfolding headOf
   head-low h = search chain depth 30
 
-  pub head-high : Flags × (32 ≤ le32 s 8) × (4096 < le32 s 8) → Stop HeaderSize ≡ headOf s
+  pub head-high : Flags × (32 ≤ le32 s 8) × (4096 < le32 s 8) → NoHead (refusal HeaderSize 8) ≡ headOf s
   unfolding headOf
   head-high h = search chain depth 30
 
-  pub head-none : Start × (le32 s 16 ≡ 0) → Stop Count ≡ headOf s
+  pub head-none : Start × (le32 s 16 ≡ 0) → NoHead (refusal Count 16) ≡ headOf s
   unfolding headOf
   head-none h = search chain depth 30
 
-  pub head-many : Start × (le32 s 16 ≡ 0 → ⊥) × (4096 < le32 s 16) → Stop Count ≡ headOf s
+  pub head-many : Start × (le32 s 16 ≡ 0 → ⊥) × (4096 < le32 s 16) → NoHead (refusal Count 16) ≡ headOf s
   unfolding headOf
   head-many h = search chain depth 30
 
@@ -141,7 +120,7 @@ module _ (s : List ℕ) where
   head-read a n z h w g (ea, en, ez, eh, ew, eg) x = rw (ea, en, ez, eh, ew, eg) (head-sound x)
 
 -- PSF2
-module _ (s : List ℕ) (f : Fields) where
+module _ (f : Fields) where
   abbrev pub Height : Type 0
   Height = (1 ≤ f .height) × (f .height ≤ 255)
 
@@ -151,35 +130,31 @@ module _ (s : List ℕ) (f : Fields) where
   abbrev pub Shaped : Type 0
   Shaped = Width × (f .size ≡ glyphBytes (f .height) (f .width))
 
-  pub height-low : f .height < 1 → Refused (Shape 24) ≡ psf2Body s f
-  unfolding psf2Body
+  pub height-low : f .height < 1 → Refused (refusal Shape 24) ≡ psf2Shaped f
+  unfolding psf2Shaped
   height-low h = search chain depth 30
 
-  pub height-high : (1 ≤ f .height) × (255 < f .height) → Refused (Shape 24) ≡ psf2Body s f
-  unfolding psf2Body
+  pub height-high : (1 ≤ f .height) × (255 < f .height) → Refused (refusal Shape 24) ≡ psf2Shaped f
+  unfolding psf2Shaped
   height-high h = search chain depth 30
 
-  pub width-low : Height × (f .width < 1) → Refused (Shape 28) ≡ psf2Body s f
-  unfolding psf2Body
+  pub width-low : Height × (f .width < 1) → Refused (refusal Shape 28) ≡ psf2Shaped f
+  unfolding psf2Shaped
   width-low h = search chain depth 30
 
-  pub width-high : Height × (1 ≤ f .width) × (255 < f .width) → Refused (Shape 28) ≡ psf2Body s f
-  unfolding psf2Body
+  pub width-high : Height × (1 ≤ f .width) × (255 < f .width) → Refused (refusal Shape 28) ≡ psf2Shaped f
+  unfolding psf2Shaped
   width-high h = search chain depth 30
 
-  pub size-wrong : Width × (f .size ≡ glyphBytes (f .height) (f .width) → ⊥) → Refused (Shape 20) ≡ psf2Body s f
-  unfolding psf2Body
+  pub size-wrong : Width × (f .size ≡ glyphBytes (f .height) (f .width) → ⊥) → Refused (refusal Shape 20) ≡ psf2Shaped f
+  unfolding psf2Shaped
   size-wrong h = search chain depth 30
 
-  pub psf2-cut : Shaped × (length s < f .header + f .count * f .size) → Refused (BodyCut (length s)) ≡ psf2Body s f
-  unfolding psf2Body
-  psf2-cut h = search chain depth 30
-
-  pub psf2-sound : Shaped × (f .header + f .count * f .size ≤ length s) → Sound (psf2Font f) ≡ psf2Body s f
-  unfolding psf2Body
+  pub psf2-sound : Shaped → Sound (psf2Font f) ≡ psf2Shaped f
+  unfolding psf2Shaped
   psf2-sound h = search chain depth 30
 
-  pub psf2-read : (m : ℕ) → m ≡ f .header → Shaped × (f .header + f .count * f .size ≤ length s) →
+  pub psf2-read : (m : ℕ) → m ≡ f .header → Shaped →
       Sound (record {
         kind = Psf2;
         count = f .count;
@@ -190,71 +165,41 @@ module _ (s : List ℕ) (f : Fields) where
         width = f .width;
         end = f .header + f .count * f .size;
         table = f .table;
-      }) ≡ psf2Body s f
+      }) ≡ psf2Shaped f
   psf2-read m e h = rw e (psf2-sound h)
 
 -- vfont2
-module _ (s : List ℕ) (f : Fields) where
+module _ (f : Fields) where
   abbrev pub Small : Type 0
   Small = (f .height ≤ 255) × (f .width ≤ 255)
 
-  pub tall : 255 < f .height → Refused (Shape 24) ≡ vfont2Body s f
-  unfolding vfont2Body
+  pub tall : 255 < f .height → Refused (refusal Shape 24) ≡ vfont2Shaped f
+  unfolding vfont2Shaped
   tall h = search chain depth 30
 
-  pub broad : (f .height ≤ 255) × (255 < f .width) → Refused (Shape 28) ≡ vfont2Body s f
-  unfolding vfont2Body
+  pub broad : (f .height ≤ 255) × (255 < f .width) → Refused (refusal Shape 28) ≡ vfont2Shaped f
+  unfolding vfont2Shaped
   broad h = search chain depth 30
 
-  pub vfont2-cut : Small × (length s < f .header + f .count * 18 + f .size) → Refused (BodyCut (length s)) ≡ vfont2Body s f
-  unfolding vfont2Body
-  vfont2-cut h = search chain depth 30
+  pub vfont2-sound : Small → Sound (vfont2Font f) ≡ vfont2Shaped f
+  unfolding vfont2Shaped
+  vfont2-sound h = search chain depth 30
 
-  pub vfont2-whole : Small × (f .header + f .count * 18 + f .size ≤ length s) → entriesOf s f ≡ vfont2Body s f
-  unfolding vfont2Body
-  vfont2-whole h = search chain depth 30
-
-  pub entry-bad : (at : ℕ) → scanOf s (f .size) (f .count) (f .header) 0 0 ≡ Bad at → Refused (Entry at) ≡ entriesOf s f
-  unfolding entriesOf
-  entry-bad at e = rw (e, entriesOf)
-
-  module _ (h w : ℕ) (e : scanOf s (f .size) (f .count) (f .header) 0 0 ≡ Greatest h w) where
-    scanned : greatestOf f h w ≡ entriesOf s f
-    unfolding entriesOf
-    scanned = rw (e, entriesOf)
-
-    pub height-wrong : (f .height ≡ h → ⊥) → Refused (Entry 24) ≡ entriesOf s f
-    height-wrong p = let g : Refused (Entry 24) ≡ greatestOf f h w = search chain depth 30 in g ∙ scanned
-
-    pub width-wrong : (f .height ≡ h) × (f .width ≡ w → ⊥) → Refused (Entry 28) ≡ entriesOf s f
-    width-wrong p = let g : Refused (Entry 28) ≡ greatestOf f h w = search chain depth 30 in g ∙ scanned
-
-    pub vfont2-sound : (f .height ≡ h) × (f .width ≡ w) → Sound (vfont2Font f) ≡ entriesOf s f
-    vfont2-sound p = let g : Sound (vfont2Font f) ≡ greatestOf f h w = search chain depth 30 in g ∙ scanned
-
-    pub vfont2-read : (m : ℕ) → m ≡ f .header + f .count * 18 → (f .height ≡ h) × (f .width ≡ w) →
-        Sound (record {
-          kind = Vfont2;
-          count = f .count;
-          entries = f .header;
-          bitmaps = m;
-          size = f .size;
-          height = f .height;
-          width = f .width;
-          end = m + f .size;
-          table = f .table;
-        }) ≡ entriesOf s f
-    vfont2-read m e p = rw e (vfont2-sound p)
+  pub vfont2-read : (m : ℕ) → m ≡ f .header + f .count * entryLen Vfont2 → Small →
+      Sound (record {
+        kind = Vfont2;
+        count = f .count;
+        entries = f .header;
+        bitmaps = m;
+        size = f .size;
+        height = f .height;
+        width = f .width;
+        end = m + f .size;
+        table = f .table;
+      }) ≡ vfont2Shaped f
+  vfont2-read m e h = rw e (vfont2-sound h)
 
 -- the whole
-module _ (s : List ℕ) where
-  pub too-long : limit < length s → Refused TooLong ≡ headerOf s
-  unfolding headerOf
-  too-long h = search chain depth 30
-
-  pub named : length s ≤ limit → namedOf s (kindOf s) ≡ headerOf s
-  unfolding headerOf
-  named h = search chain depth 30
-
-  pub named-as : (x : Named) → kindOf s ≡ x → length s ≤ limit → namedOf s x ≡ headerOf s
-  named-as x e h = rw (← e) (named h)
+pub named-as : (s : List ℕ) (x : Named) → kindOf s ≡ x → namedSays s x ≡ saysOf s
+unfolding saysOf
+named-as s x e = rw e

@@ -1,4 +1,4 @@
 -- Laws of the headers.
 pub mod Cases
-pub mod Inverse
-pub mod Sources
+pub mod Known
+pub mod Written

@@ -1,3 +1,4 @@
 -- What the three files' headers say.
-pub mod Headers
-pub mod Placed
+pub mod Meaning
+pub mod Reading
+pub mod Bounds

@@ -1,86 +1,73 @@
-// Inner layer: every refusal of document 01, with its number and its place. Definitions: specs/Refusals.antt.
+// Inner layer: every refusal of document 01: why, and where. Definitions: specs/Refusals.antt.
 ghost use mathlib.Core.Path.{_≡_};
-ghost use Rattle.refusal.specs.Refusals.{numberOf, placeOf};
+ghost use Rattle.refusal.specs.Refusals.{numberOf, refusal};
 
-// Why a call is refused. A variant holds the place where document 01 does not fix it.
-pub enum Refusal {
+// Why a call is refused: the rows of document 01's table.
+pub enum Reason {
     TooLong,
     Kind,
-    HeaderCut(usize),
-    Version(usize),
+    HeaderCut,
+    Version,
     HeaderSize,
     Count,
-    Shape(usize),
-    BodyCut(usize),
-    Entry(usize),
-    TableCut(usize),
-    TableBad(usize),
-    Trailing(usize),
+    Shape,
+    BodyCut,
+    Entry,
+    TableCut,
+    TableBad,
+    Trailing,
     Ask,
     NoTable,
     Unmapped,
     NoGlyph,
     WrongKind,
-    Glyphs(usize),
-    Value(usize),
+    Glyphs,
+    Value,
     Size,
-    Room(usize),
+    Room,
 }
 
-// Document 01's number of a refusal.
-pub fn number(r: Refusal) -> u32
-    ensures { λ n. ⌜ n ≡ numberOf r ⌝ }
+// A refusal: the reason, and its place: an offset in the file, 0 where there is nothing to point at, the size needed (ROOM).
+pub struct Refusal {
+    pub reason: Reason,
+    pub place: usize,
+}
+
+// The refusal for a reason, at a place.
+pub fn refuse(reason: Reason, place: usize) -> Refusal
+    ensures { λ r. ⌜ r ≡ refusal reason place ⌝ }
 {
-    match r {
-        Refusal::TooLong => 1,
-        Refusal::Kind => 2,
-        Refusal::HeaderCut(_) => 3,
-        Refusal::Version(_) => 4,
-        Refusal::HeaderSize => 5,
-        Refusal::Count => 6,
-        Refusal::Shape(_) => 7,
-        Refusal::BodyCut(_) => 8,
-        Refusal::Entry(_) => 9,
-        Refusal::TableCut(_) => 10,
-        Refusal::TableBad(_) => 11,
-        Refusal::Trailing(_) => 12,
-        Refusal::Ask => 13,
-        Refusal::NoTable => 14,
-        Refusal::Unmapped => 15,
-        Refusal::NoGlyph => 16,
-        Refusal::WrongKind => 17,
-        Refusal::Glyphs(_) => 18,
-        Refusal::Value(_) => 19,
-        Refusal::Size => 20,
-        Refusal::Room(_) => 21,
+    Refusal {
+        reason: reason,
+        place: place,
     }
 }
 
-// Document 01's place of a refusal: an offset in the file, or the size needed (ROOM).
-pub fn place(r: Refusal) -> usize
-    ensures { λ p. ⌜ p ≡ placeOf r ⌝ }
+// Document 01's number of a reason.
+pub fn number(reason: Reason) -> u32
+    ensures { λ n. ⌜ n ≡ numberOf reason ⌝ }
 {
-    match r {
-        Refusal::TooLong => 1048576,
-        Refusal::Kind => 0,
-        Refusal::HeaderCut(p) => p,
-        Refusal::Version(p) => p,
-        Refusal::HeaderSize => 8,
-        Refusal::Count => 16,
-        Refusal::Shape(p) => p,
-        Refusal::BodyCut(p) => p,
-        Refusal::Entry(p) => p,
-        Refusal::TableCut(p) => p,
-        Refusal::TableBad(p) => p,
-        Refusal::Trailing(p) => p,
-        Refusal::Ask => 0,
-        Refusal::NoTable => 0,
-        Refusal::Unmapped => 0,
-        Refusal::NoGlyph => 0,
-        Refusal::WrongKind => 0,
-        Refusal::Glyphs(p) => p,
-        Refusal::Value(p) => p,
-        Refusal::Size => 0,
-        Refusal::Room(p) => p,
+    match reason {
+        Reason::TooLong => 1,
+        Reason::Kind => 2,
+        Reason::HeaderCut => 3,
+        Reason::Version => 4,
+        Reason::HeaderSize => 5,
+        Reason::Count => 6,
+        Reason::Shape => 7,
+        Reason::BodyCut => 8,
+        Reason::Entry => 9,
+        Reason::TableCut => 10,
+        Reason::TableBad => 11,
+        Reason::Trailing => 12,
+        Reason::Ask => 13,
+        Reason::NoTable => 14,
+        Reason::Unmapped => 15,
+        Reason::NoGlyph => 16,
+        Reason::WrongKind => 17,
+        Reason::Glyphs => 18,
+        Reason::Value => 19,
+        Reason::Size => 20,
+        Reason::Room => 21,
     }
 }

@@ -1,7 +1,7 @@
 -- `entries::cols_at` meets its contract: the two numbers are read and summed. Assumes nothing.
 use mathlib.Core.Path.{_∙_}
 use native.Mathlib.Omega.{arith}
-use Rattle.entries.specs.Entries.{colsAt}
+use Rattle.entries.specs.Meaning.{colsAt}
 use borrow.Author.Needs.{needs}
 use Rattle.entries.proofs.cols_at.Statement.{statement}
 use Rattle.entries.proofs.cols_at.Tie as tie

@@ -10,7 +10,7 @@ use Rattle.entries.proofs.entry_at.Lts as lts
 use Rattle.base.proofs.get32.Reads as get32-reads
 use Rattle.base.proofs.size.Reads as size-reads
 use Rattle.entries.proofs.cols_at.Reads as cols-at-reads
-use Rattle.entries.proofs.glyph_bytes.Reads as glyph-bytes-reads
+use Rattle.header.proofs.glyph_bytes.Reads as glyph-bytes-reads
 use Rattle.entries.proofs.rows_at.Reads as rows-at-reads
 
 add-get32 : tie.Need-add-get32

@@ -1,7 +1,7 @@
 -- `entries::rows_at` meets its contract: the two numbers are read and summed. Assumes nothing.
 use mathlib.Core.Path.{_∙_}
 use native.Mathlib.Omega.{arith}
-use Rattle.entries.specs.Entries.{rowsAt}
+use Rattle.entries.specs.Meaning.{rowsAt}
 use borrow.Author.Needs.{needs}
 use Rattle.entries.proofs.rows_at.Statement.{statement}
 use Rattle.entries.proofs.rows_at.Tie as tie

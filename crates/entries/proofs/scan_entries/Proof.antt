@@ -1,6 +1,7 @@
 -- `entries::scan_entries` meets its contract: the entries from `at` on, with the greatest so far, scan as all of them do. Assumes nothing.
 use Rattle.entries.proofs.Cases as cases
-use Rattle.entries.specs.Entries.{scanOf}
+use Rattle.entries.specs.Meaning.{entryAt}
+use Rattle.entries.specs.Reading.{scanOf}
 use lib.ListN.{length}
 use native.Mathlib.Nat.{sub-zero}
 use Prim.Native.Nat.{_+_, _-_, _*_, _≤_}
@@ -15,13 +16,13 @@ use Rattle.entries.proofs.entry_at.Reads as entry-at-reads
 use Rattle.entries.proofs.larger_of.Reads as larger-of-reads
 
 abbrev Inv-loop : tie.InvT-loop
-Inv-loop file total n start i₀ at₀ height₀ width₀ i at height width = (i ≤ n) × (at + (n - i) * 18 ≤ length file) × (scanOf file total (n - i) at height width ≡ scanOf file total n start 0 0)
+Inv-loop file total n start i₀ at₀ height₀ width₀ i at height width = (i ≤ n) × (entryAt start n ≤ length file) × (at ≡ entryAt start i) × (scanOf file total start (n - i) i height width ≡ scanOf file total start n 0 0 0)
 
 abbrev μ-loop : tie.MeasureT-loop
 μ-loop file total n start i₀ at₀ height₀ width₀ i at height width = n - i
 
 loop-holds : tie.Need-loop-holds Inv-loop μ-loop
-loop-holds c = (omega arith, omega arith, rw sub-zero)
+loop-holds c = (omega arith, omega arith, omega arith, rw sub-zero)
 
 entry-at-requires : tie.Need-entry-at-requires Inv-loop μ-loop
 entry-at-requires c κs = omega arith
@@ -39,8 +40,7 @@ loop-less : tie.Need-loop-less Inv-loop μ-loop
 loop-less c = omega arith
 
 loop-again : tie.Need-loop-again Inv-loop μ-loop
-loop-again c = let a = c .before .before .before .before .before .before .args in let l = c .before .before .before .before .loop in let e : a .n - (l .i + 1) ≡ a .n - l .i - 1 = omega arith in
-    (omega arith, omega arith, rw e (sym (cases.past-empty (a .file .now) (a .total) (l .at) _ _ (a .n - l .i) (omega arith) (sym (c .before .before .entry-at .ensures) ∙ c .enum-told .given .1)) ∙ l .inv .2))
+loop-again c = let e : c .before .before .before .before .before .before .args .n - (c .before .before .before .before .loop .i + 1) ≡ c .before .before .before .before .before .before .args .n - c .before .before .before .before .loop .i - 1 = omega arith in (omega arith, omega arith, omega arith, rw e (sym (cases.past-empty (c .before .before .before .before .before .before .args .file .now) (c .before .before .before .before .before .before .args .total) (c .before .before .before .before .before .before .args .start) (c .before .before .before .before .loop .i) (c .before .before .before .before .loop .at) _ _ (c .before .before .before .before .loop .inv .2) (c .before .before .before .before .before .before .args .n - c .before .before .before .before .loop .i) (omega arith) (sym (c .before .before .entry-at .ensures) ∙ c .enum-told .given .1)) ∙ c .before .before .before .before .loop .inv .3))
 
 enum-known-e : tie.Need-enum-known-e Inv-loop μ-loop
 enum-known-e c = search needs
@@ -55,17 +55,16 @@ loop-less-2 : tie.Need-loop-less-2 Inv-loop μ-loop
 loop-less-2 c = omega arith
 
 loop-again-2 : tie.Need-loop-again-2 Inv-loop μ-loop
-loop-again-2 c = let a = c .before .before .before .before .before .before .before .before .before .args in let l = c .before .before .before .before .before .before .before .loop in let e : a .n - (l .i + 1) ≡ a .n - l .i - 1 = omega arith in
-    (omega arith, omega arith, rw (e, c .before .larger-of .ensures, c .larger-of2 .ensures) (sym (cases.past-glyph (a .file .now) (a .total) (l .at) _ _ (a .n - l .i) _ _ (omega arith) (sym (c .before .before .before .before .before .entry-at .ensures) ∙ c .before .before .before .e .given .1)) ∙ l .inv .2))
+loop-again-2 c = let e : c .before .before .before .before .before .before .before .before .before .args .n - (c .before .before .before .before .before .before .before .loop .i + 1) ≡ c .before .before .before .before .before .before .before .before .before .args .n - c .before .before .before .before .before .before .before .loop .i - 1 = omega arith in (omega arith, omega arith, omega arith, rw (e, c .before .larger-of .ensures, c .larger-of2 .ensures) (sym (cases.past-glyph (c .before .before .before .before .before .before .before .before .before .args .file .now) (c .before .before .before .before .before .before .before .before .before .args .total) (c .before .before .before .before .before .before .before .before .before .args .start) (c .before .before .before .before .before .before .before .loop .i) (c .before .before .before .before .before .before .before .loop .at) _ _ (c .before .before .before .before .before .before .before .loop .inv .2) (c .before .before .before .before .before .before .before .before .before .args .n - c .before .before .before .before .before .before .before .loop .i) _ _ (omega arith) (sym (c .before .before .before .before .before .entry-at .ensures) ∙ c .before .before .before .e .given .1)) ∙ c .before .before .before .before .before .before .before .loop .inv .3))
 
 enum-told-2 : tie.Need-enum-told-2 Inv-loop μ-loop
 enum-told-2 c = search needs
 
 returns : tie.Need-returns Inv-loop μ-loop
-returns c = let a = c .before .before .before .before .before .before .args in let l = c .before .before .before .before .loop in sym (cases.at-broken (a .file .now) (a .total) (l .at) _ _ (a .n - l .i) (omega arith) (sym (c .before .before .entry-at .ensures) ∙ c .enum-told2 .given .1)) ∙ l .inv .2
+returns c = sym (cases.at-broken (c .before .before .before .before .before .before .args .file .now) (c .before .before .before .before .before .before .args .total) (c .before .before .before .before .before .before .args .start) (c .before .before .before .before .loop .i) (c .before .before .before .before .loop .at) _ _ (c .before .before .before .before .loop .inv .2) (c .before .before .before .before .before .before .args .n - c .before .before .before .before .loop .i) (omega arith) (sym (c .before .before .entry-at .ensures) ∙ c .enum-told2 .given .1)) ∙ c .before .before .before .before .loop .inv .3
 
 returns-2 : tie.Need-returns-2 Inv-loop μ-loop
-returns-2 c = let a = c .before .before .before .args in let l = c .before .loop in sym (cases.scanned (a .file .now) (a .total) (a .n - l .i) (l .at) _ _ (omega arith)) ∙ l .inv .2
+returns-2 c = sym (cases.scanned (c .before .before .before .args .file .now) (c .before .before .before .args .total) (c .before .before .before .args .start) (c .before .before .before .args .n - c .before .loop .i) (c .before .loop .i) _ _ (omega arith)) ∙ c .before .loop .inv .3
 
 pub scan-entries-spec : {M : Type 1} → statement M
 scan-entries-spec =

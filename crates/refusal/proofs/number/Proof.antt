@@ -1,4 +1,4 @@
--- `refusal::number` meets its contract: the number of each variant is the one of document 01's table. Assumes nothing.
+-- `refusal::number` meets its contract: the number of each reason is the one of document 01's table. Assumes nothing.
 use borrow.Author.Needs.{needs}
 use Rattle.refusal.proofs.number.Statement.{statement}
 use Rattle.refusal.proofs.number.Tie as tie

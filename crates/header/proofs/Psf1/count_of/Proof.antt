@@ -1,5 +1,5 @@
 -- `header::Psf1::count_of` meets its contract: bit 0 of the mode decides. Assumes nothing.
-use Rattle.header.specs.Headers.{psf1Count}
+use Rattle.header.specs.Meaning.{psf1Count}
 use native.Mathlib.Omega.{arith}
 use borrow.Author.Tests.{eq-eqb, ne-eqb}
 use Rattle.header.proofs.Psf1.count_of.Statement.{statement}

@@ -1,5 +1,5 @@
 -- `header::Psf1::table_of` meets its contract: bit 1 of the mode decides. Assumes nothing.
-use Rattle.header.specs.Headers.{psf1Table}
+use Rattle.header.specs.Meaning.{psf1Table}
 use mathlib.Core.Path.{refl}
 use Rattle.header.proofs.Psf1.table_of.Statement.{statement}
 use Rattle.header.proofs.Psf1.table_of.Tie as tie
