@@ -9,7 +9,7 @@ use lib.ListN.{length, length-append}
 use Rattle.base.specs.Choice.{when}
 use Rattle.coding.specs.declared.Coding.{Coding}
 use Rattle.coding.specs.Coding.{valueOf, carriesOf, valueBytes, startBytes, endBytes, markLen}
-use Rattle.coding.proofs.Written.{carries-yes, carries-no, start-len, end-len}
+use Rattle.coding.proofs.Written.{carries-exactly, carries-no, start-len, end-len}
 use Rattle.table.specs.declared.Item.{Item}
 use Rattle.table.specs.declared.Item.the-variants.{Single, Start, Value, End}
 use Rattle.table.specs.declared.Step.{Step}
@@ -75,7 +75,7 @@ module _ (from to : Coding) where
       next ≡ at + length (itemBytes from i) → l ≡ length (itemBytes to i) → (x : Measured) → Said is next (n + l) x →
       (t : Bool) → carriesOf to v ≡ t → Said (i ∷ is) at n (when t x (Uncarried at))
   unfolding when
-  by-value i v is at n next l mk un en el x s true c = passed i is at n next l (mk (carries-yes to v c)) en el x s
+  by-value i v is at n next l mk un en el x s true c = passed i is at n next l (mk (carries-exactly to v .0 c)) en el x s
   by-value i v is at n next l mk un en el x s false c =
       record { before = []; item = i; after = is; same = refl; carried = tt; uncarried = λ o. carries-no to v c (un o); here = omega arith }
 
@@ -116,7 +116,7 @@ module _ (from to : Coding) where
   value-out v is at n o u {xs} {ys} e = value-not to at n xs ys v _ e (no-carry (carriesOf to v) refl) ∙ ap Uncarried (omega arith)
     where
       no-carry : (t : Bool) → carriesOf to v ≡ t → carriesOf to v ≡ false
-      no-carry true q = absurd (u (carries-yes to v q))
+      no-carry true q = absurd (u (carries-exactly to v .0 q))
       no-carry false q = q
 
   value-in : (v : ℕ) (is : List Item) (at n : ℕ) → valueOf to v → (xs ys : List Step) → xs ≡ StepValue v (at + length (valueBytes from v)) ∷ ys →

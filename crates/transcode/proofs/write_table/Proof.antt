@@ -2,7 +2,7 @@
 use Rattle.transcode.proofs.Turns.{value-more, value-carried, start-more, end-more, value-bytes, start-bytes, end-bytes, cut-bytes, bad-bytes, past-bytes, recoded-from, length-from}
 use Rattle.transcode.specs.declared.Measured.the-variants.{Length}
 use Rattle.transcode.specs.Transcode.{recoded, measure, tableLen}
-use Rattle.coding.proofs.Written.{carries-yes, start-len, end-len}
+use Rattle.coding.proofs.Written.{carries-exactly, start-len, end-len}
 use Rattle.coding.specs.Coding.{markLen, valueBytes, startBytes, endBytes}
 use Rattle.table.specs.Steps.{stepsAt, told}
 use Rattle.table.specs.Grammar.{bytes}
@@ -49,7 +49,7 @@ part-put-value-end : tie.Need-part-put-value-end Inv-loop μ-loop
 part-put-value-end c = search needs
 
 put-value-requires : tie.Need-put-value-requires Inv-loop μ-loop
-put-value-requires c κs = let w = rw (c .before .before .t .given .1) at (c .before .before .before .before .step-at .ensures .1) in let d = c .before .before .before .before .before .before .loop .inv .5 ∙ value-bytes _ _ _ _ _ (w .2) in let r = turn-room (recoded (c .before .before .before .before .before .before .before .before .before .args .from) (c .before .before .before .before .before .before .before .before .before .args .to) (c .before .before .before .before .before .before .before .before .before .args .tail .now)) (valueBytes (c .before .before .before .before .before .before .before .before .before .args .to) (c .before .before .t .given .0 .0)) (bytes (c .before .before .before .before .before .before .before .before .before .args .to) (told false (stepsAt (c .before .before .before .before .before .before .before .before .before .args .from) (c .before .before .before .before .before .before .before .before .before .args .tail .now) (c .before .before .t .given .0 .1 .0)))) (c .before .before .before .before .before .before .loop .n) (c .before .before .before .before .before .before .loop .inv .1) d in (carries-yes _ _ (value-carried _ _ _ _ _ _ _ _ (w .2) (c .before .before .before .before .before .before .loop .inv .6)), omega arith)
+put-value-requires c κs = let w = rw (c .before .before .t .given .1) at (c .before .before .before .before .step-at .ensures .1) in let d = c .before .before .before .before .before .before .loop .inv .5 ∙ value-bytes _ _ _ _ _ (w .2) in let r = turn-room (recoded (c .before .before .before .before .before .before .before .before .before .args .from) (c .before .before .before .before .before .before .before .before .before .args .to) (c .before .before .before .before .before .before .before .before .before .args .tail .now)) (valueBytes (c .before .before .before .before .before .before .before .before .before .args .to) (c .before .before .t .given .0 .0)) (bytes (c .before .before .before .before .before .before .before .before .before .args .to) (told false (stepsAt (c .before .before .before .before .before .before .before .before .before .args .from) (c .before .before .before .before .before .before .before .before .before .args .tail .now) (c .before .before .t .given .0 .1 .0)))) (c .before .before .before .before .before .before .loop .n) (c .before .before .before .before .before .before .loop .inv .1) d in (carries-exactly _ _ .0 (value-carried _ _ _ _ _ _ _ _ (w .2) (c .before .before .before .before .before .before .loop .inv .6)), omega arith)
 
 add-n : tie.Need-add-n Inv-loop μ-loop
 add-n c = let w = rw (c .before .before .before .before .before .t .given .1) at (c .before .before .before .before .before .before .before .step-at .ensures .1) in let d = c .before .before .before .before .before .before .before .before .before .loop .inv .5 ∙ value-bytes _ _ _ _ _ (w .2) in let r = turn-room (recoded (c .before .before .before .before .before .before .before .before .before .before .before .before .args .from) (c .before .before .before .before .before .before .before .before .before .before .before .before .args .to) (c .before .before .before .before .before .before .before .before .before .before .before .before .args .tail .now)) (valueBytes (c .before .before .before .before .before .before .before .before .before .before .before .before .args .to) (c .before .before .before .before .before .t .given .0 .0)) (bytes (c .before .before .before .before .before .before .before .before .before .before .before .before .args .to) (told false (stepsAt (c .before .before .before .before .before .before .before .before .before .before .before .before .args .from) (c .before .before .before .before .before .before .before .before .before .before .before .before .args .tail .now) (c .before .before .before .before .before .t .given .0 .1 .0)))) (c .before .before .before .before .before .before .before .before .before .loop .n) (c .before .before .before .before .before .before .before .before .before .loop .inv .1) d in omega (arith, c .before .before .put-value .ensures .0)
