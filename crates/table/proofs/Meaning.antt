@@ -3,16 +3,17 @@ use mathlib.Core.Path.{_≡_}
 use mathlib.Core.Logic.{_↔_}
 use mathlib.Core.List.{List, _∷_, _++_}
 use Prim.Native.Nat.{ℕ, _≤_, _<_}
-use lib.ListN.{length, take}
+use lib.ListN.{length, take, drop}
 use Rattle.base.specs.Bytes.{Bytes}
 use Rattle.coding.specs.declared.Coding.{Coding}
 use Rattle.table.specs.declared.TableAnswer.the-variants.{Complete, Cut, Bad, Trailing}
-use Rattle.table.specs.Grammar.{Desc, itemsOf, items, bytes, encode, Readable}
+use Rattle.table.specs.Grammar.{Desc, itemsOf, items, bytes, encode, startOf, Readable}
 use Rattle.table.specs.Steps.{itemsIn}
 use Rattle.table.specs.Check.{tableOf, placeOf}
 use Rattle.table.specs.Table.{IsTable, Completable, LongestStart}
 use Rattle.table.proofs.Reading.{unique, items-back}
 use Rattle.table.proofs.EndToEnd.{described-append, encode-cons}
+use Rattle.table.proofs.EndToEnd as end-to-end
 use Rattle.table.proofs.Places.{complete-table, table-complete, cut-short, short-cut, bad-broken, broken-bad, trailing-over, over-trailing, within-tail}
 
 -- exactly the bytes of n descriptions, nothing over, are accepted
@@ -33,6 +34,13 @@ items-end-to-end d ds = described-append d (items ds)
 
 pub bytes-end-to-end : (c : Coding) (d : Desc) (ds : List Desc) → encode c (d ∷ ds) ≡ bytes c (itemsOf d) ++ encode c ds
 bytes-end-to-end = encode-cons
+
+-- description g starts behind the bytes of the first g, and from there on stand its bytes and those of the others
+pub start-before : (c : Coding) (ds : List Desc) (g : ℕ) → take (startOf c ds g) (encode c ds) ≡ encode c (take g ds)
+start-before = end-to-end.start-before
+
+pub start-on : (c : Coding) (ds : List Desc) (g : ℕ) → drop (startOf c ds g) (encode c ds) ≡ encode c (drop g ds)
+start-on = end-to-end.start-on
 
 -- TABLE CUT is given exactly when the whole tail could still be completed, but isn't complete; its place is the end
 pub cut-exactly : (c : Coding) (n : ℕ) (s : List ℕ) (k : ℕ) → Bytes s →
