@@ -204,12 +204,12 @@ module _ (s : List ℕ) (y : Bytes s) (f : Font) (passed : headerOf s ≡ Sound 
     unfolding valueGlyph when
     looks v h = rw (sound, marked, le-ltb 0x10FFFF v h)
 
-    pub value-exactly : (v g : ℕ) → v ≤ 0x10FFFF → (valueGlyph s v ≡ Glyph g) ↔ Lowest (ListsValue v) (r .reading) g
+    pub value-exactly : (v g : ℕ) → v ≤ 0x10FFFF → (valueGlyph s v ≡ Glyph g) ↔ Lowest (ListsValue v) 0 (r .reading) g
     value-exactly v g h =
         let m = looked.value-exactly (codingOf (f .kind)) (r .reading) (tailOf s f) (r .values) (r .same) v g in
         (λ e. m .0 (is-found _ g (sym (looks v h) ∙ e)), λ l. looks v h ∙ ap found (m .1 l))
 
-    pub value-unmapped-exactly : (v : ℕ) → v ≤ 0x10FFFF → (valueGlyph s v ≡ NoLookup Unmapped) ↔ Nowhere (ListsValue v) (r .reading)
+    pub value-unmapped-exactly : (v : ℕ) → v ≤ 0x10FFFF → (valueGlyph s v ≡ NoLookup Unmapped) ↔ Nowhere (ListsValue v) 0 (r .reading)
     value-unmapped-exactly v h =
         let m = looked.no-value-exactly (codingOf (f .kind)) (r .reading) (tailOf s f) (r .values) (r .same) v in
         (λ e. m .0 (is-unmapped _ (sym (looks v h) ∙ e)), λ l. looks v h ∙ ap found (m .1 l))
@@ -218,12 +218,12 @@ module _ (s : List ℕ) (y : Bytes s) (f : Font) (passed : headerOf s ≡ Sound 
     unfolding sequenceGlyph when
     seeks vs h = rw (sound, marked, h)
 
-    pub sequence-exactly : (vs : List ℕ) (g : ℕ) → askable vs ≡ true → (sequenceGlyph s vs ≡ Glyph g) ↔ Lowest (ListsSequence vs) (r .reading) g
+    pub sequence-exactly : (vs : List ℕ) (g : ℕ) → askable vs ≡ true → (sequenceGlyph s vs ≡ Glyph g) ↔ Lowest (ListsSequence vs) 0 (r .reading) g
     sequence-exactly vs g h =
         let m = looked.sequence-exactly (codingOf (f .kind)) (r .reading) (tailOf s f) (r .values) (r .same) vs g in
         (λ e. m .0 (is-found _ g (sym (seeks vs h) ∙ e)), λ l. seeks vs h ∙ ap found (m .1 l))
 
-    pub sequence-unmapped-exactly : (vs : List ℕ) → askable vs ≡ true → (sequenceGlyph s vs ≡ NoLookup Unmapped) ↔ Nowhere (ListsSequence vs) (r .reading)
+    pub sequence-unmapped-exactly : (vs : List ℕ) → askable vs ≡ true → (sequenceGlyph s vs ≡ NoLookup Unmapped) ↔ Nowhere (ListsSequence vs) 0 (r .reading)
     sequence-unmapped-exactly vs h =
         let m = looked.no-sequence-exactly (codingOf (f .kind)) (r .reading) (tailOf s f) (r .values) (r .same) vs in
         (λ e. m .0 (is-unmapped _ (sym (seeks vs h) ∙ e)), λ l. seeks vs h ∙ ap found (m .1 l))
