@@ -1,31 +1,31 @@
 -- What each coding writes: the test for a value holds of its values and of nothing else, and the lengths of what is written.
 use mathlib.Core.Path.{_≡_, refl, sym, _∙_, ap}
 use mathlib.Core.Bool.{true, false}
+use mathlib.Core.Logic.{_↔_}
 use mathlib.Core.List.{List, [], _∷_}
 use Prim.Native.Nat.{ℕ, _≤_, _<_}
 use native.Mathlib.Omega.{arith}
-use lib.Dec.{ltb}
 use lib.ListN.{length}
 use lib.Seq.{sets}
-use borrow.Author.Tests.{ltb-true, ltb-false}
 use Rattle.base.specs.Over.{over}
 use Rattle.base.proofs.Over.{stores}
 use Rattle.utf8.specs.Scalar.{Scalar, isScalar, utf8Bytes}
-use Rattle.ucs2.specs.Word.{Word, wordBytes}
-use Rattle.utf8.proofs.Written.{scalar-yes, scalar-no}
+use Rattle.ucs2.specs.Word.{Word, isWord, wordBytes}
+use Rattle.utf8.proofs.Written.{scalar-exactly}
+use Rattle.ucs2.proofs.Words.{word-exactly}
 use Rattle.coding.specs.Coding.{markLen, valueOf, carriesOf, valueBytes, startBytes, endBytes}
 use Rattle.coding.specs.declared.Coding.{Coding}
 use Rattle.coding.specs.declared.Coding.the-variants.{Utf8, Ucs2}
 
-pub carries-yes : (c : Coding) (v : ℕ) → carriesOf c v ≡ true → valueOf c v
+-- the test holds of the values and of nothing else
+pub carries-exactly : (c : Coding) (v : ℕ) → (carriesOf c v ≡ true) ↔ valueOf c v
 unfolding carriesOf valueOf
-carries-yes Utf8 v e = scalar-yes v e
-carries-yes Ucs2 v e = ltb-true v 0xFFFE e
+carries-exactly Utf8 v = scalar-exactly v
+carries-exactly Ucs2 v = word-exactly v
 
+-- what fails the test is no value
 pub carries-no : (c : Coding) (v : ℕ) → carriesOf c v ≡ false → valueOf c v → ⊥
-unfolding carriesOf valueOf
-carries-no Utf8 v e p = scalar-no v e p
-carries-no Ucs2 v e p = let h = ltb-false v 0xFFFE e in omega arith
+carries-no c v e p = let q : true ≡ false = sym (carries-exactly c v .1 p) ∙ e in let z : _≡_ {A = ℕ} 0 1 = cc in omega arith
 
 pub start-len : (c : Coding) → markLen c ≡ length (startBytes c)
 unfolding markLen startBytes
@@ -47,7 +47,7 @@ module _ (c : Coding) where
   unfolding carriesOf
   utf8-carries v e = rw e
 
-  pub ucs2-carries : (v : ℕ) → c ≡ Ucs2 → ltb v 0xFFFE ≡ carriesOf c v
+  pub ucs2-carries : (v : ℕ) → c ≡ Ucs2 → isWord v ≡ carriesOf c v
   unfolding carriesOf
   ucs2-carries v e = rw e
 

@@ -2,12 +2,11 @@
 use mathlib.Core.List.{List, [], _∷_}
 use Prim.Native.Nat.{ℕ}
 use mathlib.Core.Bool.{Bool}
-use lib.Dec.{ltb}
 use Rattle.token.specs.declared.Token.{Token}
 use Rattle.utf8.specs.Utf8.{readUtf8}
 use Rattle.utf8.specs.Scalar.{Scalar, isScalar, utf8Bytes}
 use Rattle.ucs2.specs.Ucs2.{readUcs2}
-use Rattle.ucs2.specs.Word.{Word, wordBytes}
+use Rattle.ucs2.specs.Word.{Word, isWord, wordBytes}
 use Rattle.coding.specs.declared.Coding.{Coding}
 use Rattle.coding.specs.declared.Coding.the-variants.{Utf8, Ucs2}
 
@@ -29,7 +28,7 @@ valueOf Ucs2 = Word
 -- the same as a test
 unfoldable pub carriesOf : Coding → ℕ → Bool
 carriesOf Utf8 v = isScalar v
-carriesOf Ucs2 v = ltb v 0xFFFE
+carriesOf Ucs2 v = isWord v
 
 -- the bytes of a value
 unfoldable pub valueBytes : Coding → ℕ → List ℕ

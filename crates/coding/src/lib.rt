@@ -27,7 +27,7 @@ pub fn carries(c: Coding, v: u32) -> bool
 {
     match c {
         Coding::Utf8 => utf8::is_scalar(v),
-        Coding::Ucs2 => v < 0xFFFE,
+        Coding::Ucs2 => ucs2::is_word(v),
     }
 }
 

@@ -23,7 +23,7 @@ use Rattle.transcode.specs.declared.Measured.{Measured}
 use Rattle.transcode.specs.declared.Measured.the-variants.{Length, Uncarried}
 use Rattle.transcode.specs.Transcode.{tableLen, recoded}
 use Rattle.transcode.specs.Carrying.{FirstUncarried}
-use Rattle.transcode.proofs.Meaning.{length-exactly, uncarried-exactly}
+use Rattle.transcode.proofs.Meaning.{length-exactly, uncarried-place}
 use Rattle.entries.specs.Entries.{glyphBytes}
 use Rattle.entries.specs.Rules.{entryAt}
 use Rattle.header.specs.declared.Kind.{Kind}
@@ -158,7 +158,7 @@ module _ (from to : Coding) (header : ℕ) (s : List ℕ) (f : Font) (ds : List 
       ∙ fit-outcome f (header + f .count * f .size + length (encode to ds)) m
 
   uncarried : (k : ℕ) → FirstUncarried from to (items ds) 0 k → converted (recodedPlan from to header s f) m ≡ Refused (Value (f .end + k))
-  uncarried k u = ap (λ (p : Plan). converted p m) (sym (plan-cases.recoded-not from to header s f k (uncarried-exactly from to ds (tailOf s f) o e k .1 u)))
+  uncarried k u = ap (λ (p : Plan). converted p m) (let t = uncarried-place from to ds (tailOf s f) o e k .1 u in sym (plan-cases.recoded-not from to header s f k (t .0) (t .1)))
 
   -- VALUE is given exactly at the first value that the coding can't carry
   value-at : (k : ℕ) → (converted (recodedPlan from to header s f) m ≡ Refused (Value (f .end + k))) ↔ FirstUncarried from to (items ds) 0 k
@@ -168,8 +168,8 @@ module _ (from to : Coding) (header : ℕ) (s : List ℕ) (f : Font) (ds : List 
       go (Length t) p q =
           let r = length-exactly from to ds (tailOf s f) o e t .0 p in
           absurd (no-value (header + f .count * f .size + length (encode to ds)) m (f .end + k) (sym (carried (r .0)) ∙ q))
-      go (Uncarried j) p q =
-          let u = uncarried-exactly from to ds (tailOf s f) o e j .0 p in
+      go (Uncarried j g) p q =
+          let u = uncarried-place from to ds (tailOf s f) o e j .0 (g, p) in
           let z : f .end + j ≡ f .end + k = ap placed-at (sym (uncarried j u) ∙ q) in
           let w : j ≡ k = omega arith in
           subst (FirstUncarried from to (items ds) 0) w u

@@ -36,8 +36,8 @@ tail-known s f y e = go (f .table) (accepted s f e .1)
   where
     told : (a : TableAnswer) → tableOf (codingOf (f .kind)) (f .count) (tailOf s f) ≡ a → answered f a ≡ Sound f → IsTable (codingOf (f .kind)) (f .count) (tailOf s f)
     told Complete q e = complete-exactly (codingOf (f .kind)) (f .count) (tailOf s f) (bytes-drop (f .end) s y) .0 q
-    told (Cut k) q e = absurd (never _ f e)
-    told (Bad k) q e = absurd (never _ f e)
+    told (Cut k g) q e = absurd (never _ f e)
+    told (Bad k g) q e = absurd (never _ f e)
     told (Over k) q e = absurd (never _ f e)
 
     bare : (t : Bool) → ltb (f .end) (length s) ≡ t → when t (Refused (Trailing (f .end))) (Sound f) ≡ Sound f → tailOf s f ≡ []

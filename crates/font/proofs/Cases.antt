@@ -62,8 +62,8 @@ body-same s f g e = go (f .table) e
   where
     told : (a : TableAnswer) → answered f a ≡ Sound g → f ≡ g
     told Complete e = cc
-    told (Cut k) e = absurd (never _ g e)
-    told (Bad k) e = absurd (never _ g e)
+    told (Cut k h) e = absurd (never _ g e)
+    told (Bad k h) e = absurd (never _ g e)
     told (Over k) e = absurd (never _ g e)
 
     over : (t : Bool) → when t (Refused (Trailing (f .end))) (Sound f) ≡ Sound g → f ≡ g

@@ -33,8 +33,8 @@ tailOf s f = drop (f .end) s
 -- a table's answer, its place an offset in the file
 abbrev pub answered : Font → TableAnswer → Checked
 answered f Complete = Sound f
-answered f (Cut k) = Refused (TableCut (f .end + k))
-answered f (Bad k) = Refused (TableBad (f .end + k))
+answered f (Cut k g) = Refused (TableCut (f .end + k))
+answered f (Bad k g) = Refused (TableBad (f .end + k))
 answered f (Over k) = Refused (Trailing (f .end + k))
 
 -- "bytes after the bitmaps of a font without" a table

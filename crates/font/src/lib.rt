@@ -32,8 +32,8 @@ fn check_tail(file: &[u8], f: Font) -> Checked
     let a = table::check_table(c, &file[end..], f.count);
     match a {
         TableAnswer::Complete => Checked::Sound(f),
-        TableAnswer::Cut(k) => Checked::Refused(Refusal::TableCut(end + k)),
-        TableAnswer::Bad(k) => Checked::Refused(Refusal::TableBad(end + k)),
+        TableAnswer::Cut(k, _) => Checked::Refused(Refusal::TableCut(end + k)),
+        TableAnswer::Bad(k, _) => Checked::Refused(Refusal::TableBad(end + k)),
         TableAnswer::Trailing(k) => Checked::Refused(Refusal::Trailing(end + k)),
     }
 }

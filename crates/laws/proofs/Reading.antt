@@ -45,26 +45,26 @@ use Rattle.fonts.specs.Questions.{asked, fontItems, walked, itemOn, itemOf, fou
 -- each answer of a whole check comes from one answer of the table
 is-complete : (f : Font) (a : TableAnswer) → answered f a ≡ Sound f → a ≡ Complete
 is-complete f Complete e = refl
-is-complete f (Cut k) e = let z : _≡_ {A = ℕ} 0 1 = cc in absurd (omega arith)
-is-complete f (Bad k) e = let z : _≡_ {A = ℕ} 0 1 = cc in absurd (omega arith)
+is-complete f (Cut k g) e = let z : _≡_ {A = ℕ} 0 1 = cc in absurd (omega arith)
+is-complete f (Bad k g) e = let z : _≡_ {A = ℕ} 0 1 = cc in absurd (omega arith)
 is-complete f (Over k) e = let z : _≡_ {A = ℕ} 0 1 = cc in absurd (omega arith)
 
-is-cut : (f : Font) (a : TableAnswer) (p : ℕ) → answered f a ≡ Refused (TableCut p) → (k : ℕ) × (a ≡ Cut k) × (p ≡ f .end + k)
+is-cut : (f : Font) (a : TableAnswer) (p : ℕ) → answered f a ≡ Refused (TableCut p) → (k : ℕ) × ((g : ℕ) × (a ≡ Cut k g)) × (p ≡ f .end + k)
 is-cut f Complete p e = let z : _≡_ {A = ℕ} 0 1 = cc in absurd (omega arith)
-is-cut f (Cut k) p e = let h : f .end + k ≡ p = cc in (k, refl, sym h)
-is-cut f (Bad k) p e = let z : _≡_ {A = ℕ} 0 1 = cc in absurd (omega arith)
+is-cut f (Cut k g) p e = let h : f .end + k ≡ p = cc in (k, (g, refl), sym h)
+is-cut f (Bad k g) p e = let z : _≡_ {A = ℕ} 0 1 = cc in absurd (omega arith)
 is-cut f (Over k) p e = let z : _≡_ {A = ℕ} 0 1 = cc in absurd (omega arith)
 
-is-bad : (f : Font) (a : TableAnswer) (p : ℕ) → answered f a ≡ Refused (TableBad p) → (k : ℕ) × (a ≡ Bad k) × (p ≡ f .end + k)
+is-bad : (f : Font) (a : TableAnswer) (p : ℕ) → answered f a ≡ Refused (TableBad p) → (k : ℕ) × ((g : ℕ) × (a ≡ Bad k g)) × (p ≡ f .end + k)
 is-bad f Complete p e = let z : _≡_ {A = ℕ} 0 1 = cc in absurd (omega arith)
-is-bad f (Cut k) p e = let z : _≡_ {A = ℕ} 0 1 = cc in absurd (omega arith)
-is-bad f (Bad k) p e = let h : f .end + k ≡ p = cc in (k, refl, sym h)
+is-bad f (Cut k g) p e = let z : _≡_ {A = ℕ} 0 1 = cc in absurd (omega arith)
+is-bad f (Bad k g) p e = let h : f .end + k ≡ p = cc in (k, (g, refl), sym h)
 is-bad f (Over k) p e = let z : _≡_ {A = ℕ} 0 1 = cc in absurd (omega arith)
 
 is-over : (f : Font) (a : TableAnswer) (p : ℕ) → answered f a ≡ Refused (Trailing p) → (k : ℕ) × (a ≡ Over k) × (p ≡ f .end + k)
 is-over f Complete p e = let z : _≡_ {A = ℕ} 0 1 = cc in absurd (omega arith)
-is-over f (Cut k) p e = let z : _≡_ {A = ℕ} 0 1 = cc in absurd (omega arith)
-is-over f (Bad k) p e = let z : _≡_ {A = ℕ} 0 1 = cc in absurd (omega arith)
+is-over f (Cut k g) p e = let z : _≡_ {A = ℕ} 0 1 = cc in absurd (omega arith)
+is-over f (Bad k g) p e = let z : _≡_ {A = ℕ} 0 1 = cc in absurd (omega arith)
 is-over f (Over k) p e = let h : f .end + k ≡ p = cc in (k, refl, sym h)
 
 -- each answer of a question comes from one answer of the tail's walk
@@ -111,14 +111,14 @@ module _ (s : List ℕ) (y : Bytes s) (f : Font) (passed : headerOf s ≡ Sound 
           (p ≡ length s) × Completable (codingOf (f .kind)) (f .count) (tailOf s f) × (IsTable (codingOf (f .kind)) (f .count) (tailOf s f) → ⊥)
       there e =
           let a = is-cut f _ p (sym checked ∙ e) in
-          let h = meaning.cut-exactly (codingOf (f .kind)) (f .count) (tailOf s f) (a .0) t-bytes .0 (a .1) in
+          let h = meaning.cut-place (codingOf (f .kind)) (f .count) (tailOf s f) (a .0) t-bytes .0 (a .1) in
           (omega (arith, a .2, h .0, where-it-ends), h .1, h .2)
 
       back : (p ≡ length s) × Completable (codingOf (f .kind)) (f .count) (tailOf s f) × (IsTable (codingOf (f .kind)) (f .count) (tailOf s f) → ⊥) →
           checkOf s ≡ Refused (TableCut p)
       back h =
-          let e = meaning.cut-exactly (codingOf (f .kind)) (f .count) (tailOf s f) (length (tailOf s f)) t-bytes .1 (refl, h .1, h .2) in
-          checked ∙ ap (answered f) e ∙ ap (λ (x : ℕ). Refused (TableCut x)) (where-it-ends ∙ sym (h .0))
+          let e = meaning.cut-place (codingOf (f .kind)) (f .count) (tailOf s f) (length (tailOf s f)) t-bytes .1 (refl, h .1, h .2) in
+          checked ∙ ap (answered f) (e .1) ∙ ap (λ (x : ℕ). Refused (TableCut x)) (where-it-ends ∙ sym (h .0))
 
   pub bad-exactly : (p : ℕ) →
       (checkOf s ≡ Refused (TableBad p)) ↔
@@ -131,13 +131,13 @@ module _ (s : List ℕ) (y : Bytes s) (f : Font) (passed : headerOf s ≡ Sound 
           × (IsTable (codingOf (f .kind)) (f .count) (take k (tailOf s f)) → ⊥)
       there e =
           let a = is-bad f _ p (sym checked ∙ e) in
-          let h = meaning.bad-exactly (codingOf (f .kind)) (f .count) (tailOf s f) (a .0) t-bytes .0 (a .1) in
+          let h = meaning.bad-place (codingOf (f .kind)) (f .count) (tailOf s f) (a .0) t-bytes .0 (a .1) in
           (a .0, a .2, h .0, h .1, h .2)
 
       back : (k : ℕ) × (p ≡ f .end + k) × LongestStart (codingOf (f .kind)) (f .count) (tailOf s f) k × (k < length (tailOf s f))
           × (IsTable (codingOf (f .kind)) (f .count) (take k (tailOf s f)) → ⊥) → checkOf s ≡ Refused (TableBad p)
       back (k, q, l, h, n) =
-          checked ∙ ap (answered f) (meaning.bad-exactly (codingOf (f .kind)) (f .count) (tailOf s f) k t-bytes .1 (l, h, n)) ∙ ap (λ (x : ℕ). Refused (TableBad x)) (sym q)
+          checked ∙ ap (answered f) (meaning.bad-place (codingOf (f .kind)) (f .count) (tailOf s f) k t-bytes .1 (l, h, n) .1) ∙ ap (λ (x : ℕ). Refused (TableBad x)) (sym q)
 
   pub trailing-exactly : (p : ℕ) →
       (checkOf s ≡ Refused (Trailing p)) ↔
@@ -176,10 +176,10 @@ module _ (s : List ℕ) (y : Bytes s) (f : Font) (passed : headerOf s ≡ Sound 
       go : (a : TableAnswer) → tableOf (codingOf (f .kind)) (f .count) (tailOf s f) ≡ a → answered f a ≡ Refused r →
           (k : ℕ) × (placeOf r ≡ f .end + k) × LongestStart (codingOf (f .kind)) (f .count) (tailOf s f) k
       go Complete q e = let z : _≡_ {A = ℕ} 0 1 = cc in absurd (omega arith)
-      go (Cut k) q e =
-          let h = meaning.cut-exactly (codingOf (f .kind)) (f .count) (tailOf s f) k t-bytes .0 q in
+      go (Cut k g) q e =
+          let h = meaning.cut-place (codingOf (f .kind)) (f .count) (tailOf s f) k t-bytes .0 (g, q) in
           (length (tailOf s f), moved _ e ∙ ap (λ (x : ℕ). f .end + x) (h .0), whole-start (h .1))
-      go (Bad k) q e = (k, moved _ e, meaning.bad-exactly (codingOf (f .kind)) (f .count) (tailOf s f) k t-bytes .0 q .0)
+      go (Bad k g) q e = (k, moved _ e, meaning.bad-place (codingOf (f .kind)) (f .count) (tailOf s f) k t-bytes .0 (g, q) .0)
       go (Over k) q e = (k, moved _ e, meaning.trailing-exactly (codingOf (f .kind)) (f .count) (tailOf s f) k t-bytes .0 q .0)
 
   module _ (r : IsTable (codingOf (f .kind)) (f .count) (tailOf s f)) where
@@ -204,12 +204,12 @@ module _ (s : List ℕ) (y : Bytes s) (f : Font) (passed : headerOf s ≡ Sound 
     unfolding valueGlyph when
     looks v h = rw (sound, marked, le-ltb 0x10FFFF v h)
 
-    pub value-exactly : (v g : ℕ) → v ≤ 0x10FFFF → (valueGlyph s v ≡ Glyph g) ↔ Lowest (ListsValue v) (r .reading) g
+    pub value-exactly : (v g : ℕ) → v ≤ 0x10FFFF → (valueGlyph s v ≡ Glyph g) ↔ Lowest (ListsValue v) 0 (r .reading) g
     value-exactly v g h =
         let m = looked.value-exactly (codingOf (f .kind)) (r .reading) (tailOf s f) (r .values) (r .same) v g in
         (λ e. m .0 (is-found _ g (sym (looks v h) ∙ e)), λ l. looks v h ∙ ap found (m .1 l))
 
-    pub value-unmapped-exactly : (v : ℕ) → v ≤ 0x10FFFF → (valueGlyph s v ≡ NoLookup Unmapped) ↔ Nowhere (ListsValue v) (r .reading)
+    pub value-unmapped-exactly : (v : ℕ) → v ≤ 0x10FFFF → (valueGlyph s v ≡ NoLookup Unmapped) ↔ Nowhere (ListsValue v) 0 (r .reading)
     value-unmapped-exactly v h =
         let m = looked.no-value-exactly (codingOf (f .kind)) (r .reading) (tailOf s f) (r .values) (r .same) v in
         (λ e. m .0 (is-unmapped _ (sym (looks v h) ∙ e)), λ l. looks v h ∙ ap found (m .1 l))
@@ -218,12 +218,12 @@ module _ (s : List ℕ) (y : Bytes s) (f : Font) (passed : headerOf s ≡ Sound 
     unfolding sequenceGlyph when
     seeks vs h = rw (sound, marked, h)
 
-    pub sequence-exactly : (vs : List ℕ) (g : ℕ) → askable vs ≡ true → (sequenceGlyph s vs ≡ Glyph g) ↔ Lowest (ListsSequence vs) (r .reading) g
+    pub sequence-exactly : (vs : List ℕ) (g : ℕ) → askable vs ≡ true → (sequenceGlyph s vs ≡ Glyph g) ↔ Lowest (ListsSequence vs) 0 (r .reading) g
     sequence-exactly vs g h =
         let m = looked.sequence-exactly (codingOf (f .kind)) (r .reading) (tailOf s f) (r .values) (r .same) vs g in
         (λ e. m .0 (is-found _ g (sym (seeks vs h) ∙ e)), λ l. seeks vs h ∙ ap found (m .1 l))
 
-    pub sequence-unmapped-exactly : (vs : List ℕ) → askable vs ≡ true → (sequenceGlyph s vs ≡ NoLookup Unmapped) ↔ Nowhere (ListsSequence vs) (r .reading)
+    pub sequence-unmapped-exactly : (vs : List ℕ) → askable vs ≡ true → (sequenceGlyph s vs ≡ NoLookup Unmapped) ↔ Nowhere (ListsSequence vs) 0 (r .reading)
     sequence-unmapped-exactly vs h =
         let m = looked.no-sequence-exactly (codingOf (f .kind)) (r .reading) (tailOf s f) (r .values) (r .same) vs in
         (λ e. m .0 (is-unmapped _ (sym (seeks vs h) ∙ e)), λ l. seeks vs h ∙ ap found (m .1 l))

@@ -141,12 +141,12 @@ module _ (s : List ℕ) (y : Bytes s) (f : Font) (passed : headerOf s ≡ Sound 
           passed-by _ _ _ _ (not-cut _ q (λ p g. sound-cut f p g))
           (passed-at _ _ _ _ (λ p h. sound-bad f p (sym q ∙ bad-exactly s y f passed t p .1 h))
           (passed-at _ _ _ _ (λ p h. sound-trailing f p (sym q ∙ trailing-exactly s y f passed t p .1 h)) q))
-      go (Cut k) e =
-          let q = told (Cut k) e in
+      go (Cut k g) e =
+          let q = told (Cut k g) e in
           let h = cut-exactly s y f passed t (f .end + k) .0 q in
           given _ _ _ _ (h .1, h .2) (q ∙ ap (λ (x : ℕ). Refused (TableCut x)) (h .0))
-      go (BadAt k) e =
-          let q = told (BadAt k) e in
+      go (BadAt k g) e =
+          let q = told (BadAt k g) e in
           passed-by _ _ _ _ (not-cut _ q (λ p g. bad-cut (f .end + k) p g))
           (given-at _ _ _ _ (f .end + k) (bad-exactly s y f passed t (f .end + k) .0 q) q)
       go (Over k) e =

@@ -70,16 +70,16 @@ module _ (s : List ℕ) (y : Bytes s) (f : Font) (passed : headerOf s ≡ Sound 
     walk-ask-exactly = inner.walk-ask-exactly s y f passed marked r
 
     -- (d) a lookup gives the lowest glyph that the reading lists for the value
-    pub value-exactly : (v g : ℕ) → v ≤ 0x10FFFF → (valueGlyph s v ≡ Glyph g) ↔ Lowest (ListsValue v) (r .reading) g
+    pub value-exactly : (v g : ℕ) → v ≤ 0x10FFFF → (valueGlyph s v ≡ Glyph g) ↔ Lowest (ListsValue v) 0 (r .reading) g
     value-exactly = inner.value-exactly s y f passed marked r
 
     -- and says unmapped exactly when it lists none
-    pub value-unmapped-exactly : (v : ℕ) → v ≤ 0x10FFFF → (valueGlyph s v ≡ NoLookup Unmapped) ↔ Nowhere (ListsValue v) (r .reading)
+    pub value-unmapped-exactly : (v : ℕ) → v ≤ 0x10FFFF → (valueGlyph s v ≡ NoLookup Unmapped) ↔ Nowhere (ListsValue v) 0 (r .reading)
     value-unmapped-exactly = inner.value-unmapped-exactly s y f passed marked r
 
     -- the same for a sequence that is not empty and has no value above 10FFFF
-    pub sequence-exactly : (vs : List ℕ) (g : ℕ) → askable vs ≡ true → (sequenceGlyph s vs ≡ Glyph g) ↔ Lowest (ListsSequence vs) (r .reading) g
+    pub sequence-exactly : (vs : List ℕ) (g : ℕ) → askable vs ≡ true → (sequenceGlyph s vs ≡ Glyph g) ↔ Lowest (ListsSequence vs) 0 (r .reading) g
     sequence-exactly = inner.sequence-exactly s y f passed marked r
 
-    pub sequence-unmapped-exactly : (vs : List ℕ) → askable vs ≡ true → (sequenceGlyph s vs ≡ NoLookup Unmapped) ↔ Nowhere (ListsSequence vs) (r .reading)
+    pub sequence-unmapped-exactly : (vs : List ℕ) → askable vs ≡ true → (sequenceGlyph s vs ≡ NoLookup Unmapped) ↔ Nowhere (ListsSequence vs) 0 (r .reading)
     sequence-unmapped-exactly = inner.sequence-unmapped-exactly s y f passed marked r

@@ -30,19 +30,19 @@ module _ (c : Coding) (ds : List Desc) (s : List ℕ) (o : Readable c ds) (e : s
   no-item-exactly g k = (λ q. none-item ds g k (sym (ap (itemAt g k) its-items) ∙ q), λ f. ap (itemAt g k) its-items ∙ item-none ds g k f)
 
   -- a value is found exactly at the lowest glyph that lists it as a single
-  pub value-exactly : (v g : ℕ) → (findValue v 0 (itemsIn c s) ≡ At g) ↔ Lowest (ListsValue v) ds g
+  pub value-exactly : (v g : ℕ) → (findValue v 0 (itemsIn c s) ≡ At g) ↔ Lowest (ListsValue v) 0 ds g
   value-exactly v g = at-exactly (hasValue v) (ListsValue v) (value-yes v) (value-no v) ds _ (ap (findValue v 0) its-items ∙ find-value v 0 ds) g
 
   -- and nowhere exactly when no glyph does
-  pub no-value-exactly : (v : ℕ) → (findValue v 0 (itemsIn c s) ≡ Nothing) ↔ Nowhere (ListsValue v) ds
+  pub no-value-exactly : (v : ℕ) → (findValue v 0 (itemsIn c s) ≡ Nothing) ↔ Nowhere (ListsValue v) 0 ds
   no-value-exactly v = none-exactly (hasValue v) (ListsValue v) (value-yes v) (value-no v) ds _ (ap (findValue v 0) its-items ∙ find-value v 0 ds)
 
   -- a sequence is found exactly at the lowest glyph that lists it
-  pub sequence-exactly : (vs : List ℕ) (g : ℕ) → (findSequence vs (itemsIn c s) ≡ At g) ↔ Lowest (ListsSequence vs) ds g
+  pub sequence-exactly : (vs : List ℕ) (g : ℕ) → (findSequence vs (itemsIn c s) ≡ At g) ↔ Lowest (ListsSequence vs) 0 ds g
   sequence-exactly vs g =
       at-exactly (hasSequence vs) (ListsSequence vs) (sequence-yes vs) (sequence-no vs) ds _ (ap (findSequence vs) its-items ∙ find-sequence vs 0 vs ds) g
 
   -- and nowhere exactly when no glyph does
-  pub no-sequence-exactly : (vs : List ℕ) → (findSequence vs (itemsIn c s) ≡ Nothing) ↔ Nowhere (ListsSequence vs) ds
+  pub no-sequence-exactly : (vs : List ℕ) → (findSequence vs (itemsIn c s) ≡ Nothing) ↔ Nowhere (ListsSequence vs) 0 ds
   no-sequence-exactly vs =
       none-exactly (hasSequence vs) (ListsSequence vs) (sequence-yes vs) (sequence-no vs) ds _ (ap (findSequence vs) its-items ∙ find-sequence vs 0 vs ds)

@@ -3,7 +3,7 @@ use mathlib.Core.Path.{_≡_, refl, sym, _∙_, ap, subst}
 use mathlib.Core.Bool.{Bool, true, false}
 use mathlib.Core.Logic.{_⊎_, inl, inr}
 use mathlib.Core.List.{List, [], _∷_}
-use Prim.Native.Nat.{ℕ, zero, suc, _+_, _<_}
+use Prim.Native.Nat.{ℕ, zero, suc, _+_, _≤_, _<_}
 use native.Mathlib.Omega.{arith}
 use lib.ListN.{length}
 use Rattle.base.specs.Choice.{pick}
@@ -56,38 +56,38 @@ module _ (t : Desc → Bool) (P : Desc → Type 0) (yes : (d : Desc) → t d ≡
   record Below (ds : List Desc) (h j : ℕ) : Type 0 where
     glyph : ℕ
     place : j ≡ h + glyph
-    low : Lowest P ds glyph
+    low : Lowest P 0 ds glyph
 
   at-below : (ds : List Desc) (h j : ℕ) → lowest t h ds ≡ At j → Below ds h j
   at-below [] h j e = no-at j e
   at-below (d ∷ ds) h j e = go (t d) refl e (at-below ds (h + 1) j)
     where
-      further : (t d ≡ false) → (g : ℕ) → Lowest P ds g → (i : ℕ) (f : Desc) → i < suc g → Nth i (d ∷ ds) f → P f → ⊥
-      further p g l zero f k n q = no d p (subst P (sym n) q)
-      further p g l (suc i) f k n q = l .lower i f (omega arith) n q
+      further : (t d ≡ false) → (g : ℕ) → Lowest P 0 ds g → (i : ℕ) (f : Desc) → 0 ≤ i → i < suc g → Nth i (d ∷ ds) f → P f → ⊥
+      further p g l zero f z k n q = no d p (subst P (sym n) q)
+      further p g l (suc i) f z k n q = l .lower i f (omega arith) (omega arith) n q
 
       go : (b : Bool) → t d ≡ b → pick b (At h) (lowest t (h + 1) ds) ≡ At j → (lowest t (h + 1) ds ≡ At j → Below ds (h + 1) j) → Below (d ∷ ds) h j
       go true p f ih =
           let q : h ≡ j = cc in
-          record { glyph = 0; place = omega arith; low = record { description = d; here = refl; lists = yes d p; lower = λ i f k n q. absurd (omega arith) } }
+          record { glyph = 0; place = omega arith; low = record { description = d; seen = omega arith; here = refl; lists = yes d p; lower = λ i f z k n q. absurd (omega arith) } }
       go false p f ih =
           let r = ih f in
           record {
             glyph = suc (r .glyph);
             place = omega (arith, r .place);
-            low = record { description = r .low .description; here = r .low .here; lists = r .low .lists; lower = further p (r .glyph) (r .low) };
+            low = record { description = r .low .description; seen = omega arith; here = r .low .here; lists = r .low .lists; lower = further p (r .glyph) (r .low) };
           }
 
-  none-nowhere : (ds : List Desc) (h : ℕ) → lowest t h ds ≡ Nothing → Nowhere P ds
-  none-nowhere [] h e = λ g d n p. n
+  none-nowhere : (ds : List Desc) (h : ℕ) → lowest t h ds ≡ Nothing → Nowhere P 0 ds
+  none-nowhere [] h e = λ g d z n p. n
   none-nowhere (d ∷ ds) h e = go (t d) refl e (none-nowhere ds (h + 1))
     where
-      go : (b : Bool) → t d ≡ b → pick b (At h) (lowest t (h + 1) ds) ≡ Nothing → (lowest t (h + 1) ds ≡ Nothing → Nowhere P ds) → Nowhere P (d ∷ ds)
-      go true q f ih g d' n p = no-at h (sym f)
-      go false q f ih zero d' n p = no d q (subst P (sym n) p)
-      go false q f ih (suc g) d' n p = ih f g d' n p
+      go : (b : Bool) → t d ≡ b → pick b (At h) (lowest t (h + 1) ds) ≡ Nothing → (lowest t (h + 1) ds ≡ Nothing → Nowhere P 0 ds) → Nowhere P 0 (d ∷ ds)
+      go true q f ih g d' z n p = no-at h (sym f)
+      go false q f ih zero d' z n p = no d q (subst P (sym n) p)
+      go false q f ih (suc g) d' z n p = ih f g d' (omega arith) n p
 
-  below-at : (ds : List Desc) (h g : ℕ) → Lowest P ds g → lowest t h ds ≡ At (h + g)
+  below-at : (ds : List Desc) (h g : ℕ) → Lowest P 0 ds g → lowest t h ds ≡ At (h + g)
   below-at [] h g l = absurd (l .here)
   below-at (d ∷ ds) h zero l = go (t d) refl
     where
@@ -96,26 +96,26 @@ module _ (t : Desc → Bool) (P : Desc → Type 0) (yes : (d : Desc) → t d ≡
       go false p = absurd (no d p (subst P (sym (l .here)) (l .lists)))
   below-at (d ∷ ds) h (suc g) l = go (t d) refl (below-at ds (h + 1) g)
     where
-      go : (b : Bool) → t d ≡ b → (Lowest P ds g → lowest t (h + 1) ds ≡ At (h + 1 + g)) → pick b (At h) (lowest t (h + 1) ds) ≡ At (h + suc g)
-      go true p ih = absurd (l .lower 0 d (omega arith) refl (yes d p))
+      go : (b : Bool) → t d ≡ b → (Lowest P 0 ds g → lowest t (h + 1) ds ≡ At (h + 1 + g)) → pick b (At h) (lowest t (h + 1) ds) ≡ At (h + suc g)
+      go true p ih = absurd (l .lower 0 d (omega arith) (omega arith) refl (yes d p))
       go false p ih =
           let e : h + 1 + g ≡ h + suc g = omega arith in
-          ih (record { description = l .description; here = l .here; lists = l .lists; lower = λ i f k n q. l .lower (suc i) f (omega arith) n q }) ∙ ap At e
+          ih (record { description = l .description; seen = omega arith; here = l .here; lists = l .lists; lower = λ i f z k n q. l .lower (suc i) f (omega arith) (omega arith) n q }) ∙ ap At e
 
-  nowhere-none : (ds : List Desc) (h : ℕ) → Nowhere P ds → lowest t h ds ≡ Nothing
+  nowhere-none : (ds : List Desc) (h : ℕ) → Nowhere P 0 ds → lowest t h ds ≡ Nothing
   nowhere-none [] h f = refl
-  nowhere-none (d ∷ ds) h f = go (t d) refl (nowhere-none ds (h + 1) (λ g d' n q. f (suc g) d' n q))
+  nowhere-none (d ∷ ds) h f = go (t d) refl (nowhere-none ds (h + 1) (λ g d' z n q. f (suc g) d' (omega arith) n q))
     where
       go : (b : Bool) → t d ≡ b → lowest t (h + 1) ds ≡ Nothing → pick b (At h) (lowest t (h + 1) ds) ≡ Nothing
-      go true p ih = absurd (f 0 d refl (yes d p))
+      go true p ih = absurd (f 0 d (omega arith) refl (yes d p))
       go false p ih = ih
 
   module _ (ds : List Desc) (r : Found) (e : r ≡ lowest t 0 ds) where
-    pub at-exactly : (g : ℕ) → (r ≡ At g → Lowest P ds g) × (Lowest P ds g → r ≡ At g)
+    pub at-exactly : (g : ℕ) → (r ≡ At g → Lowest P 0 ds g) × (Lowest P 0 ds g → r ≡ At g)
     at-exactly g = (
-      λ q. let w = at-below ds 0 g (sym e ∙ q) in let z : w .glyph ≡ g = omega (arith, w .place) in subst (Lowest P ds) z (w .low),
+      λ q. let w = at-below ds 0 g (sym e ∙ q) in let z : w .glyph ≡ g = omega (arith, w .place) in subst (Lowest P 0 ds) z (w .low),
       λ l. let z : 0 + g ≡ g = omega arith in e ∙ below-at ds 0 g l ∙ ap At z,
     )
 
-    pub none-exactly : (r ≡ Nothing → Nowhere P ds) × (Nowhere P ds → r ≡ Nothing)
+    pub none-exactly : (r ≡ Nothing → Nowhere P 0 ds) × (Nowhere P 0 ds → r ≡ Nothing)
     none-exactly = (λ q. none-nowhere ds 0 (sym e ∙ q), λ f. e ∙ nowhere-none ds 0 f)

@@ -2,7 +2,7 @@
 use mathlib.Core.Path.{_≡_}
 use mathlib.Core.Logic.{_⊎_}
 use mathlib.Core.List.{List, [], _∷_}
-use Prim.Native.Nat.{ℕ, zero, suc, _<_}
+use Prim.Native.Nat.{ℕ, zero, suc, _≤_, _<_}
 use Rattle.table.specs.declared.Item.{Item}
 use Rattle.table.specs.Grammar.{Seq, Desc, itemsOf}
 
@@ -25,16 +25,17 @@ ListsValue v d = Any (λ (w : ℕ). w ≡ v) (d .singles)
 abbrev pub ListsSequence : List ℕ → Desc → Type 0
 ListsSequence vs d = Any (λ (q : Seq). q .first ∷ q .others ≡ vs) (d .sequences)
 
--- glyph g is described with P, and no lower glyph is
-pub record Lowest (P : Desc → Type 0) (ds : List Desc) (g : ℕ) : Type 0 where
+-- the lowest glyph from a number on; a lookup over all glyphs is from 0: glyph g is described with P, and no lower glyph from there on is
+pub record Lowest (P : Desc → Type 0) (from : ℕ) (ds : List Desc) (g : ℕ) : Type 0 where
   pub description : Desc
+  pub seen : from ≤ g
   pub here : Nth g ds description
   pub lists : P description
-  pub lower : (j : ℕ) (d : Desc) → j < g → Nth j ds d → P d → ⊥
+  pub lower : (j : ℕ) (d : Desc) → from ≤ j → j < g → Nth j ds d → P d → ⊥
 
--- no glyph is described with P
-abbrev pub Nowhere : (Desc → Type 0) → List Desc → Type 0
-Nowhere P ds = (g : ℕ) (d : Desc) → Nth g ds d → P d → ⊥
+-- no glyph from a number on is described with P
+abbrev pub Nowhere : (Desc → Type 0) → ℕ → List Desc → Type 0
+Nowhere P from ds = (g : ℕ) (d : Desc) → from ≤ g → Nth g ds d → P d → ⊥
 
 -- item k of glyph g is i
 pub record ItemIs (ds : List Desc) (g k : ℕ) (i : Item) : Type 0 where

@@ -75,9 +75,9 @@ module _ (from to : Coding) (header : ℕ) (s : List ℕ) (f : Font) where
   unfolding recodedPlan
   recoded-length t e = rw e
 
-  pub recoded-not : (k : ℕ) → tableLen from to (tailOf s f) ≡ Uncarried k → Stop (Value (f .end + k)) ≡ recodedPlan from to header s f
+  pub recoded-not : (k g : ℕ) → tableLen from to (tailOf s f) ≡ Uncarried k g → Stop (Value (f .end + k)) ≡ recodedPlan from to header s f
   unfolding recodedPlan
-  recoded-not k e = rw e
+  recoded-not k g e = rw e
 
 -- GLYPHS, for PSF1
 pub count-256 : (n : ℕ) → n ≡ 256 → true ≡ isPsf1Count n

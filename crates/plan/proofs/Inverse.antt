@@ -91,7 +91,7 @@ recoded-ready from to header s f n g e = go (tableLen from to (tailOf s g)) refl
         let l = length-recoded from to (tailOf s g) t q in
         let w = fitted g f (header + g .count * g .size + t) n e in
         (w .0, (q ∙ ap Length l, omega (arith, w .1, l), w .2))
-    go (Uncarried k) q e = no-stop _ f n e
+    go (Uncarried k h) q e = no-stop _ f n e
 
 pub psf1-to-psf2-ready : (s : List ℕ) (f : Font) (n : ℕ) → psf1ToPsf2Plan s ≡ Ready f n → (checkOf s ≡ Sound f) × (f .kind ≡ Psf1) × Recoded Ucs2 Utf8 32 s n f
 unfolding psf1ToPsf2Plan

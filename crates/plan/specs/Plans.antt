@@ -66,7 +66,7 @@ fitting f need = when (ltb limit need) (Stop Size) (Ready f need)
 -- 19, VALUE: "value's first byte", for an output of so many bytes before its table
 abbrev pub measuredPlan : Font → ℕ → Measured → Plan
 measuredPlan f front (Length t) = fitting f (front + t)
-measuredPlan f front (Uncarried k) = Stop (Value (f .end + k))
+measuredPlan f front (Uncarried k g) = Stop (Value (f .end + k))
 
 -- bitmaps of one size and a table in another coding, behind a header of so many bytes
 unfoldable pub recodedPlan : Coding → Coding → ℕ → List ℕ → Font → Plan

@@ -84,7 +84,7 @@ fn recode(file: &[u8], f: Font, from: Coding, to: Coding, header: usize) -> Plan
     let m = transcode::table_len(from, to, &file[end..]);
     match m {
         Measured::Length(t) => fit(f, header + f.count * f.size + t),
-        Measured::Uncarried(k) => Plan::Stop(Refusal::Value(end + k)),
+        Measured::Uncarried(k, _) => Plan::Stop(Refusal::Value(end + k)),
     }
 }
 

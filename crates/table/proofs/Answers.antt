@@ -26,7 +26,7 @@ use Rattle.table.specs.Steps.{stepOf, stepsFrom}
 use Rattle.table.specs.Check.{checkSteps}
 use Rattle.table.proofs.Accepts.{Phase, singles, opened, filled, Accepts}
 use Rattle.table.proofs.Stepping.{first, item-front}
-use Rattle.table.proofs.Moves.{isOpened, Move, single, first-value, other-value, first-start, other-start, end-singles, end-sequences, moved}
+use Rattle.table.proofs.Moves.{isOpened, ended, Move, single, first-value, other-value, first-start, other-start, end-singles, end-sequences, moved}
 
 -- as many end marks as descriptions are left
 abbrev ends : ℕ → List Item
@@ -38,9 +38,9 @@ ends-accepted zero = tt
 ends-accepted (suc n) = ends-accepted n
 
 module _ (c : Coding) where
-  -- the check of bytes that stand at a place, from a phase on
-  abbrev pub walk : ℕ → Phase → ℕ → List ℕ → TableAnswer
-  walk n p at s = checkSteps (at + length s) n (isOpened p) at (stepsFrom c at 0 s)
+  -- the check of bytes that stand at a place, from a phase on, with g descriptions complete and n still to end
+  abbrev pub walk : ℕ → ℕ → Phase → ℕ → List ℕ → TableAnswer
+  walk g n p at s = checkSteps (at + length s) g n (isOpened p) at (stepsFrom c at 0 s)
 
   -- the items that bytes are, from a phase on
   pub record Read (n : ℕ) (p : Phase) (s : List ℕ) : Type 0 where
@@ -55,21 +55,21 @@ module _ (c : Coding) where
     pub read : Read n p (s ++ more)
 
   -- the check stops at a place with an answer, whatever follows: the start before it is Q, with one byte more it is not
-  pub record Stops (n : ℕ) (p : Phase) (at : ℕ) (s : List ℕ) (a : TableAnswer) (j : ℕ) (Q : List ℕ → Type 0) : Type 0 where
+  pub record Stops (g n : ℕ) (p : Phase) (at : ℕ) (s : List ℕ) (a : TableAnswer) (j : ℕ) (Q : List ℕ → Type 0) : Type 0 where
     pub good : ℕ
     pub place : j ≡ at + good
     pub within : good < length s
     pub start : Q (take good s)
-    pub never : (y : List ℕ) → walk n p at (take (suc good) s ++ y) ≡ a
+    pub never : (y : List ℕ) → walk g n p at (take (suc good) s ++ y) ≡ a
 
-  abbrev pub Says : ℕ → Phase → ℕ → List ℕ → TableAnswer → Type 0
-  Says n p at s Complete = Read n p s
-  Says n p at s (TableCut j) = (j ≡ at + length s) × More n p s
-  Says n p at s (TableBad j) = Stops n p at s (TableBad j) j (More n p)
-  Says n p at s (Trailing j) = Stops n p at s (Trailing j) j (Read n p)
+  abbrev pub Says : ℕ → ℕ → Phase → ℕ → List ℕ → TableAnswer → Type 0
+  Says g n p at s Complete = Read n p s
+  Says g n p at s (TableCut j h) = (j ≡ at + length s) × More n p s
+  Says g n p at s (TableBad j h) = Stops g n p at s (TableBad j h) j (More n p)
+  Says g n p at s (Trailing j) = Stops g n p at s (Trailing j) j (Read n p)
 
-  abbrev pub Told : ℕ → Phase → ℕ → List ℕ → Type 0
-  Told n p at s = Says n p at s (walk n p at s)
+  abbrev pub Told : ℕ → ℕ → Phase → ℕ → List ℕ → Type 0
+  Told g n p at s = Says g n p at s (walk g n p at s)
 
   heads : (i : Item) (is : List Item) → OfCoding c (i ∷ []) → OfCoding c is → OfCoding c (i ∷ is)
   heads (Single v) is o q = (o .0, q)
@@ -83,12 +83,12 @@ module _ (c : Coding) where
 
   -- an item in front
   module _ (n : ℕ) (p : Phase) (n' : ℕ) (p' : Phase) (i : Item) (m : Move c n p n' p' i) where
-    on : (at : ℕ) (y : List ℕ) → walk n p at (itemBytes c i ++ y) ≡ walk n' p' (at + length (itemBytes c i)) y
-    on at y =
+    on : (g at : ℕ) (y : List ℕ) → walk g n p at (itemBytes c i ++ y) ≡ walk (ended i g) n' p' (at + length (itemBytes c i)) y
+    on g at y =
         let l : at + length (itemBytes c i ++ y) ≡ at + length (itemBytes c i) + length y = omega (arith, length-append (itemBytes c i) y) in
-        ap (checkSteps (at + length (itemBytes c i ++ y)) n (isOpened p) at) (item-front c i at y (m .of))
-        ∙ m .checked (at + length (itemBytes c i ++ y)) at (at + length (itemBytes c i)) (stepsFrom c (at + length (itemBytes c i)) 0 y)
-        ∙ ap (λ (e : ℕ). checkSteps e n' (isOpened p') (at + length (itemBytes c i)) (stepsFrom c (at + length (itemBytes c i)) 0 y)) l
+        ap (checkSteps (at + length (itemBytes c i ++ y)) g n (isOpened p) at) (item-front c i at y (m .of))
+        ∙ m .checked (at + length (itemBytes c i ++ y)) g at (at + length (itemBytes c i)) (stepsFrom c (at + length (itemBytes c i)) 0 y)
+        ∙ ap (λ (e : ℕ). checkSteps e (ended i g) n' (isOpened p') (at + length (itemBytes c i)) (stepsFrom c (at + length (itemBytes c i)) 0 y)) l
 
     read-on : (s : List ℕ) → Read n' p' s → Read n p (itemBytes c i ++ s)
     read-on s r =
@@ -97,9 +97,9 @@ module _ (c : Coding) where
     more-on : (s : List ℕ) → More n' p' s → More n p (itemBytes c i ++ s)
     more-on s x = record { more = x .more; read = rw (append-assoc (itemBytes c i) s (x .more)) (read-on (s ++ x .more) (x .read)) }
 
-    stops-on : (at : ℕ) (s : List ℕ) (a : TableAnswer) (j : ℕ) (Q Q' : List ℕ → Type 0) → ((t : List ℕ) → Q' t → Q (itemBytes c i ++ t)) →
-        Stops n' p' (at + length (itemBytes c i)) s a j Q' → Stops n p at (itemBytes c i ++ s) a j Q
-    stops-on at s a j Q Q' h r =
+    stops-on : (g at : ℕ) (s : List ℕ) (a : TableAnswer) (j : ℕ) (Q Q' : List ℕ → Type 0) → ((t : List ℕ) → Q' t → Q (itemBytes c i ++ t)) →
+        Stops (ended i g) n' p' (at + length (itemBytes c i)) s a j Q' → Stops g n p at (itemBytes c i ++ s) a j Q
+    stops-on g at s a j Q Q' h r =
         let x = itemBytes c i in
         let q : suc (length x + r .good) ≡ length x + suc (r .good) = omega arith in
         record {
@@ -107,21 +107,21 @@ module _ (c : Coding) where
           place = omega (arith, r .place);
           within = omega (arith, r .within, length-append x s);
           start = rw (take-append-add x s (r .good)) (h (take (r .good) s) (r .start));
-          never = λ y. rw (q, take-append-add x s (suc (r .good)), append-assoc) (on at (take (suc (r .good)) s ++ y) ∙ r .never y);
+          never = λ y. rw (q, take-append-add x s (suc (r .good)), append-assoc) (on g at (take (suc (r .good)) s ++ y) ∙ r .never y);
         }
 
-    lift : (at : ℕ) (s : List ℕ) (a : TableAnswer) → Says n' p' (at + length (itemBytes c i)) s a → Says n p at (itemBytes c i ++ s) a
-    lift at s Complete r = read-on s r
-    lift at s (TableCut j) r = (omega (arith, r .0, length-append (itemBytes c i) s), more-on s (r .1))
-    lift at s (TableBad j) r = stops-on at s (TableBad j) j (More n p) (More n' p') more-on r
-    lift at s (Trailing j) r = stops-on at s (Trailing j) j (Read n p) (Read n' p') read-on r
+    lift : (g at : ℕ) (s : List ℕ) (a : TableAnswer) → Says (ended i g) n' p' (at + length (itemBytes c i)) s a → Says g n p at (itemBytes c i ++ s) a
+    lift g at s Complete r = read-on s r
+    lift g at s (TableCut j h) r = (omega (arith, r .0, length-append (itemBytes c i) s), more-on s (r .1))
+    lift g at s (TableBad j h) r = stops-on g at s (TableBad j h) j (More n p) (More n' p') more-on r
+    lift g at s (Trailing j) r = stops-on g at s (Trailing j) j (Read n p) (Read n' p') read-on r
 
     -- the item, and what is told of the rest
-    go-on : (s : List ℕ) (l at : ℕ) → s ≡ itemBytes c i ++ drop l s → Told n' p' (at + length (itemBytes c i)) (drop l s) → Told n p at s
-    go-on s l at d r =
-        subst (λ (z : List ℕ). Told n p at z) (sym d)
-        (subst (λ (a : TableAnswer). Says n p at (itemBytes c i ++ drop l s) a) (sym (on at (drop l s)))
-        (lift at (drop l s) (walk n' p' (at + length (itemBytes c i)) (drop l s)) r))
+    go-on : (s : List ℕ) (l g at : ℕ) → s ≡ itemBytes c i ++ drop l s → Told (ended i g) n' p' (at + length (itemBytes c i)) (drop l s) → Told g n p at s
+    go-on s l g at d r =
+        subst (λ (z : List ℕ). Told g n p at z) (sym d)
+        (subst (λ (a : TableAnswer). Says g n p at (itemBytes c i ++ drop l s) a) (sym (on g at (drop l s)))
+        (lift g at (drop l s) (walk (ended i g) n' p' (at + length (itemBytes c i)) (drop l s)) r))
 
   -- a value that is begun, and as many end marks as descriptions are left, complete the table from any phase
   begun-by : (n : ℕ) (p p' : Phase) (i : Item) (s : List ℕ) (b : Begun (valueOf c) (valueBytes c) s) → itemBytes c i ≡ valueBytes c (b .value) →
@@ -140,18 +140,18 @@ module _ (c : Coding) where
   begun-more n filled s b = begun-by n filled filled (Value (b .value)) s b refl (other-value c n (b .value) (b .of)) (ends-accepted n)
 
   -- a step that ends the check at once
-  at-once : (n : ℕ) (p : Phase) (at : ℕ) (z : List ℕ) (w : Step) (a : TableAnswer) → 1 ≤ length z → stepOf (markLen c) at (readToken c z) ≡ w →
-      ((xs : List Step) → checkSteps (at + length z) (suc n) (isOpened p) at (w ∷ xs) ≡ a) → walk (suc n) p at z ≡ a
-  at-once n p at [] w a h e f = absurd (omega arith)
-  at-once n p at (b ∷ t) w a h e f = ap (checkSteps (at + length (b ∷ t)) (suc n) (isOpened p) at) (first c at b t w e) ∙ f _
+  at-once : (g n : ℕ) (p : Phase) (at : ℕ) (z : List ℕ) (w : Step) (a : TableAnswer) → 1 ≤ length z → stepOf (markLen c) at (readToken c z) ≡ w →
+      ((xs : List Step) → checkSteps (at + length z) g (suc n) (isOpened p) at (w ∷ xs) ≡ a) → walk g (suc n) p at z ≡ a
+  at-once g n p at [] w a h e f = absurd (omega arith)
+  at-once g n p at (b ∷ t) w a h e f = ap (checkSteps (at + length (b ∷ t)) g (suc n) (isOpened p) at) (first c at b t w e) ∙ f _
 
   -- a mark where a value has to stand
-  marked : (n at : ℕ) (x s : List ℕ) → length x ≡ markLen c → ((y : List ℕ) → walk (suc n) opened at (x ++ y) ≡ TableBad (at + (markLen c - 1))) →
-      Begun (valueOf c) (valueBytes c) (take (markLen c - 1) x) → s ≡ x ++ drop (markLen c) s → Told (suc n) opened at s
-  marked n at x s lx e b d =
+  marked : (g n at : ℕ) (x s : List ℕ) → length x ≡ markLen c → ((y : List ℕ) → walk g (suc n) opened at (x ++ y) ≡ TableBad (at + (markLen c - 1)) g) →
+      Begun (valueOf c) (valueBytes c) (take (markLen c - 1) x) → s ≡ x ++ drop (markLen c) s → Told g (suc n) opened at s
+  marked g n at x s lx e b d =
       let m = mark-small c .0 in
-      subst (λ (z : List ℕ). Told (suc n) opened at z) (sym d)
-      (subst (λ (a : TableAnswer). Says (suc n) opened at (x ++ drop (markLen c) s) a) (sym (e (drop (markLen c) s)))
+      subst (λ (z : List ℕ). Told g (suc n) opened at z) (sym d)
+      (subst (λ (a : TableAnswer). Says g (suc n) opened at (x ++ drop (markLen c) s) a) (sym (e (drop (markLen c) s)))
       (record {
         good = markLen c - 1;
         place = refl;
@@ -161,32 +161,32 @@ module _ (c : Coding) where
       }))
 
   -- a start or end mark, read where a value has to stand
-  bad-mark : (n at : ℕ) (x y : List ℕ) (t : Token) (w : Step) → length x ≡ markLen c → readToken c (x ++ y) ≡ t → stepOf (markLen c) at t ≡ w →
-      ((e : ℕ) (xs : List Step) → checkSteps e (suc n) true at (w ∷ xs) ≡ TableBad (at + markLen c - 1)) → walk (suc n) opened at (x ++ y) ≡ TableBad (at + (markLen c - 1))
-  bad-mark n at x y t w lx e q f =
+  bad-mark : (g n at : ℕ) (x y : List ℕ) (t : Token) (w : Step) → length x ≡ markLen c → readToken c (x ++ y) ≡ t → stepOf (markLen c) at t ≡ w →
+      ((e : ℕ) (xs : List Step) → checkSteps e g (suc n) true at (w ∷ xs) ≡ TableBad (at + markLen c - 1) g) → walk g (suc n) opened at (x ++ y) ≡ TableBad (at + (markLen c - 1)) g
+  bad-mark g n at x y t w lx e q f =
       let m = mark-small c .0 in
       let l : at + markLen c - 1 ≡ at + (markLen c - 1) = omega arith in
-      at-once n opened at (x ++ y) w (TableBad (at + (markLen c - 1))) (omega (arith, length-append x y)) (ap (stepOf (markLen c) at) e ∙ q) (λ xs. f (at + length (x ++ y)) xs ∙ ap TableBad l)
+      at-once g n opened at (x ++ y) w (TableBad (at + (markLen c - 1)) g) (omega (arith, length-append x y)) (ap (stepOf (markLen c) at) e ∙ q) (λ xs. f (at + length (x ++ y)) xs ∙ ap (λ (k : ℕ). TableBad k g) l)
 
-  module _ (s : List ℕ) (h : 1 ≤ length s) (y : Bytes s) (ih : (t : List ℕ) → length t < length s → Bytes t → (n : ℕ) (p : Phase) (at : ℕ) → Told n p at t) (n at : ℕ) where
-    rest : (l : ℕ) → 1 ≤ l → (n : ℕ) (p : Phase) (at : ℕ) → Told n p at (drop l s)
-    rest l g n p at = ih (drop l s) (omega (arith, length-drop l s)) (bytes-drop l s y) n p at
+  module _ (s : List ℕ) (h : 1 ≤ length s) (y : Bytes s) (ih : (t : List ℕ) → length t < length s → Bytes t → (g n : ℕ) (p : Phase) (at : ℕ) → Told g n p at t) (g n at : ℕ) where
+    rest : (l : ℕ) → 1 ≤ l → (g n : ℕ) (p : Phase) (at : ℕ) → Told g n p at (drop l s)
+    rest l i g n p at = ih (drop l s) (omega (arith, length-drop l s)) (bytes-drop l s y) g n p at
 
-    by-value : (p p' : Phase) (i : Item) (v l : ℕ) → Move c (suc n) p (suc n) p' i → itemBytes c i ≡ valueBytes c v → readToken c s ≡ TokenValue v l → Told (suc n) p at s
+    by-value : (p p' : Phase) (i : Item) (v l : ℕ) → Move c (suc n) p (suc n) p' i → itemBytes c i ≡ valueBytes c v → readToken c s ≡ TokenValue v l → Told g (suc n) p at s
     by-value p p' i v l m b q =
         let w = coded c .read-value s y v l q in
-        go-on (suc n) p (suc n) p' i m s l at (w .2 ∙ ap (λ (x : List ℕ). x ++ drop l s) (sym b))
-        (rest l (omega (arith, w .1, coded c .value-some v (w .0))) (suc n) p' (at + length (itemBytes c i)))
+        go-on (suc n) p (suc n) p' i m s l g at (w .2 ∙ ap (λ (x : List ℕ). x ++ drop l s) (sym b))
+        (rest l (omega (arith, w .1, coded c .value-some v (w .0))) (ended i g) (suc n) p' (at + length (itemBytes c i)))
 
-    by-start : (p : Phase) → Move c (suc n) p (suc n) opened Start → readToken c s ≡ TokenStart → Told (suc n) p at s
+    by-start : (p : Phase) → Move c (suc n) p (suc n) opened Start → readToken c s ≡ TokenStart → Told g (suc n) p at s
     by-start p m q =
-        go-on (suc n) p (suc n) opened Start m s (markLen c) at (coded c .read-start s y q) (rest (markLen c) (mark-small c .0) (suc n) opened (at + length (startBytes c)))
+        go-on (suc n) p (suc n) opened Start m s (markLen c) g at (coded c .read-start s y q) (rest (markLen c) (mark-small c .0) g (suc n) opened (at + length (startBytes c)))
 
-    by-end : (p : Phase) → Move c (suc n) p n singles End → readToken c s ≡ TokenEnd → Told (suc n) p at s
+    by-end : (p : Phase) → Move c (suc n) p n singles End → readToken c s ≡ TokenEnd → Told g (suc n) p at s
     by-end p m q =
-        go-on (suc n) p n singles End m s (markLen c) at (coded c .read-end s y q) (rest (markLen c) (mark-small c .0) n singles (at + length (endBytes c)))
+        go-on (suc n) p n singles End m s (markLen c) g at (coded c .read-end s y q) (rest (markLen c) (mark-small c .0) (suc g) n singles (at + length (endBytes c)))
 
-    told : (p : Phase) (t : Token) → readToken c s ≡ t → Told (suc n) p at s
+    told : (p : Phase) (t : Token) → readToken c s ≡ t → Told g (suc n) p at s
     unfolding checkSteps
     told singles (TokenValue v l) q = by-value singles singles (Single v) v l (single c n v (coded c .read-value s y v l q .0)) refl q
     told opened (TokenValue v l) q = by-value opened filled (Value v) v l (first-value c n v (coded c .read-value s y v l q .0)) refl q
@@ -196,69 +196,69 @@ module _ (c : Coding) where
     told singles TokenEnd q = by-end singles (end-singles c n) q
     told filled TokenEnd q = by-end filled (end-sequences c n) q
     told opened TokenStart q =
-        marked n at (startBytes c) s (coded c .start-long) (λ z. bad-mark n at (startBytes c) z TokenStart (StepStart (at + markLen c)) (coded c .start-long) (coded c .start-read z) refl (λ e xs. refl))
+        marked g n at (startBytes c) s (coded c .start-long) (λ z. bad-mark g n at (startBytes c) z TokenStart (StepStart (at + markLen c)) (coded c .start-long) (coded c .start-read z) refl (λ e xs. refl))
         (stopping c .start-begun) (coded c .read-start s y q)
     told opened TokenEnd q =
-        marked n at (endBytes c) s (coded c .end-long) (λ z. bad-mark n at (endBytes c) z TokenEnd (StepEnd (at + markLen c)) (coded c .end-long) (coded c .end-read z) refl (λ e xs. refl))
+        marked g n at (endBytes c) s (coded c .end-long) (λ z. bad-mark g n at (endBytes c) z TokenEnd (StepEnd (at + markLen c)) (coded c .end-long) (coded c .end-read z) refl (λ e xs. refl))
         (stopping c .end-begun) (coded c .read-end s y q)
     told p TokenCut q =
-        subst (λ (a : TableAnswer). Says (suc n) p at s a) (sym (at-once n p at s StepCut (TableCut (at + length s)) h (ap (stepOf (markLen c) at) q) (λ xs. refl)))
+        subst (λ (a : TableAnswer). Says g (suc n) p at s a) (sym (at-once g n p at s StepCut (TableCut (at + length s) g) h (ap (stepOf (markLen c) at) q) (λ xs. refl)))
         (refl, begun-more n p s (stopping c .cut-begun s y q))
     told p (TokenBad k) q =
         let d = stopping c in
-        let g : (z : List ℕ) → 1 ≤ length z → readToken c z ≡ TokenBad k → walk (suc n) p at z ≡ TableBad (at + k) =
-        λ z l e. at-once n p at z (StepBad (at + k)) (TableBad (at + k)) l (ap (stepOf (markLen c) at) e) (λ xs. refl) in
-        subst (λ (a : TableAnswer). Says (suc n) p at s a) (sym (g s h q))
+        let b : (z : List ℕ) → 1 ≤ length z → readToken c z ≡ TokenBad k → walk g (suc n) p at z ≡ TableBad (at + k) g =
+        λ z l e. at-once g n p at z (StepBad (at + k)) (TableBad (at + k) g) l (ap (stepOf (markLen c) at) e) (λ xs. refl) in
+        subst (λ (a : TableAnswer). Says g (suc n) p at s a) (sym (b s h q))
         (record {
           good = k;
           place = refl;
           within = d .bad-within s k q;
           start = begun-more n p (take k s) (d .cut-begun (take k s) (bytes-take k s y) (d .bad-cut s k q));
-          never = λ z. g (take (suc k) s ++ z) (omega (arith, length-append (take (suc k) s) z, length-take-le (suc k) s (d .bad-within s k q))) (d .bad-never s k z q);
+          never = λ z. b (take (suc k) s ++ z) (omega (arith, length-append (take (suc k) s) z, length-take-le (suc k) s (d .bad-within s k q))) (d .bad-never s k z q);
         })
 
-  told-nil : (n : ℕ) (p : Phase) (at : ℕ) → Told n p at []
+  told-nil : (g n : ℕ) (p : Phase) (at : ℕ) → Told g n p at []
   unfolding checkSteps stepsFrom
-  told-nil zero p at = record { found = []; of = tt; accepted = tt; same = refl }
-  told-nil (suc n) p at = (omega arith, begun-more n p [] (stopping c .cut-begun [] tt (stopping c .nil-cut)))
+  told-nil g zero p at = record { found = []; of = tt; accepted = tt; same = refl }
+  told-nil g (suc n) p at = (omega arith, begun-more n p [] (stopping c .cut-begun [] tt (stopping c .nil-cut)))
 
-  told-over : (p : Phase) (at b : ℕ) (t : List ℕ) → Told zero p at (b ∷ t)
+  told-over : (g : ℕ) (p : Phase) (at b : ℕ) (t : List ℕ) → Told g zero p at (b ∷ t)
   unfolding checkSteps stepsFrom
-  told-over p at b t =
+  told-over g p at b t =
       record { good = 0; place = omega arith; within = omega arith; start = record { found = []; of = tt; accepted = tt; same = refl }; never = λ y. refl }
 
-  told-all : (f : ℕ) (s : List ℕ) → length s < f → Bytes s → (n : ℕ) (p : Phase) (at : ℕ) → Told n p at s
-  told-all zero s h y n p at = absurd (omega arith)
-  told-all (suc f) [] h y n p at = told-nil n p at
-  told-all (suc f) (b ∷ t) h y zero p at = told-over p at b t
-  told-all (suc f) (b ∷ t) h y (suc n) p at = told (b ∷ t) (omega arith) y (λ z g. told-all f z (omega arith)) n at p (readToken c (b ∷ t)) refl
+  told-all : (f : ℕ) (s : List ℕ) → length s < f → Bytes s → (g n : ℕ) (p : Phase) (at : ℕ) → Told g n p at s
+  told-all zero s h y g n p at = absurd (omega arith)
+  told-all (suc f) [] h y g n p at = told-nil g n p at
+  told-all (suc f) (b ∷ t) h y g zero p at = told-over g p at b t
+  told-all (suc f) (b ∷ t) h y g (suc n) p at = told (b ∷ t) (omega arith) y (λ z l. told-all f z (omega arith)) g n at p (readToken c (b ∷ t)) refl
 
   -- what the answer on a whole tail says of it
-  pub answer-told : (n : ℕ) (s : List ℕ) → Bytes s → Told n singles 0 s
-  answer-told n s y = told-all (suc (length s)) s (omega arith) y n singles 0
+  pub answer-told : (n : ℕ) (s : List ℕ) → Bytes s → Told 0 n singles 0 s
+  answer-told n s y = told-all (suc (length s)) s (omega arith) y 0 n singles 0
 
   -- with no description left: all is read, or something stands behind
   abbrev pub atOver : ℕ → List ℕ → TableAnswer
   atOver at [] = Complete
   atOver at (b ∷ y) = Trailing at
 
-  over : (p : Phase) (at : ℕ) (y : List ℕ) → walk zero p at y ≡ atOver at y
+  over : (g : ℕ) (p : Phase) (at : ℕ) (y : List ℕ) → walk g zero p at y ≡ atOver at y
   unfolding checkSteps stepsFrom
-  over p at [] = refl
-  over p at (b ∷ y) = refl
+  over g p at [] = refl
+  over g p at (b ∷ y) = refl
 
   -- accepted items, written, are accepted, whatever stands behind
-  abbrev Passed : ℕ → Phase → ℕ → List Item → List ℕ → Type 0
-  Passed n p at is y = walk n p at (bytes c is ++ y) ≡ atOver (at + length (bytes c is)) y
+  abbrev Passed : ℕ → ℕ → Phase → ℕ → List Item → List ℕ → Type 0
+  Passed g n p at is y = walk g n p at (bytes c is ++ y) ≡ atOver (at + length (bytes c is)) y
 
-  pub passes : (is : List Item) (n : ℕ) (p : Phase) (at : ℕ) (y : List ℕ) → OfCoding c is → Accepts n p is → Passed n p at is y
-  passes [] zero p at y o a = let e : at + 0 ≡ at = omega arith in over p at y ∙ ap (λ (k : ℕ). atOver k y) (sym e)
-  passes [] (suc n) p at y o a = absurd a
-  passes (i ∷ is) n p at y o a =
+  pub passes : (is : List Item) (g n : ℕ) (p : Phase) (at : ℕ) (y : List ℕ) → OfCoding c is → Accepts n p is → Passed g n p at is y
+  passes [] g zero p at y o a = let e : at + 0 ≡ at = omega arith in over g p at y ∙ ap (λ (k : ℕ). atOver k y) (sym e)
+  passes [] g (suc n) p at y o a = absurd a
+  passes (i ∷ is) g n p at y o a =
       let m = moved c n p i is o a in
       let x = itemBytes c i in
       let l : at + length x + length (bytes c is) ≡ at + length (x ++ bytes c is) = omega (arith, length-append x (bytes c is)) in
-      ap (walk n p at) (append-assoc x (bytes c is) y)
-      ∙ on n p (m .left) (m .phase) i (m .move) at (bytes c is ++ y)
-      ∙ passes is (m .left) (m .phase) (at + length x) y (m .rest-of) (m .rest)
+      ap (walk g n p at) (append-assoc x (bytes c is) y)
+      ∙ on n p (m .left) (m .phase) i (m .move) g at (bytes c is ++ y)
+      ∙ passes is (ended i g) (m .left) (m .phase) (at + length x) y (m .rest-of) (m .rest)
       ∙ ap (λ (k : ℕ). atOver k y) l

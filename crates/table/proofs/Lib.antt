@@ -11,3 +11,4 @@ pub mod Answers
 pub mod Reading
 pub mod EndToEnd
 pub mod Places
+pub mod Numbers

@@ -1,19 +1,21 @@
 -- What the table's calls mean: `check_table` answers `tableOf`, and here is what `tableOf` says of the bytes, in both codings.
 use mathlib.Core.Path.{_≡_}
-use mathlib.Core.Logic.{_↔_}
+use mathlib.Core.Logic.{_⊎_, _↔_, inl, inr}
 use mathlib.Core.List.{List, _∷_, _++_}
 use Prim.Native.Nat.{ℕ, _≤_, _<_}
-use lib.ListN.{length, take}
+use lib.ListN.{length, take, drop}
 use Rattle.base.specs.Bytes.{Bytes}
 use Rattle.coding.specs.declared.Coding.{Coding}
 use Rattle.table.specs.declared.TableAnswer.the-variants.{Complete, Cut, Bad, Trailing}
-use Rattle.table.specs.Grammar.{Desc, itemsOf, items, bytes, encode, Readable}
+use Rattle.table.specs.Grammar.{Desc, itemsOf, items, bytes, encode, startOf, Readable}
 use Rattle.table.specs.Steps.{itemsIn}
 use Rattle.table.specs.Check.{tableOf, placeOf}
-use Rattle.table.specs.Table.{IsTable, Completable, LongestStart}
+use Rattle.table.specs.Table.{IsTable, Completable, LongestStart, InGlyph}
 use Rattle.table.proofs.Reading.{unique, items-back}
 use Rattle.table.proofs.EndToEnd.{described-append, encode-cons}
+use Rattle.table.proofs.EndToEnd as end-to-end
 use Rattle.table.proofs.Places.{complete-table, table-complete, cut-short, short-cut, bad-broken, broken-bad, trailing-over, over-trailing, within-tail}
+use Rattle.table.proofs.Numbers.{glyph-told, in-cut, in-bad}
 
 -- exactly the bytes of n descriptions, nothing over, are accepted
 pub complete-exactly : (c : Coding) (n : ℕ) (s : List ℕ) → Bytes s → (tableOf c n s ≡ Complete) ↔ IsTable c n s
@@ -34,15 +36,45 @@ items-end-to-end d ds = described-append d (items ds)
 pub bytes-end-to-end : (c : Coding) (d : Desc) (ds : List Desc) → encode c (d ∷ ds) ≡ bytes c (itemsOf d) ++ encode c ds
 bytes-end-to-end = encode-cons
 
--- TABLE CUT is given exactly when the whole tail could still be completed, but isn't complete; its place is the end
-pub cut-exactly : (c : Coding) (n : ℕ) (s : List ℕ) (k : ℕ) → Bytes s →
-    (tableOf c n s ≡ Cut k) ↔ ((k ≡ length s) × Completable c n s × (IsTable c n s → ⊥))
-cut-exactly c n s k y = (cut-short c n s k y, short-cut c n s k y)
+-- description g starts behind the bytes of the first g, and from there on stand its bytes and those of the others
+pub start-before : (c : Coding) (ds : List Desc) (g : ℕ) → take (startOf c ds g) (encode c ds) ≡ encode c (take g ds)
+start-before = end-to-end.start-before
 
--- TABLE BAD is given exactly when the longest completable start is shorter than the tail and not a complete table; its place is that start's end
-pub bad-exactly : (c : Coding) (n : ℕ) (s : List ℕ) (k : ℕ) → Bytes s →
-    (tableOf c n s ≡ Bad k) ↔ (LongestStart c n s k × (k < length s) × (IsTable c n (take k s) → ⊥))
-bad-exactly c n s k y = (bad-broken c n s k y, broken-bad c n s k y)
+pub start-on : (c : Coding) (ds : List Desc) (g : ℕ) → drop (startOf c ds g) (encode c ds) ≡ encode c (drop g ds)
+start-on = end-to-end.start-on
+
+-- TABLE CUT is given exactly when the whole tail could still be completed, but isn't complete; its place is the end, and its glyph is
+-- the one in whose description that stands
+pub cut-exactly : (c : Coding) (n : ℕ) (s : List ℕ) (k g : ℕ) → Bytes s →
+    (tableOf c n s ≡ Cut k g) ↔ ((k ≡ length s) × Completable c n s × (IsTable c n s → ⊥) × InGlyph c s k g)
+cut-exactly c n s k g y = (
+  λ e. let r = cut-short c n s k g y e in (r .0, r .1, r .2, glyph-told c s n k y g (inl e) .1),
+  λ r. in-cut c s n k y g (r .0, r .1, r .2) (r .3),
+)
+
+-- the same, whatever the glyph
+pub cut-place : (c : Coding) (n : ℕ) (s : List ℕ) (k : ℕ) → Bytes s →
+    ((g : ℕ) × (tableOf c n s ≡ Cut k g)) ↔ ((k ≡ length s) × Completable c n s × (IsTable c n s → ⊥))
+cut-place c n s k y = (λ (g, e). cut-short c n s k g y e, short-cut c n s k y)
+
+-- TABLE BAD is given exactly when the longest completable start is shorter than the tail and not a complete table; its place is that start's
+-- end, and its glyph is the one in whose description that stands
+pub bad-exactly : (c : Coding) (n : ℕ) (s : List ℕ) (k g : ℕ) → Bytes s →
+    (tableOf c n s ≡ Bad k g) ↔ (LongestStart c n s k × (k < length s) × (IsTable c n (take k s) → ⊥) × InGlyph c s k g)
+bad-exactly c n s k g y = (
+  λ e. let r = bad-broken c n s k g y e in (r .0, r .1, r .2, glyph-told c s n k y g (inr e) .1),
+  λ r. in-bad c s n k y g (r .0, r .1, r .2) (r .3),
+)
+
+-- the same, whatever the glyph
+pub bad-place : (c : Coding) (n : ℕ) (s : List ℕ) (k : ℕ) → Bytes s →
+    ((g : ℕ) × (tableOf c n s ≡ Bad k g)) ↔ (LongestStart c n s k × (k < length s) × (IsTable c n (take k s) → ⊥))
+bad-place c n s k y = (λ (g, e). bad-broken c n s k g y e, broken-bad c n s k y)
+
+-- the glyph that is told with a place is one of the n, and the place stands in its description
+pub glyph-of-place : (c : Coding) (n : ℕ) (s : List ℕ) (k g : ℕ) → Bytes s →
+    (tableOf c n s ≡ Cut k g) ⊎ (tableOf c n s ≡ Bad k g) → (g < n) × InGlyph c s k g
+glyph-of-place c n s k g y = glyph-told c s n k y g
 
 -- TRAILING is given exactly when the longest completable start is a complete table and shorter than the tail; its place is the first byte after it
 pub trailing-exactly : (c : Coding) (n : ℕ) (s : List ℕ) (k : ℕ) → Bytes s →

@@ -27,42 +27,49 @@ isInside singles = false
 isInside opened = true
 isInside filled = true
 
+-- the descriptions complete behind an item, of those complete in front of it
+abbrev pub ended : Item → ℕ → ℕ
+ended (Single v) g = g
+ended Start g = g
+ended (Value v) g = g
+ended End g = suc g
+
 module _ (c : Coding) where
   -- item i leads from phase p with n descriptions left to phase p' with n' left
   pub record Move (n : ℕ) (p : Phase) (n' : ℕ) (p' : Phase) (i : Item) : Type 0 where
     pub of : OfCoding c (i ∷ [])
-    pub checked : (e at next : ℕ) (xs : List Step) → checkSteps e n (isOpened p) at (stepFor c next i ∷ xs) ≡ checkSteps e n' (isOpened p') next xs
+    pub checked : (e g at next : ℕ) (xs : List Step) → checkSteps e g n (isOpened p) at (stepFor c next i ∷ xs) ≡ checkSteps e (ended i g) n' (isOpened p') next xs
     pub tells : (next : ℕ) (xs : List Step) → told (isInside p) (stepFor c next i ∷ xs) ≡ i ∷ told (isInside p') xs
     pub accepts : (is : List Item) → Accepts n' p' is → Accepts n p (i ∷ is)
 
   module _ (n : ℕ) where
     pub single : (v : ℕ) → valueOf c v → Move (suc n) singles (suc n) singles (Single v)
     unfolding checkSteps told toldAs
-    single v u = record { of = (u, tt); checked = λ e at next xs. refl; tells = λ next xs. refl; accepts = λ is a. a }
+    single v u = record { of = (u, tt); checked = λ e g at next xs. refl; tells = λ next xs. refl; accepts = λ is a. a }
 
     pub first-value : (v : ℕ) → valueOf c v → Move (suc n) opened (suc n) filled (Value v)
     unfolding checkSteps told toldAs
-    first-value v u = record { of = (u, tt); checked = λ e at next xs. refl; tells = λ next xs. refl; accepts = λ is a. a }
+    first-value v u = record { of = (u, tt); checked = λ e g at next xs. refl; tells = λ next xs. refl; accepts = λ is a. a }
 
     pub other-value : (v : ℕ) → valueOf c v → Move (suc n) filled (suc n) filled (Value v)
     unfolding checkSteps told toldAs
-    other-value v u = record { of = (u, tt); checked = λ e at next xs. refl; tells = λ next xs. refl; accepts = λ is a. a }
+    other-value v u = record { of = (u, tt); checked = λ e g at next xs. refl; tells = λ next xs. refl; accepts = λ is a. a }
 
     pub first-start : Move (suc n) singles (suc n) opened Start
     unfolding checkSteps told
-    first-start = record { of = tt; checked = λ e at next xs. refl; tells = λ next xs. refl; accepts = λ is a. a }
+    first-start = record { of = tt; checked = λ e g at next xs. refl; tells = λ next xs. refl; accepts = λ is a. a }
 
     pub other-start : Move (suc n) filled (suc n) opened Start
     unfolding checkSteps told
-    other-start = record { of = tt; checked = λ e at next xs. refl; tells = λ next xs. refl; accepts = λ is a. a }
+    other-start = record { of = tt; checked = λ e g at next xs. refl; tells = λ next xs. refl; accepts = λ is a. a }
 
     pub end-singles : Move (suc n) singles n singles End
     unfolding checkSteps told
-    end-singles = record { of = tt; checked = λ e at next xs. refl; tells = λ next xs. refl; accepts = λ is a. a }
+    end-singles = record { of = tt; checked = λ e g at next xs. refl; tells = λ next xs. refl; accepts = λ is a. a }
 
     pub end-sequences : Move (suc n) filled n singles End
     unfolding checkSteps told
-    end-sequences = record { of = tt; checked = λ e at next xs. refl; tells = λ next xs. refl; accepts = λ is a. a }
+    end-sequences = record { of = tt; checked = λ e g at next xs. refl; tells = λ next xs. refl; accepts = λ is a. a }
 
   -- the move of the first of accepted items
   pub record Moved (n : ℕ) (p : Phase) (i : Item) (is : List Item) : Type 0 where

@@ -22,8 +22,8 @@ use Rattle.table.proofs.Answers.{walk, Read, More, Stops, Says, answer-
 use Rattle.table.proofs.Reading.{items-bytes}
 
 module _ (c : Coding) (n : ℕ) where
-  whole : (s : List ℕ) → walk c n singles 0 s ≡ tableOf c n s
-  whole s = let e : 0 + length s ≡ length s = omega arith in ap (λ (x : ℕ). checkSteps x n false 0 (stepsFrom c 0 0 s)) e
+  whole : (s : List ℕ) → walk c 0 n singles 0 s ≡ tableOf c n s
+  whole s = let e : 0 + length s ≡ length s = omega arith in ap (λ (x : ℕ). checkSteps x 0 n false 0 (stepsFrom c 0 0 s)) e
 
   -- a table, and what stands behind it
   table-over : (s y : List ℕ) → IsTable c n s → tableOf c n (s ++ y) ≡ atOver c (length s) y
@@ -32,8 +32,8 @@ module _ (c : Coding) (n : ℕ) where
       let e : 0 + length d ≡ length d = omega arith in
       subst (λ (x : List ℕ). tableOf c n (x ++ y) ≡ atOver c (length x) y) (sym (t .same))
       (sym (whole (d ++ y))
-      ∙ ap (λ (m : ℕ). walk c m singles 0 (d ++ y)) (sym (t .count))
-      ∙ passes c (items (t .reading)) (length (t .reading)) singles 0 y (t .values) (accepts-items (t .reading))
+      ∙ ap (λ (m : ℕ). walk c 0 m singles 0 (d ++ y)) (sym (t .count))
+      ∙ passes c (items (t .reading)) 0 (length (t .reading)) singles 0 y (t .values) (accepts-items (t .reading))
       ∙ ap (λ (k : ℕ). atOver c k y) e)
 
   pub table-complete : (s : List ℕ) → IsTable c n s → tableOf c n s ≡ Complete
@@ -56,8 +56,8 @@ module _ (c : Coding) (n : ℕ) where
   table-completable s t = record { more = []; of = tt; table = subst (IsTable c n) (sym (append-nil s)) t }
 
   module _ (s : List ℕ) where
-    says : Bytes s → (a : TableAnswer) → tableOf c n s ≡ a → Says c n singles 0 s a
-    says y a e = subst (Says c n singles 0 s) (whole s ∙ e) (answer-told c n s y)
+    says : Bytes s → (a : TableAnswer) → tableOf c n s ≡ a → Says c 0 n singles 0 s a
+    says y a e = subst (Says c 0 n singles 0 s) (whole s ∙ e) (answer-told c n s y)
 
     pub complete-table : Bytes s → tableOf c n s ≡ Complete → IsTable c n s
     complete-table y e = is-table s (says y Complete e)
@@ -76,10 +76,10 @@ module _ (c : Coding) (n : ℕ) where
     no-table : (a : TableAnswer) → tableOf c n s ≡ a → (a ≡ Complete → ⊥) → IsTable c n s → ⊥
     no-table a e f t = f (sym e ∙ table-complete s t)
 
-    pub cut-short : (k : ℕ) → Bytes s → tableOf c n s ≡ TableCut k → Short k
-    cut-short k y e =
-        let r = says y (TableCut k) e in
-        (omega (arith, r .0), is-completable s (r .1), no-table (TableCut k) e (λ q. let z : _≡_ {A = ℕ} 0 1 = cc in absurd (omega arith)))
+    pub cut-short : (k g : ℕ) → Bytes s → tableOf c n s ≡ TableCut k g → Short k
+    cut-short k g y e =
+        let r = says y (TableCut k g) e in
+        (omega (arith, r .0), is-completable s (r .1), no-table (TableCut k g) e (λ q. let z : _≡_ {A = ℕ} 0 1 = cc in absurd (omega arith)))
 
     -- the first j bytes, with at least one more than k
     further : (k j : ℕ) (more : List ℕ) → k < j → take j s ++ more ≡ take (suc k) s ++ (drop (suc k) (take j s) ++ more)
@@ -88,12 +88,12 @@ module _ (c : Coding) (n : ℕ) where
         ∙ append-assoc (take (suc k) s) (drop (suc k) (take j s)) more
 
     module _ (a : TableAnswer) (f : a ≡ Complete → ⊥) (Q : List ℕ → Type 0) (g : (t : List ℕ) → Q t → Completable c n t) where
-      stops-longest : (k : ℕ) → Stops c n singles 0 s a k Q → LongestStart c n s k × (k < length s) × Q (take k s)
+      stops-longest : (k : ℕ) → Stops c 0 n singles 0 s a k Q → LongestStart c n s k × (k < length s) × Q (take k s)
       stops-longest k r =
           let q : r .good ≡ k = omega (arith, r .place) in
           let i : k < length s = omega (arith, r .within) in
           let u = subst (λ (x : ℕ). Q (take x s)) q (r .start) in
-          let v = subst (λ (x : ℕ). (y : List ℕ) → walk c n singles 0 (take (suc x) s ++ y) ≡ a) q (r .never) in (
+          let v = subst (λ (x : ℕ). (y : List ℕ) → walk c 0 n singles 0 (take (suc x) s ++ y) ≡ a) q (r .never) in (
             record {
               within = omega arith;
               completable = g (take k s) u;
@@ -110,9 +110,9 @@ module _ (c : Coding) (n : ℕ) where
         let e = ap (tableOf c n) (sym (take-append-drop k s)) ∙ table-over (take k s) (drop k s) t in
         e ∙ ap (λ (x : List ℕ). atOver c (length (take k s)) x) (drop-cons s k 0 h) ∙ ap Trailing (length-take-le k s (omega arith))
 
-    pub bad-broken : (k : ℕ) → Bytes s → tableOf c n s ≡ TableBad k → Broken k
-    bad-broken k y e =
-        let r = stops-longest (TableBad k) (λ q. let z : _≡_ {A = ℕ} 0 1 = cc in absurd (omega arith)) (More c n singles) is-completable k (says y (TableBad k) e) in
+    pub bad-broken : (k g : ℕ) → Bytes s → tableOf c n s ≡ TableBad k g → Broken k
+    bad-broken k g y e =
+        let r = stops-longest (TableBad k g) (λ q. let z : _≡_ {A = ℕ} 0 1 = cc in absurd (omega arith)) (More c n singles) is-completable k (says y (TableBad k g) e) in
         (r .0, r .1, λ t. let q = sym e ∙ over-trailing k (r .1) t in let z : _≡_ {A = ℕ} 0 1 = cc in absurd (omega arith))
 
     pub trailing-over : (k : ℕ) → Bytes s → tableOf c n s ≡ Trailing k → Over k
@@ -133,22 +133,22 @@ module _ (c : Coding) (n : ℕ) where
         go (inr x) (inr y) = omega arith
 
     -- each kind of tail has its own answer
-    pub short-cut : (k : ℕ) → Bytes s → Short k → tableOf c n s ≡ TableCut k
+    pub short-cut : (k : ℕ) → Bytes s → Short k → (g : ℕ) × (tableOf c n s ≡ TableCut k g)
     short-cut k y (q, t, f) = go (tableOf c n s) refl
       where
-        go : (a : TableAnswer) → tableOf c n s ≡ a → tableOf c n s ≡ TableCut k
+        go : (a : TableAnswer) → tableOf c n s ≡ a → (g : ℕ) × (tableOf c n s ≡ TableCut k g)
         go Complete e = absurd (f (complete-table y e))
-        go (TableCut j) e = let r = cut-short j y e in e ∙ ap TableCut (r .0 ∙ sym q)
-        go (TableBad j) e = let r = bad-broken j y e in absurd (longer j (r .0) (r .1) t)
+        go (TableCut j g) e = let r = cut-short j g y e in (g, e ∙ ap (λ (x : ℕ). TableCut x g) (r .0 ∙ sym q))
+        go (TableBad j g) e = let r = bad-broken j g y e in absurd (longer j (r .0) (r .1) t)
         go (Trailing j) e = let r = trailing-over j y e in absurd (longer j (r .0) (r .1) t)
 
-    pub broken-bad : (k : ℕ) → Bytes s → Broken k → tableOf c n s ≡ TableBad k
+    pub broken-bad : (k : ℕ) → Bytes s → Broken k → (g : ℕ) × (tableOf c n s ≡ TableBad k g)
     broken-bad k y (l, h, f) = go (tableOf c n s) refl
       where
-        go : (a : TableAnswer) → tableOf c n s ≡ a → tableOf c n s ≡ TableBad k
+        go : (a : TableAnswer) → tableOf c n s ≡ a → (g : ℕ) × (tableOf c n s ≡ TableBad k g)
         go Complete e = absurd (longer k l h (table-completable s (complete-table y e)))
-        go (TableCut j) e = absurd (longer k l h (cut-short j y e .1))
-        go (TableBad j) e = e ∙ ap TableBad (one-longest j k (bad-broken j y e .0) l)
+        go (TableCut j g) e = absurd (longer k l h (cut-short j g y e .1))
+        go (TableBad j g) e = (g, e ∙ ap (λ (x : ℕ). TableBad x g) (one-longest j k (bad-broken j g y e .0) l))
         go (Trailing j) e = let r = trailing-over j y e in absurd (f (subst (λ (x : ℕ). IsTable c n (take x s)) (one-longest j k (r .0) l) (r .2)))
 
     pub within-tail : Bytes s → placeOf (tableOf c n s) ≤ length s
@@ -156,6 +156,6 @@ module _ (c : Coding) (n : ℕ) where
       where
         go : (a : TableAnswer) → tableOf c n s ≡ a → placeOf a ≤ length s
         go Complete e = omega arith
-        go (TableCut k) e = let r = cut-short k y e .0 in omega arith
-        go (TableBad k) e = let r = bad-broken k y e .1 in omega arith
+        go (TableCut k g) e = let r = cut-short k g y e .0 in omega arith
+        go (TableBad k g) e = let r = bad-broken k g y e .1 in omega arith
         go (Trailing k) e = let r = trailing-over k y e .1 in omega arith

@@ -9,6 +9,7 @@ use lib.ListN.{length}
 use Rattle.utf8.specs.Utf8.{readUtf8, readValue, leadOf, conts}
 use Rattle.utf8.specs.Scalar.{utf8Bytes}
 use Rattle.ucs2.specs.Ucs2.{readUcs2}
+use Rattle.ucs2.specs.Word.{isWord}
 use Rattle.coding.specs.declared.Coding.{Coding}
 use Rattle.coding.specs.declared.Coding.the-variants.{Utf8, Ucs2}
 use Rattle.coding.specs.Coding.{readToken, markLen, valueOf, valueBytes, startBytes, endBytes}
@@ -73,7 +74,7 @@ cases =
     ∷ []
 
 pub vectors : AllMeet cases
-unfolding checkSteps stepsFrom readToken markLen valueOf valueBytes startBytes endBytes readUtf8 readValue leadOf conts utf8Bytes readUcs2
+unfolding checkSteps stepsFrom readToken markLen valueOf valueBytes startBytes endBytes readUtf8 readValue leadOf conts utf8Bytes readUcs2 isWord
 vectors = (
   (refl, refl, refl, (inl (omega arith), (inl (omega arith), (inl (omega arith), (inl (omega arith), tt))))),
   (

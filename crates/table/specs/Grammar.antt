@@ -3,6 +3,7 @@
 --   <seq> := <ss><uc><uc>*
 use mathlib.Core.List.{List, [], _∷_, _++_}
 use Prim.Native.Nat.{ℕ}
+use lib.ListN.{length, take}
 use Rattle.coding.specs.declared.Coding.{Coding}
 use Rattle.coding.specs.Coding.{valueOf, valueBytes, startBytes, endBytes}
 use Rattle.table.specs.declared.Item.{Item}
@@ -64,6 +65,10 @@ OfCoding c (End ∷ is) = OfCoding c is
 -- the bytes of descriptions
 abbrev pub encode : Coding → List Desc → List ℕ
 encode c ds = bytes c (items ds)
+
+-- where description g starts: behind the bytes of those before it
+abbrev pub startOf : Coding → List Desc → ℕ → ℕ
+startOf c ds g = length (encode c (take g ds))
 
 -- every value of the descriptions is one of the coding's
 abbrev pub Readable : Coding → List Desc → Type 0

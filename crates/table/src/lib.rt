@@ -120,20 +120,22 @@ pub fn told_as(inside: bool, v: u32) -> Item
     Item::Single(v)
 }
 
-// What the check of a table says. Places are counted from the table's first byte.
+// What the check of a table says. Places are counted from the table's first byte; Cut and Bad also tell how many descriptions are
+// complete before the place, which is the glyph whose description is being read there.
 pub enum TableAnswer {
     Complete,
-    Cut(usize),
-    Bad(usize),
+    Cut(usize, usize),
+    Bad(usize, usize),
     Trailing(usize),
 }
 
-// A mark that ends at `next` where a value must stand: bad at its last byte, since the bytes before that could begin a value.
-fn misplaced(next: usize) -> TableAnswer
+// A mark that ends at `next` where a value must stand, in the description of glyph g: bad at its last byte, since the bytes before
+// that could begin a value.
+fn misplaced(next: usize, g: usize) -> TableAnswer
     requires { ⌜ 1 ≤ next ⌝ }
-    ensures { λ r. ⌜ r ≡ TableBad (next - 1) ⌝ }
+    ensures { λ r. ⌜ r ≡ TableBad (next - 1) g ⌝ }
 {
-    TableAnswer::Bad(next - 1)
+    TableAnswer::Bad(next - 1, g)
 }
 
 // Whether the tail is n descriptions, nothing over. Cut: it could still be completed, the place is its end.
@@ -142,11 +144,11 @@ fn misplaced(next: usize) -> TableAnswer
 pub fn check_table(c: Coding, tail: &[u8], n: usize) -> TableAnswer
     ensures { λ r. ⌜ r ≡ tableOf c n (now (tail .entry)) ⌝ }
 {
-    let mut left = n;
+    let mut g: usize = 0;
     let mut opened = false;
     let mut at: usize = 0;
     while at < tail.len() {
-        if left == 0 {
+        if g == n {
             return TableAnswer::Trailing(at);
         }
         let t = next_step(c, tail, at);
@@ -157,24 +159,24 @@ pub fn check_table(c: Coding, tail: &[u8], n: usize) -> TableAnswer
             }
             Step::Start(next) => {
                 if opened {
-                    return misplaced(next);
+                    return misplaced(next, g);
                 }
                 opened = true;
                 at = next;
             }
             Step::End(next) => {
                 if opened {
-                    return misplaced(next);
+                    return misplaced(next, g);
                 }
-                left -= 1;
+                g += 1;
                 at = next;
             }
-            Step::Cut => return TableAnswer::Cut(tail.len()),
-            Step::Bad(k) => return TableAnswer::Bad(k),
+            Step::Cut => return TableAnswer::Cut(tail.len(), g),
+            Step::Bad(k) => return TableAnswer::Bad(k, g),
         }
     }
-    if left == 0 {
+    if g == n {
         return TableAnswer::Complete;
     }
-    TableAnswer::Cut(at)
+    TableAnswer::Cut(at, g)
 }

@@ -15,8 +15,8 @@ use Rattle.table.proofs.Meaning.{items-read}
 use Rattle.transcode.specs.declared.Measured.{Measured}
 use Rattle.transcode.specs.declared.Measured.the-variants.{Length, Uncarried}
 use Rattle.transcode.specs.Transcode.{measure, tableLen, recoded}
-use Rattle.transcode.specs.Carrying.{FirstUncarried}
-use Rattle.transcode.proofs.Measuring.{Said, measured, uncarried-measured}
+use Rattle.transcode.specs.Carrying.{FirstUncarried, endsIn}
+use Rattle.transcode.proofs.Measuring.{Said, same-place, measured, uncarried-measured}
 
 -- an item among items of a coding
 at-item : (to : Coding) (before : List Item) (i : Item) (after : List Item) → OfCoding to (before ++ (i ∷ after)) → OfCoding to (i ∷ [])
@@ -34,9 +34,9 @@ all-carried : (from to : Coding) (is : List Item) (at k : ℕ) → FirstUncarrie
 all-carried from to is at k f o = f .uncarried (at-item to (f .before) (f .item) (f .after) (subst (OfCoding to) (f .same) o))
 
 module _ (from to : Coding) (ds : List Desc) (s : List ℕ) (o : Readable from ds) (e : s ≡ encode from ds) where
-  said : (r : Measured) → tableLen from to s ≡ r → Said from to (items ds) 0 0 r
+  said : (r : Measured) → tableLen from to s ≡ r → Said from to (items ds) 0 0 0 r
   unfolding tableLen
-  said r q = subst (Said from to (items ds) 0 0) (sym (ap (λ (x : List ℕ). measure to 0 0 (stepsFrom from 0 0 x)) e) ∙ q) (measured from to (items ds) 0 0 o)
+  said r q = subst (Said from to (items ds) 0 0 0) (sym (ap (λ (x : List ℕ). measure to 0 0 0 (stepsFrom from 0 0 x)) e) ∙ q) (measured from to (items ds) 0 0 0 o)
 
   -- a length is told exactly when the coding carries every value, and then it is that of the table in the coding
   pub length-exactly : (m : ℕ) → (tableLen from to s ≡ Length m) ↔ (Readable to ds × (m ≡ length (encode to ds)))
@@ -44,18 +44,23 @@ module _ (from to : Coding) (ds : List Desc) (s : List ℕ) (o : Readable from d
     where
       go : (r : Measured) → tableLen from to s ≡ r → Readable to ds × (m ≡ length (encode to ds)) → tableLen from to s ≡ Length m
       go (Length n) q p = let z = said (Length n) q .1 in q ∙ ap Length (omega (arith, p .1))
-      go (Uncarried k) q p = absurd (all-carried from to (items ds) 0 k (said (Uncarried k) q) (p .0))
+      go (Uncarried k g) q p = absurd (all-carried from to (items ds) 0 k (said (Uncarried k g) q .0) (p .0))
 
-  -- a place is told exactly when there is a first value that the coding can't carry, and then it is that value's first byte
-  pub uncarried-exactly : (k : ℕ) → (tableLen from to s ≡ Uncarried k) ↔ FirstUncarried from to (items ds) 0 k
+  -- a place is told exactly when there is a first value that the coding can't carry, and then it is that value's first byte; the glyph
+  -- told with it is as many as descriptions end before it
+  pub uncarried-exactly : (k g : ℕ) → (tableLen from to s ≡ Uncarried k g) ↔ ((u : FirstUncarried from to (items ds) 0 k) × (g ≡ endsIn (u .before)))
   unfolding tableLen
-  uncarried-exactly k = (
-    λ q. said (Uncarried k) q,
-    λ f.
-        ap (λ (x : List ℕ). measure to 0 0 (stepsFrom from 0 0 x)) (e ∙ ap (bytes from) (f .same))
-        ∙ uncarried-measured from to (f .before) (f .item) (f .after) 0 0 (subst (OfCoding from) (f .same) o) (f .carried) (f .uncarried)
-        ∙ ap Uncarried (sym (f .here)),
+  uncarried-exactly k g = (
+    λ q. let r = said (Uncarried k g) q in (r .0, omega (arith, r .1)),
+    λ (f, q).
+        ap (λ (x : List ℕ). measure to 0 0 0 (stepsFrom from 0 0 x)) (e ∙ ap (bytes from) (f .same))
+        ∙ uncarried-measured from to (f .before) (f .item) (f .after) 0 0 0 (subst (OfCoding from) (f .same) o) (f .carried) (f .uncarried)
+        ∙ same-place (sym (f .here)) (omega (arith, q)),
   )
+
+  -- the same, whatever the glyph
+  pub uncarried-place : (k : ℕ) → ((g : ℕ) × (tableLen from to s ≡ Uncarried k g)) ↔ FirstUncarried from to (items ds) 0 k
+  uncarried-place k = (λ (g, q). uncarried-exactly k g .0 q .0, λ f. (endsIn (f .before), uncarried-exactly k (endsIn (f .before)) .1 (f, refl)))
 
   -- what is written is the same descriptions in the other coding
   pub recoded-table : recoded from to s ≡ encode to ds

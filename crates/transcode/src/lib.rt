@@ -8,13 +8,14 @@ ghost use Rattle.transcode.specs.declared.Measured.the-variants.{Length}
 use coding::Coding;
 use table::Step;
 
-// How many bytes a table's items are in another coding, or the place of the first value that the coding can't carry.
+// How many bytes a table's items are in another coding, or the place of the first value that the coding can't carry, and how many
+// descriptions are complete before it, which is the glyph whose description has it.
 pub enum Measured {
     Length(usize),
-    Uncarried(usize),
+    Uncarried(usize, usize),
 }
 
-// The bytes that a tail's items are in another coding, or the place in the tail of the first value that it can't carry: one pass.
+// The bytes that a tail's items are in another coding, or the place in the tail of the first value that it can't carry and its glyph: one pass.
 // Asks for a tail no longer than a file, so that the sum can't wrap: the font's check gives it.
 pub fn table_len(from: Coding, to: Coding, tail: &[u8]) -> Measured
     requires { ⌜ length (now tail) ≤ 1048576 ⌝ }
@@ -22,6 +23,7 @@ pub fn table_len(from: Coding, to: Coding, tail: &[u8]) -> Measured
     ensures bounded { λ r. ⌜ MeasuredWithin (length (now (tail .entry))) r ⌝ }
 {
     let mark = coding::mark_len(to);
+    let mut g: usize = 0;
     let mut n: usize = 0;
     let mut at: usize = 0;
     while at < tail.len() {
@@ -32,7 +34,7 @@ pub fn table_len(from: Coding, to: Coding, tail: &[u8]) -> Measured
                     n += coding::value_len(to, v);
                     at = next;
                 } else {
-                    return Measured::Uncarried(at);
+                    return Measured::Uncarried(at, g);
                 }
             }
             Step::Start(next) => {
@@ -40,6 +42,7 @@ pub fn table_len(from: Coding, to: Coding, tail: &[u8]) -> Measured
                 at = next;
             }
             Step::End(next) => {
+                g += 1;
                 n += mark;
                 at = next;
             }

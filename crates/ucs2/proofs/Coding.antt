@@ -1,46 +1,50 @@
 -- PSF1's two bytes keep the laws of a coding.
-use mathlib.Core.Path.{_≡_, refl}
+use mathlib.Core.Path.{_≡_, refl, sym, _∙_}
 use mathlib.Core.List.{List, [], _∷_, _++_}
-use mathlib.Core.Bool.{Bool, true, false}
-use Prim.Native.Nat.{ℕ, _+_, _*_, _/_, _%_}
+use mathlib.Core.Bool.{true, false}
+use mathlib.Core.Logic.{_⊎_, inl, inr}
+use Prim.Native.Nat.{ℕ, _+_, _*_, _/_, _%_, _≤_, _<_}
 use native.Mathlib.Omega.{arith}
 use lib.ListN.{drop}
 use lib.Dec.{eqb}
-use borrow.Author.Tests.{eqb-true, eqb-false, ne-eqb}
-use Rattle.base.specs.Choice.{pick}
+use borrow.Author.Tests.{eqb-true, eqb-false}
 use Rattle.base.specs.Bytes.{Bytes}
-use Rattle.token.specs.declared.Token.the-variants.{Value, Start, End}
+use Rattle.base.proofs.Tests.{by-test, below}
+use Rattle.token.specs.declared.Token.{Token}
+use Rattle.token.specs.declared.Token.the-variants.{Value, Start, End, Cut, Bad}
 use Rattle.token.proofs.Coded.{Coded}
-use Rattle.ucs2.specs.Ucs2.{readUcs2}
-use Rattle.ucs2.specs.Word.{wordBytes, Word}
+use Rattle.ucs2.specs.Ucs2.{readUcs2, word}
+use Rattle.ucs2.specs.Word.{wordBytes, Word, isWord}
+use Rattle.ucs2.proofs.Words.{word-exactly}
 
--- what a word is read as, taken back
-record WordIs (w v l : ℕ) : Type 0 where
-  value : v ≡ w
-  long : l ≡ 2
-  low : w ≡ 65534 → ⊥
-  high : w ≡ 65535 → ⊥
+-- what a word is read as, taken back: a value, or a mark that is no value
+abbrev WordIs : ℕ → Token → Type 0
+WordIs w (Value v l) = Word w × (v ≡ w) × (l ≡ 2)
+WordIs w Start = w ≡ 65534
+WordIs w End = 65534 < w
+WordIs w Cut = ⊥
+WordIs w (Bad k) = ⊥
 
-word-value : (w v l : ℕ) (x y : Bool) → eqb w 65534 ≡ x → eqb w 65535 ≡ y → pick x Start (pick y End (Value w 2)) ≡ Value v l → WordIs w v l
-word-value w v l true y p q e = let z : _≡_ {A = ℕ} 0 1 = cc in absurd (omega arith)
-word-value w v l false true p q e = let z : _≡_ {A = ℕ} 0 1 = cc in absurd (omega arith)
-word-value w v l false false p q e = record { value = cc; long = cc; low = eqb-false w 65534 p; high = eqb-false w 65535 q }
-
-word-start : (w : ℕ) (x y : Bool) → eqb w 65534 ≡ x → eqb w 65535 ≡ y → pick x Start (pick y End (Value w 2)) ≡ Start → w ≡ 65534
-word-start w true y p q e = eqb-true w 65534 p
-word-start w false true p q e = let z : _≡_ {A = ℕ} 0 1 = cc in absurd (omega arith)
-word-start w false false p q e = let z : _≡_ {A = ℕ} 0 1 = cc in absurd (omega arith)
-
-word-end : (w : ℕ) (x y : Bool) → eqb w 65534 ≡ x → eqb w 65535 ≡ y → pick x Start (pick y End (Value w 2)) ≡ End → w ≡ 65535
-word-end w true y p q e = let z : _≡_ {A = ℕ} 0 1 = cc in absurd (omega arith)
-word-end w false true p q e = eqb-true w 65535 q
-word-end w false false p q e = let z : _≡_ {A = ℕ} 0 1 = cc in absurd (omega arith)
+word-is : (w : ℕ) → WordIs w (word w)
+word-is w =
+    by-test (WordIs w) (isWord w) _ _ (λ x. (word-exactly w .0 x, refl, refl)) (λ x.
+    by-test (WordIs w) (eqb w 65534) _ _ (λ y. eqb-true w 65534 y) (λ y.
+    let m : 65534 ≤ w = no-word w x in
+    let n = eqb-false w 65534 y in
+    omega arith))
+  where
+    no-word : (v : ℕ) → isWord v ≡ false → 65534 ≤ v
+    no-word v e = go (below v 65534)
+      where
+        go : (v < 65534) ⊎ (65534 ≤ v) → 65534 ≤ v
+        go (inl h) = let q : true ≡ false = sym (word-exactly v .1 h) ∙ e in let z : _≡_ {A = ℕ} 0 1 = cc in absurd (omega arith)
+        go (inr h) = h
 
 value-read : (v : ℕ) (s : List ℕ) → Word v → readUcs2 (wordBytes v ++ s) ≡ Value v 2
 unfolding readUcs2
 value-read v s h =
     let e : v % 256 + 256 * (v / 256) ≡ v = omega arith in
-    rw (e, ne-eqb v 65534 (λ p. omega arith), ne-eqb v 65535 (λ p. omega arith))
+    rw (e, word-exactly v .1 h)
 
 -- two bytes in front
 pair-same : (a b : ℕ) (t : List ℕ) (c d : ℕ) → c ≡ a → d ≡ b → a ∷ b ∷ t ≡ c ∷ d ∷ t
@@ -51,20 +55,19 @@ unfolding readUcs2
 read-value [] y v l e = let z : _≡_ {A = ℕ} 0 1 = cc in absurd (omega arith)
 read-value (a ∷ []) y v l e = let z : _≡_ {A = ℕ} 0 1 = cc in absurd (omega arith)
 read-value (a ∷ (b ∷ t)) y v l e =
-    let w = word-value (a + 256 * b) v l _ _ refl refl e in
-    let f = w .value in
-    let lo = w .low in
-    let hi = w .high in
+    let w : WordIs (a + 256 * b) (Value v l) = rw e at (word-is (a + 256 * b)) in
+    let lo = w .0 in
+    let f = w .1 in
     let ya = y .0 in
     let yb = y .1 .0 in
-    (omega arith, w .long, rw (w .long) (pair-same a b t _ _ (omega arith) (omega arith)))
+    (omega arith, w .2, rw (w .2) (pair-same a b t _ _ (omega arith) (omega arith)))
 
 read-start : (s : List ℕ) → Bytes s → readUcs2 s ≡ Start → s ≡ 0xFE ∷ 0xFF ∷ drop 2 s
 unfolding readUcs2
 read-start [] y e = let z : _≡_ {A = ℕ} 0 1 = cc in absurd (omega arith)
 read-start (a ∷ []) y e = let z : _≡_ {A = ℕ} 0 1 = cc in absurd (omega arith)
 read-start (a ∷ (b ∷ t)) y e =
-    let w = word-start (a + 256 * b) _ _ refl refl e in
+    let w : WordIs (a + 256 * b) Start = rw e at (word-is (a + 256 * b)) in
     let ya = y .0 in
     let yb = y .1 .0 in
     pair-same a b t _ _ (omega arith) (omega arith)
@@ -74,17 +77,17 @@ unfolding readUcs2
 read-end [] y e = let z : _≡_ {A = ℕ} 0 1 = cc in absurd (omega arith)
 read-end (a ∷ []) y e = let z : _≡_ {A = ℕ} 0 1 = cc in absurd (omega arith)
 read-end (a ∷ (b ∷ t)) y e =
-    let w = word-end (a + 256 * b) _ _ refl refl e in
+    let w : WordIs (a + 256 * b) End = rw e at (word-is (a + 256 * b)) in
     let ya = y .0 in
     let yb = y .1 .0 in
     pair-same a b t _ _ (omega arith) (omega arith)
 
 start-read : (s : List ℕ) → readUcs2 (0xFE ∷ 0xFF ∷ s) ≡ Start
-unfolding readUcs2
+unfolding readUcs2 isWord
 start-read s = refl
 
 end-read : (s : List ℕ) → readUcs2 (0xFF ∷ 0xFF ∷ s) ≡ End
-unfolding readUcs2
+unfolding readUcs2 isWord
 end-read s = refl
 
 pub coded-ucs2 : Coded readUcs2 2 Word wordBytes (0xFE ∷ 0xFF ∷ []) (0xFF ∷ 0xFF ∷ [])

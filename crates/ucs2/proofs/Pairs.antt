@@ -1,6 +1,7 @@
 -- `readUcs2` by the length of the list and its first two elements.
 use mathlib.Core.Path.{_≡_, refl}
 use mathlib.Core.List.{List, [], _∷_}
+use mathlib.Core.Bool.{true, false}
 use Prim.Native.Nat.{ℕ, _≤_, _<_}
 use native.Mathlib.Omega.{arith}
 use lib.ListN.{length}
@@ -8,6 +9,7 @@ use borrow.Author.Tests.{eq-eqb, ne-eqb}
 use Rattle.base.specs.Numbers.{le16}
 use Rattle.token.specs.declared.Token.the-variants.{Value, Start, End, Cut}
 use Rattle.ucs2.specs.Ucs2.{readUcs2, word}
+use Rattle.ucs2.specs.Word.{isWord}
 
 pub short : (s : List ℕ) → length s < 2 → Cut ≡ readUcs2 s
 unfolding readUcs2
@@ -23,11 +25,11 @@ pair (a ∷ (b ∷ s)) h = refl
 
 -- with the two bytes' number as the code has it
 module _ (s : List ℕ) (h : 2 ≤ length s) (v : ℕ) (e : v ≡ le16 s 0) where
-  pub as-start : v ≡ 65534 → Start ≡ readUcs2 s
-  as-start a = rw (pair s h, ← e, eq-eqb v 65534 a)
+  pub as-value : isWord v ≡ true → Value v 2 ≡ readUcs2 s
+  as-value w = rw (pair s h, ← e, w)
 
-  pub as-end : (v ≡ 65534 → ⊥) → v ≡ 65535 → End ≡ readUcs2 s
-  as-end a b = rw (pair s h, ← e, ne-eqb v 65534 a, eq-eqb v 65535 b)
+  pub as-start : isWord v ≡ false → v ≡ 65534 → Start ≡ readUcs2 s
+  as-start w a = rw (pair s h, ← e, w, eq-eqb v 65534 a)
 
-  pub as-value : (v ≡ 65534 → ⊥) → (v ≡ 65535 → ⊥) → Value v 2 ≡ readUcs2 s
-  as-value a b = rw (pair s h, ← e, ne-eqb v 65534 a, ne-eqb v 65535 b)
+  pub as-end : isWord v ≡ false → (v ≡ 65534 → ⊥) → End ≡ readUcs2 s
+  as-end w a = rw (pair s h, ← e, w, ne-eqb v 65534 a)

@@ -8,6 +8,7 @@ use Rattle.base.proofs.Tests.{by-test}
 use Rattle.token.specs.declared.Token.{Token}
 use Rattle.token.proofs.Sized.{Sized}
 use Rattle.ucs2.specs.Ucs2.{readUcs2}
+use Rattle.ucs2.specs.Word.{isWord}
 
 pub read-sized : (s : List ℕ) → Sized 2 (length s) (readUcs2 s)
 unfolding readUcs2
@@ -15,5 +16,5 @@ read-sized [] = tt
 read-sized (a ∷ []) = tt
 read-sized (a ∷ (b ∷ s)) =
     let P : Token → Type 0 = Sized 2 (length (a ∷ (b ∷ s))) in
-    by-test P (eqb (a + 256 * b) 0xFFFE) _ _ (λ _. omega arith) (λ _.
-    by-test P (eqb (a + 256 * b) 0xFFFF) _ _ (λ _. omega arith) (λ _. omega arith))
+    by-test P (isWord (a + 256 * b)) _ _ (λ _. omega arith) (λ _.
+    by-test P (eqb (a + 256 * b) 0xFFFE) _ _ (λ _. omega arith) (λ _. omega arith))

@@ -11,7 +11,7 @@ use Rattle.token.specs.declared.Token.{Token}
 use Rattle.token.specs.declared.Token.the-variants.{Value, Start, End, Cut, Bad}
 use Rattle.token.proofs.Stopping.{Begun, Stopping}
 use Rattle.ucs2.specs.Ucs2.{readUcs2, word}
-use Rattle.ucs2.specs.Word.{wordBytes, Word}
+use Rattle.ucs2.specs.Word.{wordBytes, Word, isWord}
 
 abbrev NoStop : Token → Type 0
 NoStop (Value v l) = Unit {0}
@@ -21,7 +21,7 @@ NoStop Cut = ⊥
 NoStop (Bad k) = ⊥
 
 word-goes : (w : ℕ) → NoStop (word w)
-word-goes w = by-test NoStop (eqb w 0xFFFE) _ _ (λ _. tt) (λ _. by-test NoStop (eqb w 0xFFFF) _ _ (λ _. tt) (λ _. tt))
+word-goes w = by-test NoStop (isWord w) _ _ (λ _. tt) (λ _. by-test NoStop (eqb w 0xFFFE) _ _ (λ _. tt) (λ _. tt))
 
 begun-one : (a : ℕ) → a < 256 → Begun Word wordBytes (a ∷ [])
 begun-one a h = record { value = a; more = 0 ∷ []; of = omega arith; same = same2 _ _ _ _ (omega arith) (omega arith) }

@@ -5,10 +5,11 @@ use lib.Dec.{eqb}
 use Rattle.base.specs.Choice.{pick}
 use Rattle.token.specs.declared.Token.{Token}
 use Rattle.token.specs.declared.Token.the-variants.{Value, Start, End, Cut}
+use Rattle.ucs2.specs.Word.{isWord}
 
--- what a number of two bytes is
+-- what a number of two bytes is: a value, or one of the two marks
 abbrev pub word : ℕ → Token
-word v = pick (eqb v 0xFFFE) Start (pick (eqb v 0xFFFF) End (Value v 2))
+word v = pick (isWord v) (Value v 2) (pick (eqb v 0xFFFE) Start End)
 
 -- the token in front
 unfoldable pub readUcs2 : List ℕ → Token

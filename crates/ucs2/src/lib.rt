@@ -5,11 +5,18 @@ ghost use Prim.Native.Nat.{_≤_};
 ghost use lib.ListN.{length};
 ghost use Rattle.base.specs.Over.{over};
 ghost use Rattle.ucs2.specs.Ucs2.{readUcs2};
-ghost use Rattle.ucs2.specs.Word.{Word, wordBytes};
+ghost use Rattle.ucs2.specs.Word.{Word, isWord, wordBytes};
 use token::Token;
 
-// The token at the front of some bytes: FFFE starts a sequence, FFFF ends a description, every other
-// number of two bytes is a value, surrogates included; Cut where fewer than two bytes are left. None is Bad.
+// Whether a number is a value of PSF1's coding: 0000 to FFFD, surrogates included.
+pub fn is_word(v: u32) -> bool
+    ensures { λ r. ⌜ r ≡ isWord v ⌝ }
+{
+    v < 0xFFFE
+}
+
+// The token at the front of some bytes: a value of two bytes, or a mark, FFFE that starts a sequence, FFFF that ends a
+// description; Cut where fewer than two bytes are left. None is Bad.
 pub fn read_ucs2(s: &[u8]) -> Token
     ensures { λ r. ⌜ r ≡ readUcs2 (now (s .entry)) ⌝ }
 {
@@ -17,13 +24,13 @@ pub fn read_ucs2(s: &[u8]) -> Token
         return Token::Cut;
     }
     let v = base::get16(s, 0);
+    if is_word(v) {
+        return Token::Value(v, 2);
+    }
     if v == 0xFFFE {
         return Token::Start;
     }
-    if v == 0xFFFF {
-        return Token::End;
-    }
-    Token::Value(v, 2)
+    Token::End
 }
 
 // A value's two bytes to the front, the low one first. Asks for a value of PSF1's coding and for room: the caller has tested both.

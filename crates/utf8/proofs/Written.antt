@@ -1,6 +1,6 @@
 -- The rows of Table 3-6 one by one, and the test for a value.
 use mathlib.Core.Path.{_≡_, refl, sym, _∙_, ap}
-use mathlib.Core.Logic.{_⊎_, inl, inr}
+use mathlib.Core.Logic.{_⊎_, _↔_, inl, inr}
 use mathlib.Core.Bool.{Bool, true, false}
 use mathlib.Core.List.{List, [], _∷_}
 use Prim.Native.Nat.{ℕ, _+_, _/_, _%_, _<_, _≤_}
@@ -10,7 +10,7 @@ use lib.ListN.{length}
 use lib.Seq.{sets}
 use Rattle.base.specs.Over.{over}
 use Rattle.base.proofs.Over.{stores}
-use borrow.Author.Tests.{lt-ltb, le-ltb, ltb-true, ltb-false}
+use borrow.Author.Tests.{lt-ltb, le-ltb, ltb-true}
 use Rattle.base.specs.Choice.{pick, when}
 use Rattle.base.proofs.Tests.{below}
 use Rattle.base.proofs.Chain.{chain}
@@ -54,18 +54,16 @@ module _ (v : ℕ) where
   above-surrogates h = search chain depth 30
 
   -- the test holds of the values and of nothing else
-  pub scalar-yes : isScalar v ≡ true → Scalar v
-  scalar-yes e = go (below v 0xD800) (below v 0xE000)
+  pub scalar-exactly : (isScalar v ≡ true) ↔ Scalar v
+  scalar-exactly = (λ e. yes e (below v 0xD800) (below v 0xE000), back)
     where
-      go : (v < 0xD800) ⊎ (0xD800 ≤ v) → (v < 0xE000) ⊎ (0xE000 ≤ v) → Scalar v
-      go (inl h) y = inl h
-      go (inr h) (inl k) = absurd (let q : false ≡ true = surrogate (h, k) ∙ e in let z : _≡_ {A = ℕ} 0 1 = cc in omega arith)
-      go (inr h) (inr k) = inr (k, ltb-true v 0x110000 (above-surrogates (h, k) ∙ e))
-
-  pub scalar-no : isScalar v ≡ false → Scalar v → ⊥
-  scalar-no e (inl h) = let q : true ≡ false = below-surrogates h ∙ e in let z : _≡_ {A = ℕ} 0 1 = cc in omega arith
-  scalar-no e (inr (g, h)) =
-      let k = ltb-false v 0x110000 (above-surrogates (omega arith, g) ∙ e) in omega arith
+      yes : isScalar v ≡ true → (v < 0xD800) ⊎ (0xD800 ≤ v) → (v < 0xE000) ⊎ (0xE000 ≤ v) → Scalar v
+      yes e (inl h) y = inl h
+      yes e (inr h) (inl k) = absurd (let q : false ≡ true = surrogate (h, k) ∙ e in let z : _≡_ {A = ℕ} 0 1 = cc in omega arith)
+      yes e (inr h) (inr k) = inr (k, ltb-true v 0x110000 (above-surrogates (h, k) ∙ e))
+      back : Scalar v → isScalar v ≡ true
+      back (inl h) = sym (below-surrogates h)
+      back (inr (g, h)) = sym (above-surrogates (omega arith, g)) ∙ lt-ltb v 0x110000 h
 
 -- a value's bytes stored one by one
 pub stored : (v : ℕ) (xs vs : List ℕ) → vs ≡ utf8Bytes v → length (utf8Bytes v) ≤ length xs → (length vs ≡ length (utf8Bytes v)) × (sets xs 0 vs ≡ over (utf8Bytes v) xs)

@@ -1,14 +1,9 @@
 -- `coding::carries` meets its contract: each coding's test. Assumes nothing.
 use Rattle.coding.proofs.Written.{utf8-carries, ucs2-carries}
-use lib.ListN.{length, length-set}
-use mathlib.Core.Path.{_≡_, ap, sym, _∙_, refl}
-use native.Mathlib.Omega.{arith}
+use mathlib.Core.Path.{_∙_}
 use borrow.Author.Needs.{needs}
 use Rattle.coding.proofs.carries.Statement.{statement}
 use Rattle.coding.proofs.carries.Tie as tie
-use Rattle.coding.proofs.carries.Reads as reads
-use Rattle.coding.proofs.carries.Lts as lts
-use Rattle.utf8.proofs.is_scalar.Reads as is-scalar-reads
 
 enum-told : tie.Need-enum-told
 enum-told c = search needs
@@ -19,11 +14,14 @@ is-scalar-requires c κs = search needs
 enum-told-2 : tie.Need-enum-told-2
 enum-told-2 c = search needs
 
+is-word-requires : tie.Need-is-word-requires
+is-word-requires c κs = search needs
+
 returns : tie.Need-returns
 returns c = c .is-scalar .ensures ∙ utf8-carries (c .before .before .before .args .c) (c .before .before .before .args .v) (c .before .enum-told .given .1)
 
 returns-2 : tie.Need-returns-2
-returns-2 c = ucs2-carries (c .before .before .args .c) (c .before .before .args .v) (c .enum-told2 .given .1)
+returns-2 c = c .is-word .ensures ∙ ucs2-carries (c .before .before .before .args .c) (c .before .before .before .args .v) (c .before .enum-told2 .given .1)
 
 pub carries-spec : {M : Type 1} → statement M
-carries-spec = tie.close (tie.spec enum-told is-scalar-requires enum-told-2 returns returns-2)
+carries-spec = tie.close (tie.spec enum-told is-scalar-requires enum-told-2 is-word-requires returns returns-2)

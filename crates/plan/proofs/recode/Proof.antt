@@ -52,7 +52,7 @@ returns : tie.Need-returns
 returns c = c .fit .ensures ∙ cases.recoded-length _ _ (c .before .before .before .before .before .before .before .before .args .header) (c .before .before .before .before .before .before .before .before .args .file .now) (c .before .before .before .before .before .before .before .before .args .f) _ (sym (c .before .before .before .before .before .table-len .ensures .0 ∙ ap (tableLen _ _) (rest-all (c .before .before .before .before .before .before .before .before .args .file .now) (c .before .before .before .before .before .before .before .before .args .f .end))) ∙ c .before .before .before .m .given .1)
 
 returns-2 : tie.Need-returns-2
-returns-2 c = cases.recoded-not _ _ (c .before .before .before .before .before .before .args .header) (c .before .before .before .before .before .before .args .file .now) (c .before .before .before .before .before .before .args .f) _ (sym (c .before .before .before .table-len .ensures .0 ∙ ap (tableLen _ _) (rest-all (c .before .before .before .before .before .before .args .file .now) (c .before .before .before .before .before .before .args .f .end))) ∙ c .before .m2 .given .1)
+returns-2 c = cases.recoded-not _ _ (c .before .before .before .before .before .before .args .header) (c .before .before .before .before .before .before .args .file .now) (c .before .before .before .before .before .before .args .f) _ _ (sym (c .before .before .before .table-len .ensures .0 ∙ ap (tableLen _ _) (rest-all (c .before .before .before .before .before .before .args .file .now) (c .before .before .before .before .before .before .args .f .end))) ∙ c .before .m2 .given .1)
 
 pub recode-spec : {M : Type 1} → statement M
 recode-spec =

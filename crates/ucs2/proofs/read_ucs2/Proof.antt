@@ -1,4 +1,5 @@
 -- `ucs2::read_ucs2` meets its contract: two bytes are one number, and the number decides.
+use mathlib.Core.Path.{sym, _∙_}
 use native.Mathlib.Omega.{arith}
 use borrow.Author.Needs.{needs}
 use Rattle.ucs2.proofs.Pairs.{short, as-start, as-end, as-value}
@@ -11,14 +12,17 @@ returns c = short _ (c .if1 .taken)
 get16-requires : tie.Need-get16-requires
 get16-requires c κs = search needs
 
+is-word-requires : tie.Need-is-word-requires
+is-word-requires c κs = search needs
+
 returns-2 : tie.Need-returns-2
-returns-2 c = as-start _ (omega arith) _ (c .before .get16 .ensures .0) (c .if2 .taken)
+returns-2 c = as-value _ (omega arith) _ (c .before .before .get16 .ensures .0) (sym (c .before .is-word .ensures) ∙ c .if2 .taken)
 
 returns-3 : tie.Need-returns-3
-returns-3 c = as-end _ (omega arith) _ (c .before .before .get16 .ensures .0) (c .before .if2 .left) (c .if3 .taken)
+returns-3 c = as-start _ (omega arith) _ (c .before .before .before .get16 .ensures .0) (sym (c .before .before .is-word .ensures) ∙ c .before .if2 .left) (c .if3 .taken)
 
 returns-4 : tie.Need-returns-4
-returns-4 c = as-value _ (omega arith) _ (c .before .before .get16 .ensures .0) (c .before .if2 .left) (c .if3 .left)
+returns-4 c = as-end _ (omega arith) _ (c .before .before .before .get16 .ensures .0) (sym (c .before .before .is-word .ensures) ∙ c .before .if2 .left) (c .if3 .left)
 
 pub read-ucs2-spec : {M : Type 1} → statement M
-read-ucs2-spec = tie.close (tie.spec returns get16-requires returns-2 returns-3 returns-4)
+read-ucs2-spec = tie.close (tie.spec returns get16-requires is-word-requires returns-2 returns-3 returns-4)
