@@ -28,8 +28,8 @@ use Rattle.header.specs.Headers.{limit}
 use Rattle.header.specs.Placed.{Placed, Even, Dispatched, KindPlaced}
 use Rattle.header.proofs.Inverse.{placed}
 use Rattle.header.proofs.Sources.{source}
-use Rattle.font.specs.Check.{tailOf, checkOf}
-use Rattle.font.proofs.Cases.{accepted}
+use Rattle.stages.specs.Check.{tailOf, checkOf}
+use Rattle.stages.proofs.Cases.{accepted}
 use Rattle.plan.specs.declared.Plan.{Plan}
 use Rattle.plan.specs.declared.Plan.the-variants.{Ready, Stop}
 use Rattle.plan.specs.declared.Evenness.the-variants.{Even as AllEven}

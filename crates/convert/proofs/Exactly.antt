@@ -32,7 +32,7 @@ use Rattle.header.specs.declared.Font.{Font}
 use Rattle.header.specs.declared.Checked.{Checked}
 use Rattle.header.specs.declared.Checked.the-variants.{Sound, Refused as Unsound}
 use Rattle.header.specs.Headers.{limit}
-use Rattle.font.specs.Check.{tailOf, checkOf}
+use Rattle.stages.specs.Check.{tailOf, checkOf}
 use Rattle.plan.specs.declared.Plan.{Plan}
 use Rattle.plan.specs.declared.Plan.the-variants.{Ready, Stop}
 use Rattle.plan.specs.declared.Evenness.{Evenness}

@@ -32,7 +32,7 @@ use Rattle.header.specs.Placed.{Placed, Even, Dispatched}
 use Rattle.bitmap.specs.declared.Located.{Located}
 use Rattle.bitmap.specs.declared.Located.the-variants.{Found}
 use Rattle.bitmap.specs.Bitmaps.{kindBitmap, entryBitmap, bitmapOf}
-use Rattle.font.specs.Check.{codingOf, tailOf, checkOf}
+use Rattle.stages.specs.Check.{codingOf, tailOf, checkOf}
 use Rattle.plan.specs.declared.Plan.the-variants.{Ready}
 use Rattle.plan.specs.declared.Evenness.the-variants.{Even as AllEven}
 use Rattle.plan.specs.Plans.{isPsf1Count, evenness, psf1ToPsf2Plan, psf2ToPsf1Plan, psf2ToVfont2Plan, vfont2ToPsf2Plan}

@@ -20,8 +20,8 @@ use Rattle.header.specs.declared.Kind.the-variants.{Psf1, Psf2, Vfont2}
 use Rattle.header.specs.declared.Font.{Font}
 use Rattle.header.specs.declared.Checked.the-variants.{Sound}
 use Rattle.header.proofs.Sources.{source}
-use Rattle.font.specs.Check.{checkOf}
-use Rattle.font.proofs.Cases.{accepted}
+use Rattle.stages.specs.Check.{checkOf}
+use Rattle.stages.proofs.Cases.{accepted}
 use Rattle.plan.specs.declared.Plan.{Plan}
 use Rattle.plan.specs.declared.Plan.the-variants.{Ready, Stop}
 use Rattle.plan.specs.Plans.{psf1ToPsf2Plan, psf2ToPsf1Plan, psf2ToVfont2Plan, vfont2ToPsf2Plan}

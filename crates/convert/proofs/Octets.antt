@@ -17,7 +17,7 @@ use Rattle.transcode.specs.Transcode.{recoded}
 use Rattle.layout.specs.Layout.{fields, header32, modeOf, header4, metricsBytes, entryBytes, entriesFrom, glyphsFrom}
 use Rattle.header.specs.declared.Kind.the-variants.{Psf1, Psf2, Vfont2}
 use Rattle.header.specs.declared.Font.{Font}
-use Rattle.font.specs.Check.{codingOf, tailOf}
+use Rattle.stages.specs.Check.{codingOf, tailOf}
 use Rattle.plan.specs.declared.Plan.the-variants.{Ready}
 use Rattle.plan.specs.Plans.{psf1ToPsf2Plan, psf2ToPsf1Plan, psf2ToVfont2Plan, vfont2ToPsf2Plan}
 use Rattle.plan.proofs.Inverse.{psf1-to-psf2-ready, psf2-to-psf1-ready, psf2-to-vfont2-ready, vfont2-to-psf2-ready}

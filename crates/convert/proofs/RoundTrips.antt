@@ -22,7 +22,7 @@ use Rattle.header.specs.declared.Font.{Font}
 use Rattle.header.specs.declared.Checked.the-variants.{Sound}
 use Rattle.header.specs.Headers.{psf1Font, psf2Font, vfont2Font}
 use Rattle.header.specs.Placed.{Even}
-use Rattle.font.specs.Check.{codingOf, tailOf, checkOf}
+use Rattle.stages.specs.Check.{codingOf, tailOf, checkOf}
 use Rattle.plan.specs.declared.Plan.the-variants.{Ready}
 use Rattle.plan.specs.Plans.{psf1ToPsf2Plan, psf2ToPsf1Plan, psf2ToVfont2Plan, vfont2ToPsf2Plan}
 use Rattle.plan.proofs.Inverse.{psf1-to-psf2-ready, psf2-to-psf1-ready, psf2-to-vfont2-ready, vfont2-to-psf2-ready}

@@ -22,8 +22,8 @@ use Rattle.header.specs.declared.Font.{Font}
 use Rattle.header.specs.declared.Checked.the-variants.{Sound}
 use Rattle.header.specs.Headers.{kindOf, psf1Count, psf1Table, psf1Font, psf2Font, fieldsOf}
 use Rattle.header.proofs.Sources.{source}
-use Rattle.font.specs.Check.{tailOf, checkOf}
-use Rattle.font.proofs.Cases.{accepted}
+use Rattle.stages.specs.Check.{tailOf, checkOf}
+use Rattle.stages.proofs.Cases.{accepted}
 use Rattle.convert.specs.Outputs.{bitmapsOf}
 
 four : (a b c d p q r s : ℕ) → a ≡ p → b ≡ q → c ≡ r → d ≡ s → a ∷ b ∷ c ∷ d ∷ [] ≡ p ∷ q ∷ r ∷ s ∷ []

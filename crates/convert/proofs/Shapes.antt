@@ -23,8 +23,8 @@ use Rattle.header.specs.Headers.{psf1Count, psf1Font, psf2Font, fieldsOf}
 use Rattle.header.specs.Placed.{Placed, Even, Dispatched, KindPlaced}
 use Rattle.header.proofs.Inverse.{placed}
 use Rattle.header.proofs.Sources.{source}
-use Rattle.font.specs.Check.{checkOf}
-use Rattle.font.proofs.Cases.{accepted}
+use Rattle.stages.specs.Check.{checkOf}
+use Rattle.stages.proofs.Cases.{accepted}
 use Rattle.plan.specs.declared.Evenness.the-variants.{Even as AllEven}
 use Rattle.plan.specs.Plans.{evenness}
 use Rattle.plan.proofs.Evens.{EvenFields, even-each, even-fields, even-rows, even-cols, even-size}

@@ -21,7 +21,7 @@ use Rattle.header.specs.declared.Font.{Font}
 use Rattle.header.specs.declared.Checked.the-variants.{Sound}
 use Rattle.header.specs.Headers.{limit, psf1Font, psf2Font, vfont2Font, psf1Count, psf1Table, psf2Head, vfont2Head, headOf, headerOf}
 use Rattle.header.proofs.Cases as header-cases
-use Rattle.font.specs.Check.{tailOf, checkOf}
+use Rattle.stages.specs.Check.{tailOf, checkOf}
 use Rattle.convert.proofs.Cases.{glyph-small}
 use Rattle.convert.proofs.Tails.{Tail, tail-sound}
 use Rattle.convert.proofs.Written.{written, head-written, psf2-named, vfont2-named, psf1-fields, psf1-long, psf1-named, mode-back}

@@ -22,8 +22,8 @@ use Rattle.header.specs.declared.Checked.{Checked}
 use Rattle.header.specs.declared.Checked.the-variants.{Sound, Refused}
 use Rattle.header.specs.Headers.{headerOf}
 use Rattle.header.proofs.Inverse.{never}
-use Rattle.font.specs.Check.{codingOf, tailOf, answered, bareOf, bodyOf, checkOf}
-use Rattle.font.proofs.Cases.{accepted, with-table, bare-sound, header-sound}
+use Rattle.stages.specs.Check.{codingOf, tailOf, answered, bareOf, bodyOf, checkOf}
+use Rattle.stages.proofs.Cases.{accepted, with-table, bare-sound, header-sound}
 
 -- a tail that is a table where the font has one, and nothing where it hasn't
 abbrev pub Tail : Bool → Coding → ℕ → List ℕ → Type 0

@@ -14,7 +14,7 @@ use Rattle.header.specs.declared.Font.{Font}
 use Rattle.header.specs.declared.Checked.the-variants.{Sound}
 use Rattle.header.specs.Headers.{limit}
 use Rattle.bitmap.specs.Bitmaps.{bitmapOf, wholeOf, pixelOf, viewOf}
-use Rattle.font.specs.Check.{codingOf, tailOf, checkOf}
+use Rattle.stages.specs.Check.{codingOf, tailOf, checkOf}
 use Rattle.plan.specs.Evens.{evenMetrics}
 use Rattle.convert.specs.declared.Converted.{Converted}
 use Rattle.convert.specs.declared.Converted.the-variants.{Wrote as Written, Refused}

@@ -8,7 +8,7 @@ use Rattle.transcode.specs.Transcode.{recoded}
 use Rattle.entries.specs.Entries.{glyphBytes}
 use Rattle.layout.specs.Layout.{header32, header4, entriesFrom, glyphsFrom}
 use Rattle.header.specs.declared.Font.{Font}
-use Rattle.font.specs.Check.{tailOf}
+use Rattle.stages.specs.Check.{tailOf}
 
 -- the bitmaps of a font that has them end to end
 abbrev pub bitmapsOf : List ℕ → Font → List ℕ

@@ -15,7 +15,7 @@ ghost use Rattle.transcode.specs.declared.Measured.the-variants.{Length};
 ghost use Rattle.transcode.specs.Transcode.{tableLen, recoded};
 ghost use Rattle.entries.specs.Entries.{addressAt};
 ghost use Rattle.header.specs.Placed.{Placed, Even, Dispatched};
-ghost use Rattle.font.specs.Check.{tailOf};
+ghost use Rattle.stages.specs.Check.{tailOf};
 ghost use Rattle.convert.specs.Outputs.{evenSize, psf1ToPsf2Bytes, psf2ToPsf1Bytes, psf2ToVfont2Bytes, vfont2ToPsf2Bytes};
 ghost use Rattle.convert.specs.Conversions.{psf1ToPsf2, psf1ToPsf2Into, psf2ToPsf1, psf2ToPsf1Into, psf2ToVfont2, psf2ToVfont2Into, vfont2ToPsf2, vfont2ToPsf2Into};
 

@@ -18,7 +18,7 @@ use Rattle.lookup.specs.declared.Walked.{Walked}
 use Rattle.lookup.specs.declared.Found.{Found}
 use Rattle.lookup.specs.Lookup.{itemAt, findValue, findSequence}
 use Rattle.header.specs.declared.Font.{Font}
-use Rattle.font.specs.Check.{codingOf}
+use Rattle.stages.specs.Check.{codingOf}
 use Rattle.fonts.specs.declared.Walk.the-variants.{Is, NoWalk}
 use Rattle.fonts.specs.declared.Lookup.the-variants.{Glyph, NoLookup}
 use Rattle.fonts.specs.Questions.{fontItems, walked, itemOn, found, valueOn, anyHigh, askable, sequenceOn}

@@ -21,7 +21,7 @@ use Rattle.lookup.specs.declared.Walked.the-variants.{Found as Got, Nothing as 
 use Rattle.lookup.specs.declared.Found as F
 use Rattle.lookup.specs.declared.Found.the-variants.{At as FoundAt, Nothing}
 use Rattle.lookup.specs.Lookup.{itemAt, findValue, findSequence}
-use Rattle.font.specs.Check.{codingOf, tailOf, checkOf}
+use Rattle.stages.specs.Check.{codingOf, tailOf, checkOf}
 use Rattle.fonts.specs.declared.Walk.{Walk}
 use Rattle.fonts.specs.declared.Walk.the-variants.{Is, NoWalk}
 use Rattle.fonts.specs.declared.Lookup.{Lookup}

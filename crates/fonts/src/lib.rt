@@ -12,7 +12,7 @@ use table::Item;
 ghost use mathlib.Core.Path.{_≡_};
 ghost use Rattle.header.specs.Placed.{Placed};
 ghost use lib.ListN.{length};
-ghost use Rattle.font.specs.Check.{checkOf};
+ghost use Rattle.stages.specs.Check.{checkOf};
 ghost use Rattle.convert.specs.Conversions.{psf1ToPsf2, psf1ToPsf2Into, psf2ToPsf1, psf2ToPsf1Into, psf2ToVfont2, psf2ToVfont2Into, vfont2ToPsf2, vfont2ToPsf2Into};
 ghost use Rattle.bitmap.specs.Bitmaps.{viewOf, PartInside};
 ghost use Rattle.fonts.specs.Questions.{glyphPartOf, rowPartOf, pixelAt, fontItems, itemOn, itemOf, valueOn, valueGlyph, anyHigh, askable, sequenceOn, sequenceGlyph};
@@ -34,7 +34,7 @@ pub enum Lookup {
 pub fn check(file: &[u8]) -> Checked
     ensures { λ r. ⌜ r ≡ checkOf (now (file .entry)) ⌝ }
 {
-    font::check(file)
+    stages::check(file)
 }
 
 // Offset and length of glyph g's bytes. Refusals: the font's own (1 to 12), ASK, NO GLYPH.
@@ -42,7 +42,7 @@ pub fn glyph_part(file: &[u8], g: usize) -> Part
     ensures equal { λ r. ⌜ r ≡ glyphPartOf (now (file .entry)) g ⌝ }
     ensures bounded { λ r. ⌜ PartInside (now (file .entry)) r ⌝ }
 {
-    let a = font::check(file);
+    let a = stages::check(file);
     match a {
         Checked::Sound(f) => bitmap::glyph_part(file, f, g),
         Checked::Refused(r) => Part::Refused(r),
@@ -65,7 +65,7 @@ pub fn row_part(file: &[u8], g: usize, y: usize) -> Part
     ensures equal { λ r. ⌜ r ≡ rowPartOf (now (file .entry)) g y ⌝ }
     ensures bounded { λ r. ⌜ PartInside (now (file .entry)) r ⌝ }
 {
-    let a = font::check(file);
+    let a = stages::check(file);
     match a {
         Checked::Sound(f) => bitmap::row_part(file, f, g, y),
         Checked::Refused(r) => Part::Refused(r),
@@ -88,7 +88,7 @@ pub fn row<'a>(file: &'a [u8], g: usize, y: usize) -> &'a [u8]
 pub fn pixel(file: &[u8], g: usize, y: usize, x: usize) -> Pixel
     ensures { λ r. ⌜ r ≡ pixelAt (now (file .entry)) g y x ⌝ }
 {
-    let a = font::check(file);
+    let a = stages::check(file);
     match a {
         Checked::Sound(f) => bitmap::pixel_at(file, f, g, y, x),
         Checked::Refused(r) => Pixel::NoPixel(r),
@@ -103,7 +103,7 @@ fn item_on(file: &[u8], f: Font, g: usize, k: usize) -> Walk
     if f.table {
         let end = f.end;
         let kind = f.kind;
-        let w = lookup::item_at(font::coding_of(kind), &file[end..], g, k);
+        let w = lookup::item_at(stages::coding_of(kind), &file[end..], g, k);
         return match w {
             Walked::Found(i) => Walk::Is(i),
             Walked::Nothing => Walk::NoWalk(Refusal::Ask),
@@ -117,7 +117,7 @@ fn item_on(file: &[u8], f: Font, g: usize, k: usize) -> Walk
 pub fn item(file: &[u8], g: usize, k: usize) -> Walk
     ensures { λ r. ⌜ r ≡ itemOf (now (file .entry)) g k ⌝ }
 {
-    let a = font::check(file);
+    let a = stages::check(file);
     match a {
         Checked::Sound(f) => item_on(file, f, g, k),
         Checked::Refused(r) => Walk::NoWalk(r),
@@ -135,7 +135,7 @@ fn value_on(file: &[u8], f: Font, v: u32) -> Lookup
         }
         let end = f.end;
         let kind = f.kind;
-        let w = lookup::find_value(font::coding_of(kind), &file[end..], v);
+        let w = lookup::find_value(stages::coding_of(kind), &file[end..], v);
         return match w {
             Found::At(g) => Lookup::Glyph(g),
             Found::Nothing => Lookup::NoLookup(Refusal::Unmapped),
@@ -149,7 +149,7 @@ fn value_on(file: &[u8], f: Font, v: u32) -> Lookup
 pub fn find_value(file: &[u8], v: u32) -> Lookup
     ensures { λ r. ⌜ r ≡ valueGlyph (now (file .entry)) v ⌝ }
 {
-    let a = font::check(file);
+    let a = stages::check(file);
     match a {
         Checked::Sound(f) => value_on(file, f, v),
         Checked::Refused(r) => Lookup::NoLookup(r),
@@ -189,7 +189,7 @@ fn sequence_on(file: &[u8], f: Font, vs: &[u32]) -> Lookup
         if may_ask(vs) {
             let end = f.end;
             let kind = f.kind;
-            let w = lookup::find_sequence(font::coding_of(kind), &file[end..], vs);
+            let w = lookup::find_sequence(stages::coding_of(kind), &file[end..], vs);
             return match w {
                 Found::At(g) => Lookup::Glyph(g),
                 Found::Nothing => Lookup::NoLookup(Refusal::Unmapped),
@@ -205,7 +205,7 @@ fn sequence_on(file: &[u8], f: Font, vs: &[u32]) -> Lookup
 pub fn find_sequence(file: &[u8], vs: &[u32]) -> Lookup
     ensures { λ r. ⌜ r ≡ sequenceGlyph (now (file .entry)) (now (vs .entry)) ⌝ }
 {
-    let a = font::check(file);
+    let a = stages::check(file);
     match a {
         Checked::Sound(f) => sequence_on(file, f, vs),
         Checked::Refused(r) => Lookup::NoLookup(r),

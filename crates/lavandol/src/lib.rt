@@ -11,7 +11,7 @@ use refusal::Refusal;
 use table::Item;
 ghost use mathlib.Core.Path.{_≡_};
 ghost use lib.ListN.{length};
-ghost use Rattle.font.specs.Check.{checkOf};
+ghost use Rattle.stages.specs.Check.{checkOf};
 ghost use Rattle.fonts.specs.Questions.{glyphPartOf, rowPartOf, pixelAt, itemOf, valueGlyph, sequenceGlyph};
 ghost use Rattle.convert.specs.Conversions.{psf1ToPsf2, psf1ToPsf2Into, psf2ToPsf1, psf2ToPsf1Into, psf2ToVfont2, psf2ToVfont2Into, vfont2ToPsf2, vfont2ToPsf2Into};
 ghost use Rattle.lavandol.specs.Boundary.{kindNumber, flagNumber, fontAnswer, partAnswer, numberAnswer, refusedNumber, pixelAnswer, lookupAnswer, itemAnswer, walkAnswer, convertedAnswer};

@@ -35,8 +35,8 @@ use Rattle.bitmap.specs.declared.Pixel.{Pixel}
 use Rattle.bitmap.specs.declared.Pixel.the-variants.{Bit, NoPixel}
 use Rattle.bitmap.specs.Bitmaps.{evenBitmap, entryBitmap, bitmapOf, wholeOf, rowOf, bitOf, pixelOf, Inside, LocatedInside}
 use Rattle.bitmap.proofs.Places.{known, located-inside, too-high, row-in, row-below, pixel-in, pixel-past, pixel-below}
-use Rattle.font.specs.Check.{checkOf}
-use Rattle.font.proofs.Cases.{accepted}
+use Rattle.stages.specs.Check.{checkOf}
+use Rattle.stages.proofs.Cases.{accepted}
 use Rattle.fonts.specs.Questions.{glyphPartOf, rowPartOf, pixelAt}
 use Rattle.laws.proofs.Rows.{equal}
 

@@ -22,7 +22,7 @@ use Rattle.lookup.specs.declared.Found.{Found}
 use Rattle.lookup.specs.declared.Found.the-variants.{At as FoundAt, Nothing}
 use Rattle.lookup.specs.Lookup.{itemAt, findValue, findSequence}
 use Rattle.lookup.specs.Listing.{Any}
-use Rattle.font.specs.Check.{checkOf}
+use Rattle.stages.specs.Check.{checkOf}
 use Rattle.fonts.specs.declared.Walk.{Walk}
 use Rattle.fonts.specs.declared.Walk.the-variants.{Is, NoWalk}
 use Rattle.fonts.specs.declared.Lookup.{Lookup}

@@ -34,8 +34,8 @@ use Rattle.header.specs.declared.Checked.the-variants.{Sound, Refused}
 use Rattle.header.specs.Headers.{headerOf}
 use Rattle.header.specs.Placed.{Placed}
 use Rattle.header.proofs.Inverse.{placed}
-use Rattle.font.specs.Check.{codingOf, tailOf, answered, bodyOf, checkOf}
-use Rattle.font.proofs.Cases.{with-table, header-sound}
+use Rattle.stages.specs.Check.{codingOf, tailOf, answered, bodyOf, checkOf}
+use Rattle.stages.proofs.Cases.{with-table, header-sound}
 use Rattle.fonts.specs.declared.Walk.{Walk}
 use Rattle.fonts.specs.declared.Walk.the-variants.{Is, NoWalk}
 use Rattle.fonts.specs.declared.Lookup.{Lookup}

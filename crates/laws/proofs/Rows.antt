@@ -29,8 +29,8 @@ use Rattle.header.specs.declared.Checked.{Checked}
 use Rattle.header.specs.declared.Checked.the-variants.{Sound, Refused}
 use Rattle.header.specs.Headers.{limit, kindOf, psf1Count, psf1Table, psf1Font, psf1Of, fieldsOf, headOf, psf2Font, psf2Body, vfont2Font, entriesOf, vfont2Body, namedOf, headerOf}
 use Rattle.header.proofs.Cases as cases
-use Rattle.font.specs.Check.{codingOf, tailOf, answered, bodyOf, checkOf}
-use Rattle.font.proofs.Cases.{header-sound, header-refused, bare-trailing, bare-sound}
+use Rattle.stages.specs.Check.{codingOf, tailOf, answered, bodyOf, checkOf}
+use Rattle.stages.proofs.Cases.{header-sound, header-refused, bare-trailing, bare-sound}
 use Rattle.laws.specs.Rows.{row, rowAt, TableRows, BareRows, TailRows, Psf1Rows, HeadRows, Psf2Rows, Vfont2Rows, Begins, psf1Magic, psf2Magic, vfont2Magic, KindRows, Rows}
 use Rattle.laws.proofs.Magic.{kind-says}
 use Rattle.laws.proofs.Tables.{accepted-exactly, cut-exactly, bad-exactly, trailing-exactly}

@@ -20,7 +20,7 @@ use Rattle.lookup.specs.Listing.{ListsValue, ListsSequence, Lowest, Nowhere, It
 use Rattle.header.specs.declared.Font.{Font}
 use Rattle.header.specs.declared.Checked.the-variants.{Sound, Refused}
 use Rattle.header.specs.Headers.{headerOf}
-use Rattle.font.specs.Check.{codingOf, tailOf, checkOf}
+use Rattle.stages.specs.Check.{codingOf, tailOf, checkOf}
 use Rattle.fonts.specs.declared.Walk.the-variants.{Is, NoWalk}
 use Rattle.fonts.specs.declared.Lookup.the-variants.{Glyph, NoLookup}
 use Rattle.fonts.specs.Questions.{itemOf, valueGlyph, askable, sequenceGlyph}

@@ -16,7 +16,7 @@ use Rattle.header.specs.declared.Font.{Font}
 use Rattle.header.specs.declared.Checked.{Checked}
 use Rattle.header.specs.declared.Checked.the-variants.{Sound, Refused}
 use Rattle.header.specs.Headers.{limit, psf1Count, psf1Table, psf1Font, fieldsOf, psf2Font, vfont2Font}
-use Rattle.font.specs.Check.{codingOf, tailOf}
+use Rattle.stages.specs.Check.{codingOf, tailOf}
 
 -- a row: it applies and is given, or it does not and the rest decides
 unfoldable pub row : Type 0 → Refusal → (Checked → Type 0) → Checked → Type 0

@@ -15,7 +15,7 @@ use Rattle.refusal.specs.declared.Refusal.the-variants.{Room}
 use Rattle.coding.specs.declared.Coding.{Coding}
 use Rattle.header.specs.declared.Font.{Font}
 use Rattle.header.specs.declared.Checked.{Checked}
-use Rattle.font.specs.Check.{codingOf, checkOf}
+use Rattle.stages.specs.Check.{codingOf, checkOf}
 use Rattle.listing.specs.declared.Listed.{Listed}
 use Rattle.listing.specs.declared.Listed.the-variants.{Wrote, Refused as Unlisted}
 use Rattle.listing.specs.Text.{firstLine, tableText, linesText, fontText, bigText, answerText, listingOf, listedOf, leftOf}

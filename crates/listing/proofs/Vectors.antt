@@ -10,7 +10,7 @@ use Rattle.table.specs.Steps.{stepsFrom, toldAs, told}
 use Rattle.table.specs.Check.{checkSteps}
 use Rattle.entries.specs.Entries.{glyphBytes}
 use Rattle.header.specs.Headers.{kindOf, headOf, psf2Body, headerOf}
-use Rattle.font.specs.Check.{bodyOf, checkOf}
+use Rattle.stages.specs.Check.{bodyOf, checkOf}
 use Rattle.listing.specs.Text.{digitOf, digits, decimal, hexadecimal, numberText, firstLine, pieceOf, linesOf, tableText, linesText, fontText, listingOf}
 
 -- the header with header size 32, flags 1, n = 2, c = 2, height 2, width 3; bitmaps A0 40 E0 20; table 41 FF C3 85 FE 41 CC 8A FF

@@ -305,7 +305,7 @@ fn lines_len(file: &[u8], f: Font) -> usize
     if f.table {
         let end = f.end;
         let kind = f.kind;
-        return table_len(font::coding_of(kind), &file[end..]);
+        return table_len(stages::coding_of(kind), &file[end..]);
     }
     0
 }
@@ -318,7 +318,7 @@ fn put_lines(file: &[u8], f: Font, out: &mut [u8])
     if f.table {
         let end = f.end;
         let kind = f.kind;
-        put_table(font::coding_of(kind), &file[end..], out);
+        put_table(stages::coding_of(kind), &file[end..], out);
     }
 }
 
@@ -370,7 +370,7 @@ pub fn list(file: &[u8], out: &mut [u8]) -> Listed
     if 65536 < file.len() {
         return list_text(b"too big\n", out);
     }
-    let a = font::check(file);
+    let a = stages::check(file);
     match a {
         Checked::Sound(f) => list_font(file, f, out),
         Checked::Refused(r) => list_refused(r, out),

@@ -23,7 +23,7 @@ use Rattle.header.specs.declared.Checked.{Checked}
 use Rattle.header.specs.declared.Checked.the-variants.{Sound, Refused}
 use Rattle.header.specs.Headers.{limit}
 use Rattle.header.specs.Placed.{Placed}
-use Rattle.font.specs.Check.{tailOf, checkOf}
+use Rattle.stages.specs.Check.{tailOf, checkOf}
 use Rattle.plan.specs.declared.Evenness.{Evenness}
 use Rattle.plan.specs.declared.Evenness.the-variants.{Even, Uneven}
 use Rattle.plan.specs.declared.Plan.{Plan}

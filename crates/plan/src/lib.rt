@@ -51,7 +51,7 @@ fn opened(file: &[u8], k: Kind) -> Checked
     ensures equal { λ r. ⌜ r ≡ openedOf k (now (file .entry)) ⌝ }
     ensures bounded { λ r. ⌜ OpenedPlaced k (now (file .entry)) r ⌝ }
 {
-    let a = font::check(file);
+    let a = stages::check(file);
     match a {
         Checked::Sound(f) => {
             let kind = f.kind;

@@ -6,7 +6,7 @@ use Rattle.fonts.proofs.find_sequence.Statement.{statement}
 use Rattle.fonts.proofs.find_sequence.Tie as tie
 use Rattle.fonts.proofs.find_sequence.Reads as reads
 use Rattle.fonts.proofs.find_sequence.Lts as lts
-use Rattle.font.proofs.check.Reads as check-reads
+use Rattle.stages.proofs.check.Reads as check-reads
 use Rattle.fonts.proofs.sequence_on.Reads as sequence-on-reads
 
 check-requires : tie.Need-check-requires

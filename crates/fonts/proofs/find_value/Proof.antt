@@ -6,7 +6,7 @@ use Rattle.fonts.proofs.find_value.Statement.{statement}
 use Rattle.fonts.proofs.find_value.Tie as tie
 use Rattle.fonts.proofs.find_value.Reads as reads
 use Rattle.fonts.proofs.find_value.Lts as lts
-use Rattle.font.proofs.check.Reads as check-reads
+use Rattle.stages.proofs.check.Reads as check-reads
 use Rattle.fonts.proofs.value_on.Reads as value-on-reads
 
 check-requires : tie.Need-check-requires

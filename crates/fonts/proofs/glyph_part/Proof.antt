@@ -7,7 +7,7 @@ use Rattle.fonts.proofs.glyph_part.Tie as tie
 use Rattle.fonts.proofs.glyph_part.Reads as reads
 use Rattle.fonts.proofs.glyph_part.Lts as lts
 use Rattle.bitmap.proofs.glyph_part.Reads as glyph-part-reads
-use Rattle.font.proofs.check.Reads as check-reads
+use Rattle.stages.proofs.check.Reads as check-reads
 
 check-requires : tie.Need-check-requires
 check-requires c κs = search needs

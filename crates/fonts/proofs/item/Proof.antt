@@ -6,7 +6,7 @@ use Rattle.fonts.proofs.item.Statement.{statement}
 use Rattle.fonts.proofs.item.Tie as tie
 use Rattle.fonts.proofs.item.Reads as reads
 use Rattle.fonts.proofs.item.Lts as lts
-use Rattle.font.proofs.check.Reads as check-reads
+use Rattle.stages.proofs.check.Reads as check-reads
 use Rattle.fonts.proofs.item_on.Reads as item-on-reads
 
 check-requires : tie.Need-check-requires

@@ -6,7 +6,7 @@ use Rattle.fonts.proofs.item_on.Statement.{statement}
 use Rattle.fonts.proofs.item_on.Tie as tie
 use Rattle.fonts.proofs.item_on.Reads as reads
 use Rattle.fonts.proofs.item_on.Lts as lts
-use Rattle.font.proofs.coding_of.Reads as coding-of-reads
+use Rattle.stages.proofs.coding_of.Reads as coding-of-reads
 use Rattle.lookup.proofs.item_at.Reads as item-at-reads
 
 coding-of-requires : tie.Need-coding-of-requires

@@ -7,7 +7,7 @@ use Rattle.fonts.proofs.pixel.Tie as tie
 use Rattle.fonts.proofs.pixel.Reads as reads
 use Rattle.fonts.proofs.pixel.Lts as lts
 use Rattle.bitmap.proofs.pixel_at.Reads as pixel-at-reads
-use Rattle.font.proofs.check.Reads as check-reads
+use Rattle.stages.proofs.check.Reads as check-reads
 
 check-requires : tie.Need-check-requires
 check-requires c κs = search needs

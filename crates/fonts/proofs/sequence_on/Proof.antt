@@ -6,7 +6,7 @@ use Rattle.fonts.proofs.sequence_on.Statement.{statement}
 use Rattle.fonts.proofs.sequence_on.Tie as tie
 use Rattle.fonts.proofs.sequence_on.Reads as reads
 use Rattle.fonts.proofs.sequence_on.Lts as lts
-use Rattle.font.proofs.coding_of.Reads as coding-of-reads
+use Rattle.stages.proofs.coding_of.Reads as coding-of-reads
 use Rattle.fonts.proofs.may_ask.Reads as may-ask-reads
 use Rattle.lookup.proofs.find_sequence.Reads as find-sequence-reads
 

@@ -6,7 +6,7 @@ use Rattle.fonts.proofs.value_on.Statement.{statement}
 use Rattle.fonts.proofs.value_on.Tie as tie
 use Rattle.fonts.proofs.value_on.Reads as reads
 use Rattle.fonts.proofs.value_on.Lts as lts
-use Rattle.font.proofs.coding_of.Reads as coding-of-reads
+use Rattle.stages.proofs.coding_of.Reads as coding-of-reads
 use Rattle.lookup.proofs.find_value.Reads as find-value-reads
 
 returns : tie.Need-returns

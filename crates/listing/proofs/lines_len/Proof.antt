@@ -8,7 +8,7 @@ use Rattle.listing.proofs.lines_len.Statement.{statement}
 use Rattle.listing.proofs.lines_len.Tie as tie
 use Rattle.listing.proofs.lines_len.Reads as reads
 use Rattle.listing.proofs.lines_len.Lts as lts
-use Rattle.font.proofs.coding_of.Reads as coding-of-reads
+use Rattle.stages.proofs.coding_of.Reads as coding-of-reads
 use Rattle.listing.proofs.table_len.Reads as table-len-reads
 
 coding-of-requires : tie.Need-coding-of-requires

@@ -10,7 +10,7 @@ use Rattle.listing.proofs.list.Statement.{statement}
 use Rattle.listing.proofs.list.Tie as tie
 use Rattle.listing.proofs.list.Reads as reads
 use Rattle.listing.proofs.list.Lts as lts
-use Rattle.font.proofs.check.Reads as check-reads
+use Rattle.stages.proofs.check.Reads as check-reads
 use Rattle.listing.proofs.list_font.Reads as list-font-reads
 use Rattle.listing.proofs.list_refused.Reads as list-refused-reads
 use Rattle.listing.proofs.list_text.Reads as list-text-reads

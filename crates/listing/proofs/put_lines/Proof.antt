@@ -12,7 +12,7 @@ use Rattle.listing.proofs.put_lines.Statement.{statement}
 use Rattle.listing.proofs.put_lines.Tie as tie
 use Rattle.listing.proofs.put_lines.Reads as reads
 use Rattle.listing.proofs.put_lines.Lts as lts
-use Rattle.font.proofs.coding_of.Reads as coding-of-reads
+use Rattle.stages.proofs.coding_of.Reads as coding-of-reads
 use Rattle.listing.proofs.put_table.Reads as put-table-reads
 
 coding-of-requires : tie.Need-coding-of-requires

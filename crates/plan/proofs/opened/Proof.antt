@@ -7,7 +7,7 @@ use Rattle.plan.proofs.opened.Statement.{statement}
 use Rattle.plan.proofs.opened.Tie as tie
 use Rattle.plan.proofs.opened.Reads as reads
 use Rattle.plan.proofs.opened.Lts as lts
-use Rattle.font.proofs.check.Reads as check-reads
+use Rattle.stages.proofs.check.Reads as check-reads
 use Rattle.plan.proofs.same_kind.Reads as same-kind-reads
 
 check-requires : tie.Need-check-requires

@@ -1,19 +1,22 @@
--- `font::check_tail` meets its contract: the table reader's answer on the tail, with places moved to the file. Assumes nothing.
-use Rattle.font.proofs.Cases.{place-fits}
-use Rattle.font.specs.Check.{codingOf, tailOf, answered}
-use Rattle.table.specs.Check.{tableOf, placeOf}
-use Rattle.base.proofs.Parts.{rest-all, bytes-of}
-use denote.Ref.{now}
-use lib.ListN.{length, take, drop}
-use Prim.Native.Nat.{_+_, _-_, _≤_}
-use mathlib.Core.Path.{_≡_, sym, _∙_, ap}
+-- `stages::check_font_table` meets its contract: the table reader's answer on the tail, with places moved to the file. Assumes `Placed`.
 use native.Mathlib.Omega.{arith}
+use mathlib.Core.Path.{_≡_, refl, sym, _∙_, ap}
+use Rattle.header.specs.declared.Checked.the-variants.{Sound, Refused}
+use Prim.Native.Nat.{_+_, _-_, _≤_}
+use lib.ListN.{length, take, drop}
+use denote.Ref.{now}
+use Rattle.base.proofs.Parts.{rest-all, bytes-of}
+use Rattle.table.specs.Check.{tableOf, placeOf}
+use Rattle.stages.specs.Meaning.{codingOf, tailOf}
+use Rattle.stages.specs.Reading.{answered}
+use Rattle.stages.proofs.Cases.{place-fits}
 use borrow.Author.Needs.{needs}
-use Rattle.font.proofs.check_tail.Statement.{statement}
-use Rattle.font.proofs.check_tail.Tie as tie
-use Rattle.font.proofs.check_tail.Reads as reads
-use Rattle.font.proofs.check_tail.Lts as lts
-use Rattle.font.proofs.coding_of.Reads as coding-of-reads
+use Rattle.stages.proofs.check_font_table.Statement.{statement}
+use Rattle.stages.proofs.check_font_table.Tie as tie
+use Rattle.stages.proofs.check_font_table.Reads as reads
+use Rattle.stages.proofs.check_font_table.Lts as lts
+use Rattle.refusal.proofs.refuse.Reads as refuse-reads
+use Rattle.stages.proofs.coding_of.Reads as coding-of-reads
 use Rattle.table.proofs.check_table.Reads as check-table-reads
 
 told : (c : tie.After-check-table) → c .check-table .result ≡ tableOf (codingOf (c .before .before .before .before .args .f .kind)) (c .before .before .before .before .args .f .count) (tailOf (now (c .before .before .before .before .args .file)) (c .before .before .before .before .args .f))
@@ -46,35 +49,44 @@ enum-told c = search needs
 enum-known-a : tie.Need-enum-known-a
 enum-known-a c = search needs
 
-add-t15 : tie.Need-add-t15
-add-t15 c = omega (arith, rw (c .before .a .given .1) at (fits (c .before .before .before)))
+add-refuse : tie.Need-add-refuse
+add-refuse c = omega (arith, rw (c .before .a .given .1) at (fits (c .before .before .before)))
+
+refuse-requires : tie.Need-refuse-requires
+refuse-requires c κs = search needs
 
 enum-known-a-2 : tie.Need-enum-known-a-2
 enum-known-a-2 c = search needs
 
-add-t17 : tie.Need-add-t17
-add-t17 c = omega (arith, rw (c .before .a2 .given .1) at (fits (c .before .before .before)))
+add-refuse-2 : tie.Need-add-refuse-2
+add-refuse-2 c = omega (arith, rw (c .before .a2 .given .1) at (fits (c .before .before .before)))
+
+refuse-requires-2 : tie.Need-refuse-requires-2
+refuse-requires-2 c κs = search needs
 
 enum-known-a-3 : tie.Need-enum-known-a-3
 enum-known-a-3 c = search needs
 
-add-t19 : tie.Need-add-t19
-add-t19 c = omega (arith, rw (c .before .a3 .given .1) at (fits (c .before .before .before)))
+add-refuse-3 : tie.Need-add-refuse-3
+add-refuse-3 c = omega (arith, rw (c .before .a3 .given .1) at (fits (c .before .before .before)))
+
+refuse-requires-3 : tie.Need-refuse-requires-3
+refuse-requires-3 c κs = search needs
 
 returns : tie.Need-returns
 returns c = rw (c .enum-told .given .1) at (ap (answered (c .before .before .before .before .before .before .args .f)) (told (c .before .before)))
 
 returns-2 : tie.Need-returns-2
-returns-2 c = rw (c .before .a .given .1) at (ap (answered (c .before .before .before .before .before .before .before .args .f)) (told (c .before .before .before)))
+returns-2 c = ap Refused (c .refuse .ensures) ∙ (rw (c .before .before .a .given .1) at (ap (answered (c .before .before .before .before .before .before .before .before .args .f)) (told (c .before .before .before .before))))
 
 returns-3 : tie.Need-returns-3
-returns-3 c = rw (c .before .a2 .given .1) at (ap (answered (c .before .before .before .before .before .before .before .args .f)) (told (c .before .before .before)))
+returns-3 c = ap Refused (c .refuse2 .ensures) ∙ (rw (c .before .before .a2 .given .1) at (ap (answered (c .before .before .before .before .before .before .before .before .args .f)) (told (c .before .before .before .before))))
 
 returns-4 : tie.Need-returns-4
-returns-4 c = rw (c .before .a3 .given .1) at (ap (answered (c .before .before .before .before .before .before .before .args .f)) (told (c .before .before .before)))
+returns-4 c = ap Refused (c .refuse3 .ensures) ∙ (rw (c .before .before .a3 .given .1) at (ap (answered (c .before .before .before .before .before .before .before .before .args .f)) (told (c .before .before .before .before))))
 
-pub check-tail-spec : {M : Type 1} → statement M
-check-tail-spec =
+pub check-font-table-spec : {M : Type 1} → statement M
+check-font-table-spec =
     tie.close
     (tie.spec
     coding-of-requires
@@ -84,11 +96,14 @@ check-tail-spec =
     check-table-requires
     enum-told
     enum-known-a
-    add-t15
+    add-refuse
+    refuse-requires
     enum-known-a-2
-    add-t17
+    add-refuse-2
+    refuse-requires-2
     enum-known-a-3
-    add-t19
+    add-refuse-3
+    refuse-requires-3
     returns
     returns-2
     returns-3

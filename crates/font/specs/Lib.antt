@@ -1,2 +1,0 @@
--- The check of a whole font.
-pub mod Check

@@ -1,0 +1,206 @@
+-- The stages of the check one by one: what each is where it refuses or passes, and what is known of a font that passed.
+use mathlib.Core.Path.{_≡_, refl, sym, _∙_, ap, subst}
+use mathlib.Core.List.{List}
+use mathlib.Core.Bool.{Bool, true, false}
+use Prim.Native.Nat.{ℕ, _+_, _≤_, _<_}
+use native.Mathlib.Omega.{arith}
+use lib.Dec.{ltb}
+use lib.ListN.{length, getD, drop, length-drop}
+use borrow.Author.Tests.{lt-ltb, le-ltb, ltb-false, eqb-true, not-false}
+use Rattle.base.specs.Choice.{pick, when}
+use Rattle.base.specs.Bytes.{Bytes}
+use Rattle.base.proofs.Chain.{chain}
+use Rattle.base.proofs.Parts.{bytes-drop}
+use Rattle.refusal.specs.Refusals.{refusal}
+use Rattle.refusal.specs.declared.Refusal.{Refusal}
+use Rattle.refusal.specs.declared.Reason.the-variants.{TooLong, BodyCut, Entry, Trailing}
+use Rattle.coding.specs.declared.Coding.{Coding}
+use Rattle.table.specs.declared.TableAnswer.{TableAnswer}
+use Rattle.table.specs.declared.TableAnswer.the-variants.{Complete, Cut, Bad, Trailing as Over}
+use Rattle.table.specs.Check.{tableOf, placeOf}
+use Rattle.table.proofs.Meaning.{place-within}
+use Rattle.header.specs.declared.Kind.{Kind}
+use Rattle.header.specs.declared.Kind.the-variants.{Psf1, Psf2, Vfont2}
+use Rattle.header.specs.declared.Font.{Font}
+use Rattle.header.specs.declared.Checked.{Checked}
+use Rattle.header.specs.declared.Checked.the-variants.{Sound, Refused}
+use Rattle.header.specs.Meaning.{limit}
+use Rattle.header.specs.Reading.{saysOf}
+use Rattle.header.specs.Bounds.{Described, Placed}
+use Rattle.header.proofs.Known.{never, passes, described}
+use Rattle.entries.specs.declared.Scan.{Scan}
+use Rattle.entries.specs.declared.Scan.the-variants.{BrokenAt, Greatest}
+use Rattle.entries.specs.Reading.{scanOf}
+use Rattle.stages.specs.Meaning.{codingOf, tailOf}
+use Rattle.stages.specs.Reading.{andThen, sized, greatestOf, scanned, kindEntries, entriesOf, answered, bareOf, tailed, throughBody, throughEntries, checkOf}
+use Rattle.stages.specs.Bounds.{CheckedPlaced}
+
+-- 8
+module _ (len : ℕ) (f : Font) where
+  pub body-cut : len < f .end → Refused (refusal BodyCut len) ≡ sized len f
+  unfolding sized
+  body-cut h = search chain depth 30
+
+  pub body-whole : f .end ≤ len → Sound f ≡ sized len f
+  unfolding sized
+  body-whole h = search chain depth 30
+
+-- 9
+module _ (f : Font) (h w : ℕ) where
+  pub height-wrong : (f .height ≡ h → ⊥) → Refused (refusal Entry 24) ≡ greatestOf f h w
+  unfolding greatestOf
+  height-wrong p = search chain depth 30
+
+  pub width-wrong : (f .height ≡ h) × (f .width ≡ w → ⊥) → Refused (refusal Entry 28) ≡ greatestOf f h w
+  unfolding greatestOf
+  width-wrong p = search chain depth 30
+
+  pub greatest-right : (f .height ≡ h) × (f .width ≡ w) → Sound f ≡ greatestOf f h w
+  unfolding greatestOf
+  greatest-right p = search chain depth 30
+
+pub entries-of : (s : List ℕ) (f : Font) (k : Kind) → f .kind ≡ k → kindEntries s f k ≡ entriesOf s f
+unfolding entriesOf
+entries-of s f k e = rw e
+
+-- 10 to 12: a table's place lies in the tail, and so is an offset within the file
+pub place-fits : (s : List ℕ) (f : Font) → Bytes s → Placed s f → (c : Coding) → f .end + placeOf (tableOf c (f .count) (tailOf s f)) ≤ length s
+place-fits s f y p c =
+    omega (arith, p .7, place-within c (f .count) (tailOf s f) (bytes-drop (f .end) s y), length-drop (f .end) s)
+
+module _ (s : List ℕ) (f : Font) where
+  pub with-table : f .table ≡ true → answered f (tableOf (codingOf (f .kind)) (f .count) (tailOf s f)) ≡ tailed s f
+  unfolding tailed
+  with-table e = rw e
+
+  bare : f .table ≡ false → bareOf s f ≡ tailed s f
+  unfolding tailed
+  bare e = rw e
+
+  pub bare-trailing : f .table ≡ false → f .end < length s → Refused (refusal Trailing (f .end)) ≡ tailed s f
+  unfolding bareOf when
+  bare-trailing e h = let g : Refused (refusal Trailing (f .end)) ≡ bareOf s f = rw (lt-ltb (f .end) (length s) h) in g ∙ bare e
+
+  pub bare-sound : f .table ≡ false → length s ≤ f .end → Sound f ≡ tailed s f
+  unfolding bareOf when
+  bare-sound e h = let g : Sound f ≡ bareOf s f = rw (le-ltb (f .end) (length s) h) in g ∙ bare e
+
+-- stage after stage, each handing a refusal through
+module _ (s : List ℕ) where
+  pub too-long : limit < length s → Refused (refusal TooLong limit) ≡ throughBody s
+  unfolding throughBody
+  too-long h = search chain depth 30
+
+  pub body-after : (x : Checked) → saysOf s ≡ x → length s ≤ limit → andThen x (sized (length s)) ≡ throughBody s
+  unfolding throughBody when
+  body-after x e h = rw (le-ltb limit (length s) h, e)
+
+  pub entries-after : (x : Checked) → throughBody s ≡ x → andThen x (entriesOf s) ≡ throughEntries s
+  unfolding throughEntries
+  entries-after x e = rw e
+
+  pub tail-after : (x : Checked) → throughEntries s ≡ x → andThen x (tailed s) ≡ checkOf s
+  unfolding checkOf
+  tail-after x e = rw e
+
+-- a stage that passes gives the font that it was given
+abbrev Gives : (Font → Checked) → Type 0
+Gives next = (f g : Font) → next f ≡ Sound g → f ≡ g
+
+sound-same : (f g : Font) → Sound f ≡ Sound g → f ≡ g
+sound-same f g e = cc
+
+then-sound : (x : Checked) (next : Font → Checked) → Gives next → (g : Font) → andThen x next ≡ Sound g → (x ≡ Sound g) × (next g ≡ Sound g)
+then-sound (Sound f) next gives g e = let h = gives f g e in (ap Sound h, subst (λ (x : Font). next x ≡ Sound g) h e)
+then-sound (Refused r) next gives g e = absurd (never r g e)
+
+sized-gives : (len : ℕ) → Gives (sized len)
+unfolding sized
+sized-gives len f g e = sound-same f g (passes _ _ _ g e .1)
+
+greatest-gives : (h w : ℕ) → Gives (λ f. greatestOf f h w)
+unfolding greatestOf
+greatest-gives h w f g e = sound-same f g (passes _ _ _ g (passes _ _ _ g e .1) .1)
+
+scanned-gives : (f g : Font) (x : Scan) → scanned f x ≡ Sound g → f ≡ g
+scanned-gives f g (BrokenAt i) e = absurd (never _ g e)
+scanned-gives f g (Greatest h w) e = greatest-gives h w f g e
+
+entries-gives : (s : List ℕ) → Gives (entriesOf s)
+unfolding entriesOf
+entries-gives s f g e = go (f .kind) e
+  where
+    go : (k : Kind) → kindEntries s f k ≡ Sound g → f ≡ g
+    go Psf1 e = sound-same f g e
+    go Psf2 e = sound-same f g e
+    go Vfont2 e = scanned-gives f g (scanOf s (f .size) (f .entries) (f .count) 0 0 0) e
+
+tailed-gives : (s : List ℕ) → Gives (tailed s)
+unfolding tailed bareOf
+tailed-gives s f g e = go (f .table) e
+  where
+    told : (a : TableAnswer) → answered f a ≡ Sound g → f ≡ g
+    told Complete e = sound-same f g e
+    told (Cut k i) e = absurd (never _ g e)
+    told (Bad k i) e = absurd (never _ g e)
+    told (Over k) e = absurd (never _ g e)
+
+    go : (t : Bool) → pick t (answered f (tableOf (codingOf (f .kind)) (f .count) (tailOf s f))) (when (ltb (f .end) (length s)) (Refused (refusal Trailing (f .end))) (Sound f)) ≡ Sound g → f ≡ g
+    go true e = told (tableOf (codingOf (f .kind)) (f .count) (tailOf s f)) e
+    go false e = sound-same f g (passes _ _ _ g e .1)
+
+-- a font that passed, and every stage that it passed
+module _ (s : List ℕ) (f : Font) where
+  pub passed-body : throughBody s ≡ Sound f → (length s ≤ limit) × (saysOf s ≡ Sound f) × (f .end ≤ length s)
+  unfolding throughBody sized
+  passed-body e =
+      let a = passes _ _ _ f e in
+      let b = then-sound (saysOf s) (sized (length s)) (sized-gives (length s)) f (a .1) in
+      (ltb-false _ _ (a .0), b .0, ltb-false _ _ (passes _ _ _ f (b .1) .0))
+
+  pub passed-entries : throughEntries s ≡ Sound f → (throughBody s ≡ Sound f) × (entriesOf s f ≡ Sound f)
+  unfolding throughEntries
+  passed-entries e = then-sound (throughBody s) (entriesOf s) (entries-gives s) f e
+
+  pub accepted : checkOf s ≡ Sound f → (throughEntries s ≡ Sound f) × (tailed s f ≡ Sound f)
+  unfolding checkOf
+  accepted e = then-sound (throughEntries s) (tailed s) (tailed-gives s) f e
+
+  -- its parts stand in the file
+  module _ (byte : getD s 3 0 < 256) where
+    pub body-placed : throughBody s ≡ Sound f → Placed s f
+    body-placed e =
+        let b = passed-body e in
+        let d = described s f byte (b .1) in
+        (b .0, d .0, d .1, d .2, d .3, d .4, d .5, b .2, d .6)
+
+    pub placed : throughEntries s ≡ Sound f → Placed s f
+    placed e = body-placed (passed-entries e .0)
+
+  -- its entries say its greatest height and width
+  right : (x : Scan) → scanned f x ≡ Sound f → x ≡ Greatest (f .height) (f .width)
+  unfolding greatestOf
+  right (BrokenAt i) e = absurd (never _ f e)
+  right (Greatest h w) e =
+      let a = passes _ _ _ f e in
+      let b = passes _ _ _ f (a .1) in
+      let eh : f .height ≡ h = eqb-true _ _ (not-false _ (a .0)) in
+      let ew : f .width ≡ w = eqb-true _ _ (not-false _ (b .0)) in
+      λ i. Greatest (sym eh i) (sym ew i)
+
+  pub scan-right : f .kind ≡ Vfont2 → throughEntries s ≡ Sound f → scanOf s (f .size) (f .entries) (f .count) 0 0 0 ≡ Greatest (f .height) (f .width)
+  scan-right q e = right _ (entries-of s f Vfont2 q ∙ passed-entries e .1)
+
+-- what a call above knows of an answer
+module _ (s : List ℕ) (byte : getD s 3 0 < 256) where
+  pub body-known : (x : Checked) → x ≡ throughBody s → CheckedPlaced s x
+  body-known (Sound f) e = body-placed s f byte (sym e)
+  body-known (Refused r) e = tt
+
+  pub entries-known : (x : Checked) → x ≡ throughEntries s → CheckedPlaced s x
+  entries-known (Sound f) e = placed s f byte (sym e)
+  entries-known (Refused r) e = tt
+
+  pub checked-placed : (x : Checked) → x ≡ checkOf s → CheckedPlaced s x
+  checked-placed (Sound f) e = placed s f byte (accepted s f (sym e) .0)
+  checked-placed (Refused r) e = tt

@@ -1,0 +1,81 @@
+-- The check of a font, stage by stage (document 01, "The numbers said back"): its size (1), what its header says (2 to 7), its length (8),
+-- its entries (9), its tail (10 to 12). Each stage hands a refusal through.
+use Prim.Native.Nat.{ℕ, _+_}
+use mathlib.Core.List.{List}
+use mathlib.Core.Bool.{not}
+use lib.Dec.{ltb, eqb}
+use lib.ListN.{length}
+use Rattle.base.specs.Choice.{pick, when}
+use Rattle.refusal.specs.Refusals.{refusal}
+use Rattle.refusal.specs.declared.Reason.the-variants.{TooLong, BodyCut, Entry, TableCut, TableBad, Trailing}
+use Rattle.table.specs.declared.TableAnswer.{TableAnswer}
+use Rattle.table.specs.declared.TableAnswer.the-variants.{Complete, Cut, Bad, Trailing as Over}
+use Rattle.table.specs.Check.{tableOf}
+use Rattle.header.specs.declared.Kind.{Kind}
+use Rattle.header.specs.declared.Kind.the-variants.{Psf1, Psf2, Vfont2}
+use Rattle.header.specs.declared.Font.{Font}
+use Rattle.header.specs.declared.Checked.{Checked}
+use Rattle.header.specs.declared.Checked.the-variants.{Sound, Refused}
+use Rattle.header.specs.Meaning.{limit}
+use Rattle.header.specs.Reading.{saysOf}
+use Rattle.entries.specs.declared.Scan.{Scan}
+use Rattle.entries.specs.declared.Scan.the-variants.{BrokenAt, Greatest}
+use Rattle.entries.specs.Meaning.{entryAt}
+use Rattle.entries.specs.Reading.{scanOf}
+use Rattle.stages.specs.Meaning.{codingOf, tailOf}
+
+-- the next stage of a font, or the refusal of one before it
+abbrev pub andThen : Checked → (Font → Checked) → Checked
+andThen (Sound f) next = next f
+andThen (Refused r) next = Refused r
+
+-- 8: "file ends before the bitmaps do", for a file of so many bytes
+unfoldable pub sized : ℕ → Font → Checked
+sized len f = when (ltb len (f .end)) (Refused (refusal BodyCut len)) (Sound f)
+
+-- the rest of 9: "then a greatest height, then width, is wrong"
+unfoldable pub greatestOf : Font → ℕ → ℕ → Checked
+greatestOf f h w =
+    when (not (eqb (f .height) h)) (Refused (refusal Entry 24))
+    (when (not (eqb (f .width) w)) (Refused (refusal Entry 28))
+    (Sound f))
+
+-- 9: "a vfont2 entry breaks a rule", place "first such entry's start"
+abbrev pub scanned : Font → Scan → Checked
+scanned f (BrokenAt i) = Refused (refusal Entry (entryAt (f .entries) i))
+scanned f (Greatest h w) = greatestOf f h w
+
+abbrev pub kindEntries : List ℕ → Font → Kind → Checked
+kindEntries s f Psf1 = Sound f
+kindEntries s f Psf2 = Sound f
+kindEntries s f Vfont2 = scanned f (scanOf s (f .size) (f .entries) (f .count) 0 0 0)
+
+unfoldable pub entriesOf : List ℕ → Font → Checked
+entriesOf s f = kindEntries s f (f .kind)
+
+-- a table's answer, its place an offset in the file
+abbrev pub answered : Font → TableAnswer → Checked
+answered f Complete = Sound f
+answered f (Cut k g) = Refused (refusal TableCut (f .end + k))
+answered f (Bad k g) = Refused (refusal TableBad (f .end + k))
+answered f (Over k) = Refused (refusal Trailing (f .end + k))
+
+-- "bytes after the bitmaps of a font without" a table
+unfoldable pub bareOf : List ℕ → Font → Checked
+bareOf s f = when (ltb (f .end) (length s)) (Refused (refusal Trailing (f .end))) (Sound f)
+
+-- 10 to 12
+unfoldable pub tailed : List ℕ → Font → Checked
+tailed s f = pick (f .table) (answered f (tableOf (codingOf (f .kind)) (f .count) (tailOf s f))) (bareOf s f)
+
+-- refusals 1 to 8 in their order
+unfoldable pub throughBody : List ℕ → Checked
+throughBody s = when (ltb limit (length s)) (Refused (refusal TooLong limit)) (andThen (saysOf s) (sized (length s)))
+
+-- refusals 1 to 9
+unfoldable pub throughEntries : List ℕ → Checked
+throughEntries s = andThen (throughBody s) (entriesOf s)
+
+-- refusals 1 to 12, or what the font is
+unfoldable pub checkOf : List ℕ → Checked
+checkOf s = andThen (throughEntries s) (tailed s)

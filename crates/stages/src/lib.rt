@@ -1,0 +1,151 @@
+// Inner layer: the check of a font, stage by stage: its size (1), what its header says (2 to 7, crate `header`), its length (8), its
+// entries (9), its tail (10 to 12). Definitions: specs/Reading.antt.
+use coding::Coding;
+use entries::Scan;
+use header::Checked;
+use header::Font;
+use header::Kind;
+use refusal::Reason;
+use table::TableAnswer;
+ghost use mathlib.Core.Path.{_≡_};
+ghost use lib.ListN.{length};
+ghost use Rattle.header.specs.declared.Kind.the-variants.{Vfont2};
+ghost use Rattle.header.specs.Bounds.{Placed};
+ghost use Rattle.entries.specs.Reading.{scanOf};
+ghost use Rattle.table.specs.Check.{tableOf};
+ghost use Rattle.stages.specs.Meaning.{codingOf, tailOf};
+ghost use Rattle.stages.specs.Reading.{sized, greatestOf, scanned, entriesOf, answered, tailed, throughBody, throughEntries, checkOf};
+ghost use Rattle.stages.specs.Bounds.{CheckedPlaced};
+
+// How a kind of file writes its table's values.
+pub fn coding_of(kind: Kind) -> Coding
+    ensures { λ r. ⌜ r ≡ codingOf kind ⌝ }
+{
+    match kind {
+        Kind::Psf1 => Coding::Ucs2,
+        Kind::Psf2 => Coding::Utf8,
+        Kind::Vfont2 => Coding::Utf8,
+    }
+}
+
+// Refusal 8 for a file of so many bytes.
+pub fn check_length(len: usize, f: Font) -> Checked
+    ensures { λ r. ⌜ r ≡ sized len f ⌝ }
+{
+    if len < f.end {
+        return Checked::Refused(refusal::refuse(Reason::BodyCut, len));
+    }
+    Checked::Sound(f)
+}
+
+// The rest of refusal 9: whether a font's greatest height and width are those of its entries.
+pub fn check_greatest(f: Font, height: usize, width: usize) -> Checked
+    ensures { λ r. ⌜ r ≡ greatestOf f height width ⌝ }
+{
+    if f.height != height {
+        return Checked::Refused(refusal::refuse(Reason::Entry, 24));
+    }
+    if f.width != width {
+        return Checked::Refused(refusal::refuse(Reason::Entry, 28));
+    }
+    Checked::Sound(f)
+}
+
+// Refusal 9 of a vfont2 font whose parts stand in the file (`Placed`).
+fn check_dispatch(file: &[u8], f: Font) -> Checked
+    requires { ⌜ Placed (now file) f × (f .kind ≡ Vfont2) ⌝ }
+    ensures { λ r. ⌜ r ≡ scanned f (scanOf (now (file .entry)) (f .size) (f .entries) (f .count) 0 0 0) ⌝ }
+{
+    let s = entries::scan_entries(file, f.size, f.count, f.entries);
+    match s {
+        Scan::BrokenAt(i) => Checked::Refused(refusal::refuse(
+            Reason::Entry,
+            f.entries + i * header::Vfont2::ENTRY_LEN,
+        )),
+        Scan::Greatest(h, w) => check_greatest(f, h, w),
+    }
+}
+
+// Refusal 9 of a font whose parts stand in the file (`Placed`).
+pub fn check_entries(file: &[u8], f: Font) -> Checked
+    requires { ⌜ Placed (now file) f ⌝ }
+    ensures { λ r. ⌜ r ≡ entriesOf (now (file .entry)) f ⌝ }
+{
+    let kind = f.kind;
+    match kind {
+        Kind::Psf1 => Checked::Sound(f),
+        Kind::Psf2 => Checked::Sound(f),
+        Kind::Vfont2 => check_dispatch(file, f),
+    }
+}
+
+// The answer on the table of a font whose parts stand in the file (`Placed`). The table reader is handed only the tail.
+fn check_font_table(file: &[u8], f: Font) -> Checked
+    requires { ⌜ Placed (now file) f ⌝ }
+    ensures { λ r. ⌜ r ≡ answered f (tableOf (codingOf (f .kind)) (f .count) (tailOf (now (file .entry)) f)) ⌝ }
+{
+    let end = f.end;
+    let kind = f.kind;
+    let c = coding_of(kind);
+    let a = table::check_table(c, &file[end..], f.count);
+    match a {
+        TableAnswer::Complete => Checked::Sound(f),
+        TableAnswer::Cut(k, _) => Checked::Refused(refusal::refuse(Reason::TableCut, end + k)),
+        TableAnswer::Bad(k, _) => Checked::Refused(refusal::refuse(Reason::TableBad, end + k)),
+        TableAnswer::Trailing(k) => Checked::Refused(refusal::refuse(Reason::Trailing, end + k)),
+    }
+}
+
+// Refusals 10 to 12 of a font whose parts stand in the file (`Placed`).
+pub fn check_tail(file: &[u8], f: Font) -> Checked
+    requires { ⌜ Placed (now file) f ⌝ }
+    ensures { λ r. ⌜ r ≡ tailed (now (file .entry)) f ⌝ }
+{
+    if f.table {
+        return check_font_table(file, f);
+    }
+    if f.end < file.len() {
+        return Checked::Refused(refusal::refuse(Reason::Trailing, f.end));
+    }
+    Checked::Sound(f)
+}
+
+// Refusals 1 to 8 in their order; and that the parts of a font that passes stand in the file.
+pub fn check_body(file: &[u8]) -> Checked
+    ensures equal { λ r. ⌜ r ≡ throughBody (now (file .entry)) ⌝ }
+    ensures bounded { λ r. ⌜ CheckedPlaced (now (file .entry)) r ⌝ }
+{
+    let len = file.len();
+    if header::LIMIT < len {
+        return Checked::Refused(refusal::refuse(Reason::TooLong, header::LIMIT));
+    }
+    let h = header::says(file);
+    match h {
+        Checked::Sound(f) => check_length(len, f),
+        Checked::Refused(r) => Checked::Refused(r),
+    }
+}
+
+// Refusals 1 to 9, as above.
+pub fn check_dispatched(file: &[u8]) -> Checked
+    ensures equal { λ r. ⌜ r ≡ throughEntries (now (file .entry)) ⌝ }
+    ensures bounded { λ r. ⌜ CheckedPlaced (now (file .entry)) r ⌝ }
+{
+    let b = check_body(file);
+    match b {
+        Checked::Sound(f) => check_entries(file, f),
+        Checked::Refused(r) => Checked::Refused(r),
+    }
+}
+
+// Refusals 1 to 12, or what the font is, as above.
+pub fn check(file: &[u8]) -> Checked
+    ensures equal { λ r. ⌜ r ≡ checkOf (now (file .entry)) ⌝ }
+    ensures bounded { λ r. ⌜ CheckedPlaced (now (file .entry)) r ⌝ }
+{
+    let d = check_dispatched(file);
+    match d {
+        Checked::Sound(f) => check_tail(file, f),
+        Checked::Refused(r) => Checked::Refused(r),
+    }
+}
