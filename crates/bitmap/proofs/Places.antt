@@ -10,27 +10,32 @@ use lib.ListN.{length, getD}
 use borrow.Author.Tests.{lt-ltb, le-ltb, ltb-true}
 use Rattle.base.specs.Choice.{when}
 use Rattle.base.proofs.Chain.{chain}
-use Rattle.refusal.specs.declared.Refusal.the-variants.{Ask}
-use Rattle.entries.specs.Entries.{addressAt, sizeAt, rowsAt, colsAt, rowBytes, glyphBytes, entryOf}
+use Rattle.refusal.specs.Refusals.{refusal}
+use Rattle.refusal.specs.declared.Reason.the-variants.{Ask}
+use Rattle.entries.specs.Meaning.{entryAt, addressAt, sizeAt, rowsAt, colsAt}
+use Rattle.header.specs.Meaning.{rowBytes, glyphBytes}
+use Rattle.entries.specs.Reading.{entryOf}
 use Rattle.entries.specs.declared.Entry.{Entry}
 use Rattle.entries.specs.declared.Entry.the-variants.{Empty, Glyph, Broken}
 use Rattle.entries.proofs.Inverse.{keeps}
 use Rattle.header.specs.declared.Kind.{Kind}
 use Rattle.header.specs.declared.Kind.the-variants.{Psf1, Psf2, Vfont2}
 use Rattle.header.specs.declared.Font.{Font}
-use Rattle.header.specs.Placed.{Placed, KindPlaced, Even, Dispatched}
+use Rattle.header.specs.Bounds.{Placed, KindPlaced, Even, Dispatched}
 use Rattle.bitmap.specs.declared.Bitmap.{Bitmap}
 use Rattle.bitmap.specs.declared.Located.{Located}
-use Rattle.bitmap.specs.declared.Located.the-variants.{Found, Missing}
-use Rattle.bitmap.specs.declared.Part.the-variants.{At, Refused}
-use Rattle.bitmap.specs.declared.Pixel.the-variants.{Bit, NoPixel}
-use Rattle.bitmap.specs.Bitmaps.{evenBitmap, entryBitmap, kindBitmap, bitmapOf, Inside, LocatedInside, PartInside, rowOf, bitOf, pixelOf}
+use Rattle.bitmap.specs.declared.Located.the-variants.{Found, Refused as NotLocated}
+use Rattle.bitmap.specs.declared.Part.the-variants.{At, Refused as NoPart}
+use Rattle.bitmap.specs.declared.Pixel.the-variants.{Bit, Refused as NoPixel}
+use Rattle.bitmap.specs.Meaning.{evenBitmap, bitOf}
+use Rattle.bitmap.specs.Reading.{entryLocated, kindBitmap, bitmapOf, rowOf, pixelOf}
+use Rattle.bitmap.specs.Bounds.{Inside, LocatedInside, PartInside}
 
 module _ (s : List ℕ) (f : Font) (g : ℕ) (p : Placed s f) (h : g < f .count) where
   pub even-inside : Even f → Inside s (evenBitmap f g)
   even-inside e = (omega (arith, p .7, e .0, mul-le-mul-right {m = suc g} {n = f .count} (f .size) h), e .1, p .3, p .4)
 
-  by-entry : (at : ℕ) → f .end ≡ f .bitmaps + f .size → (x : Entry) → entryOf s (f .size) at ≡ x → LocatedInside s (entryBitmap s f at x)
+  by-entry : (at : ℕ) → f .end ≡ f .bitmaps + f .size → (x : Entry) → entryOf s (f .size) at ≡ x → LocatedInside s (entryLocated s f at x)
   by-entry at e Empty q = tt
   by-entry at e (Glyph r c) q =
       let k = keeps s (f .size) at r c q in
@@ -44,7 +49,7 @@ module _ (s : List ℕ) (f : Font) (g : ℕ) (p : Placed s f) (h : g < f .count)
   by-kind : (k : Kind) → KindPlaced f k → LocatedInside s (kindBitmap s f g k)
   by-kind Psf1 e = even-inside e
   by-kind Psf2 e = even-inside e
-  by-kind Vfont2 e = by-entry (f .entries + g * 18) (e .1) (entryOf s (f .size) (f .entries + g * 18)) refl
+  by-kind Vfont2 e = by-entry (entryAt (f .entries) g) (e .1) (entryOf s (f .size) (entryAt (f .entries) g)) refl
 
   pub known : (k : Kind) → f .kind ≡ k → kindBitmap s f g k ≡ bitmapOf s f g
   unfolding bitmapOf when
@@ -54,16 +59,25 @@ module _ (s : List ℕ) (f : Font) (g : ℕ) (p : Placed s f) (h : g < f .count)
   located-inside = rw (← (known (f .kind) refl)) (by-kind (f .kind) (p .8))
 
   -- the entry of glyph g stands before the bitmaps
-  pub entry-inside : Dispatched f → f .entries + g * 18 + 18 ≤ length s
+  pub entry-inside : Dispatched f → entryAt (f .entries) g + 18 ≤ length s
   entry-inside e = omega (arith, p .6, p .7, e .0, mul-le-mul-right {m = suc g} {n = f .count} 18 h)
 
   -- glyph g begins no later than the bitmaps end
   pub even-start : Even f → f .bitmaps + g * f .size ≤ 1048576
   even-start e = let i = even-inside e in omega (arith, p .0, i .0)
 
-pub too-high : (s : List ℕ) (f : Font) (g : ℕ) → f .count ≤ g → Missing Ask ≡ bitmapOf s f g
+pub too-high : (s : List ℕ) (f : Font) (g : ℕ) → f .count ≤ g → NotLocated (refusal Ask 0) ≡ bitmapOf s f g
 unfolding bitmapOf when
 too-high s f g h = rw (le-ltb g (f .count) h)
+
+-- a glyph whose bitmap is found is one of the font's
+pub found-below : (s : List ℕ) (f : Font) (g : ℕ) (b : Bitmap) → bitmapOf s f g ≡ Found b → g < f .count
+unfolding bitmapOf when
+found-below s f g b e = go (ltb g (f .count)) refl e
+  where
+    go : (t : Bool) → ltb g (f .count) ≡ t → when t (kindBitmap s f g (f .kind)) (NotLocated (refusal Ask 0)) ≡ Found b → g < f .count
+    go true q e = ltb-true g (f .count) q
+    go false q e = let z : _≡_ {A = ℕ} 0 1 = cc in absurd (omega arith)
 
 -- a row and a pixel that a bitmap has, and a column that it has not
 pub row-in : (b : Bitmap) (y : ℕ) → y < b .height → rowOf (Found b) y ≡ At (b .start + y * rowBytes (b .width)) (rowBytes (b .width))
@@ -75,7 +89,7 @@ pub pixel-in : (s : List ℕ) (b : Bitmap) (y x : ℕ) → y < b .height → x <
 unfolding when
 pixel-in s b y x h w = rw (lt-ltb y (b .height) h, lt-ltb x (b .width) w)
 
-pub pixel-past : (s : List ℕ) (b : Bitmap) (y x : ℕ) → y < b .height → b .width ≤ x → pixelOf s (Found b) y x ≡ NoPixel Ask
+pub pixel-past : (s : List ℕ) (b : Bitmap) (y x : ℕ) → y < b .height → b .width ≤ x → pixelOf s (Found b) y x ≡ NoPixel (refusal Ask 0)
 unfolding when
 pixel-past s b y x h w = rw (lt-ltb y (b .height) h, le-ltb x (b .width) w)
 
@@ -102,14 +116,14 @@ module _ (s : List ℕ) (b : Bitmap) (i : Inside s b) (y : ℕ) (h : y < b .heig
       pub pixel-read : (v : ℕ) → v ≡ bitOf (getD s (b .start + y * k + x / 8) 0) (x % 8) → Bit v ≡ pixelOf s (Found b) y x
       pixel-read v q = rw (q, e) (sym (pixel-in s b y x h w))
 
-  pub pixel-beside : (x : ℕ) → b .width ≤ x → NoPixel Ask ≡ pixelOf s (Found b) y x
+  pub pixel-beside : (x : ℕ) → b .width ≤ x → NoPixel (refusal Ask 0) ≡ pixelOf s (Found b) y x
   pixel-beside x w = sym (pixel-past s b y x h w)
 
-pub row-below : (b : Bitmap) (y : ℕ) → b .height ≤ y → Refused Ask ≡ rowOf (Found b) y
+pub row-below : (b : Bitmap) (y : ℕ) → b .height ≤ y → NoPart (refusal Ask 0) ≡ rowOf (Found b) y
 unfolding when
 row-below b y h = rw (le-ltb y (b .height) h)
 
-pub pixel-below : (s : List ℕ) (b : Bitmap) (y x : ℕ) → b .height ≤ y → NoPixel Ask ≡ pixelOf s (Found b) y x
+pub pixel-below : (s : List ℕ) (b : Bitmap) (y x : ℕ) → b .height ≤ y → NoPixel (refusal Ask 0) ≡ pixelOf s (Found b) y x
 unfolding when
 pixel-below s b y x h = rw (le-ltb y (b .height) h)
 

@@ -1,2 +1,4 @@
--- A glyph's bitmap, its rows and its pixels.
-pub mod Bitmaps
+-- A glyph's bitmap, its rows, its pixels and its metrics.
+pub mod Meaning
+pub mod Reading
+pub mod Bounds

@@ -1,15 +1,21 @@
-// Inner layer: a glyph's bitmap, its rows and its pixels, in a font whose header passed. Definitions: specs/Bitmaps.antt.
-// Each function asks that the font's parts stand in the file (`Placed`), which the check of the header gives.
+// Inner layer: a glyph's bitmap, its rows, its pixels and its metrics, in a font whose parts stand in the file. Definitions:
+// specs/Meaning.antt (where things stand), specs/Reading.antt (what is answered). Each public function asks that the font's parts stand in
+// the file (`Placed`), which the check of the font gives.
 use entries::Entry;
+use entries::Metrics;
 use header::Font;
 use header::Kind;
+use header::Vfont2;
+use refusal::Reason;
 use refusal::Refusal;
 ghost use mathlib.Core.Path.{_≡_};
 ghost use Prim.Native.Nat.{ℕ, _+_, _*_, _≤_, _<_};
 ghost use lib.ListN.{length};
-ghost use Rattle.header.specs.Placed.{Placed};
-ghost use Rattle.bitmap.specs.Bitmaps.{evenBitmap, entryBitmap, bitmapOf, wholeOf, rowOf, bitOf, pixelOf, Inside, LocatedInside, PartInside};
-ghost use Rattle.entries.specs.Entries.{entryOf};
+ghost use Rattle.header.specs.Bounds.{Placed};
+ghost use Rattle.entries.specs.Reading.{entryOf};
+ghost use Rattle.bitmap.specs.Meaning.{evenBitmap, evenMetrics, kindMetrics, bitOf};
+ghost use Rattle.bitmap.specs.Reading.{entryLocated, bitmapOf, wholeOf, rowOf, pixelOf, metricsOf};
+ghost use Rattle.bitmap.specs.Bounds.{Inside, LocatedInside, PartInside};
 ghost use Rattle.bitmap.specs.declared.Located.the-variants.{Found};
 
 // A bitmap's place in the file, its length, and how many rows and columns it has.
@@ -22,7 +28,7 @@ pub struct Bitmap {
 
 pub enum Located {
     Found(Bitmap),
-    Missing(Refusal),
+    Refused(Refusal),
 }
 
 // A part of the file, offset and length; or the refusal.
@@ -34,7 +40,13 @@ pub enum Part {
 // A pixel, 1 is drawn; or the refusal.
 pub enum Pixel {
     Bit(u8),
-    NoPixel(Refusal),
+    Refused(Refusal),
+}
+
+// A glyph's metrics; or the refusal.
+pub enum GlyphMetrics {
+    Is(Metrics),
+    Refused(Refusal),
 }
 
 // Glyph g of a font whose bitmaps have one size.
@@ -51,20 +63,20 @@ fn even_bitmap(f: Font, g: usize) -> Bitmap
 }
 
 // The glyph of the dispatch entry at `at`.
-fn entry_bitmap(file: &[u8], f: Font, at: usize) -> Located
+fn entry_located(file: &[u8], f: Font, at: usize) -> Located
     requires { ⌜ (at + 18 ≤ length (now file)) × (f .bitmaps ≤ 1048576) ⌝ }
-    ensures { λ r. ⌜ r ≡ entryBitmap (now (file .entry)) f at (entryOf (now (file .entry)) (f .size) at) ⌝ }
+    ensures { λ r. ⌜ r ≡ entryLocated (now (file .entry)) f at (entryOf (now (file .entry)) (f .size) at) ⌝ }
 {
     let e = entries::entry_at(file, f.size, at);
     match e {
-        Entry::Empty => Located::Missing(Refusal::NoGlyph),
+        Entry::Empty => Located::Refused(refusal::refuse(Reason::NoGlyph, 0)),
         Entry::Glyph(rows, cols) => Located::Found(Bitmap {
             start: f.bitmaps + base::size(base::get32(file, at)),
             len: base::size(base::get32(file, at + 4)),
             height: rows,
             width: cols,
         }),
-        Entry::Broken => Located::Missing(Refusal::Entry(at)),
+        Entry::Broken => Located::Refused(refusal::refuse(Reason::Entry, at)),
     }
 }
 
@@ -79,10 +91,10 @@ pub fn locate(file: &[u8], f: Font, g: usize) -> Located
         return match k {
             Kind::Psf1 => Located::Found(even_bitmap(f, g)),
             Kind::Psf2 => Located::Found(even_bitmap(f, g)),
-            Kind::Vfont2 => entry_bitmap(file, f, f.entries + g * 18),
+            Kind::Vfont2 => entry_located(file, f, f.entries + g * Vfont2::ENTRY_LEN),
         };
     }
-    Located::Missing(Refusal::Ask)
+    Located::Refused(refusal::refuse(Reason::Ask, 0))
 }
 
 // Glyph g's bytes.
@@ -94,7 +106,7 @@ pub fn glyph_part(file: &[u8], f: Font, g: usize) -> Part
     let l = locate(file, f, g);
     match l {
         Located::Found(b) => Part::At(b.start, b.len),
-        Located::Missing(r) => Part::Refused(r),
+        Located::Refused(r) => Part::Refused(r),
     }
 }
 
@@ -105,10 +117,10 @@ fn row_of(file: &[u8], b: Bitmap, y: usize) -> Part
     ensures bounded { λ r. ⌜ PartInside (now (file .entry)) r ⌝ }
 {
     if y < b.height {
-        let stride = entries::row_bytes(b.width);
+        let stride = header::row_bytes(b.width);
         return Part::At(b.start + y * stride, stride);
     }
-    Part::Refused(Refusal::Ask)
+    Part::Refused(refusal::refuse(Reason::Ask, 0))
 }
 
 // Row y of glyph g.
@@ -120,7 +132,7 @@ pub fn row_part(file: &[u8], f: Font, g: usize, y: usize) -> Part
     let l = locate(file, f, g);
     match l {
         Located::Found(b) => row_of(file, b, y),
-        Located::Missing(r) => Part::Refused(r),
+        Located::Refused(r) => Part::Refused(r),
     }
 }
 
@@ -152,12 +164,12 @@ fn pixel_of(file: &[u8], b: Bitmap, y: usize, x: usize) -> Pixel
 {
     if y < b.height {
         if x < b.width {
-            let at = b.start + y * entries::row_bytes(b.width) + x / 8;
+            let at = b.start + y * header::row_bytes(b.width) + x / 8;
             return Pixel::Bit(bit_of(file[at], x % 8));
         }
-        return Pixel::NoPixel(Refusal::Ask);
+        return Pixel::Refused(refusal::refuse(Reason::Ask, 0));
     }
-    Pixel::NoPixel(Refusal::Ask)
+    Pixel::Refused(refusal::refuse(Reason::Ask, 0))
 }
 
 // The pixel of row y and column x of glyph g.
@@ -168,6 +180,45 @@ pub fn pixel_at(file: &[u8], f: Font, g: usize, y: usize, x: usize) -> Pixel
     let l = locate(file, f, g);
     match l {
         Located::Found(b) => pixel_of(file, b, y, x),
-        Located::Missing(r) => Pixel::NoPixel(r),
+        Located::Refused(r) => Pixel::Refused(r),
+    }
+}
+
+// The metrics of a glyph that fills its height and width. Asks for a height and a width within the formats' bounds.
+fn even_metrics(height: usize, width: usize) -> Metrics
+    requires { ⌜ (height ≤ 255) × (width ≤ 255) ⌝ }
+    ensures { λ r. ⌜ r ≡ evenMetrics height width ⌝ }
+{
+    Metrics {
+        up: height as i32,
+        down: 0,
+        left: 0,
+        right: width as i32,
+        logical: width as i32,
+    }
+}
+
+// Glyph g's metrics, by the font's kind. Asks for one of the font's glyphs.
+fn kind_metrics(file: &[u8], f: Font, g: usize) -> Metrics
+    requires { ⌜ Placed (now file) f × (g < f .count) ⌝ }
+    ensures { λ r. ⌜ r ≡ kindMetrics (now (file .entry)) f g (f .kind) ⌝ }
+{
+    let k = f.kind;
+    match k {
+        Kind::Psf1 => even_metrics(f.height, f.width),
+        Kind::Psf2 => even_metrics(f.height, f.width),
+        Kind::Vfont2 => entries::metrics_at(file, f.entries + g * Vfont2::ENTRY_LEN),
+    }
+}
+
+// Glyph g's metrics: up, down, left, right and logical width.
+pub fn metrics(file: &[u8], f: Font, g: usize) -> GlyphMetrics
+    requires { ⌜ Placed (now file) f ⌝ }
+    ensures { λ r. ⌜ r ≡ metricsOf (now (file .entry)) f g (bitmapOf (now (file .entry)) f g) ⌝ }
+{
+    let l = locate(file, f, g);
+    match l {
+        Located::Found(_) => GlyphMetrics::Is(kind_metrics(file, f, g)),
+        Located::Refused(r) => GlyphMetrics::Refused(r),
     }
 }

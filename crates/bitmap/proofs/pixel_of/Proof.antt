@@ -1,14 +1,16 @@
--- `bitmap::pixel_of` meets its contract: the pixel's byte stands in its row. Assumes nothing.
-use Rattle.bitmap.proofs.Places.{row-fits, pixel-inside, pixel-read, pixel-beside, pixel-below}
-use mathlib.Core.Path.{_≡_, sym, _∙_, ap}
+-- `bitmap::pixel_of` meets its contract: the pixel's byte stands in its row. Assumes that the bitmap stands in the file.
 use native.Mathlib.Omega.{arith}
+use mathlib.Core.Path.{_≡_, refl, sym, _∙_, ap}
+use Rattle.bitmap.specs.declared.Pixel.the-variants.{Bit, Refused as NoPixel}
+use Rattle.bitmap.proofs.Places.{row-fits, row-read, row-below, pixel-inside, pixel-read, pixel-beside, pixel-below}
 use borrow.Author.Needs.{needs}
 use Rattle.bitmap.proofs.pixel_of.Statement.{statement}
 use Rattle.bitmap.proofs.pixel_of.Tie as tie
 use Rattle.bitmap.proofs.pixel_of.Reads as reads
 use Rattle.bitmap.proofs.pixel_of.Lts as lts
 use Rattle.bitmap.proofs.bit_of.Reads as bit-of-reads
-use Rattle.entries.proofs.row_bytes.Reads as row-bytes-reads
+use Rattle.header.proofs.row_bytes.Reads as row-bytes-reads
+use Rattle.refusal.proofs.refuse.Reads as refuse-reads
 
 row-bytes-requires : tie.Need-row-bytes-requires
 row-bytes-requires c κs = search needs
@@ -31,11 +33,17 @@ bit-of-requires c κs = search needs
 returns : tie.Need-returns
 returns c = pixel-read (c .before .before .before .before .before .before .before .before .before .args .file .now) (c .before .before .before .before .before .before .before .before .before .args .b) (c .before .before .before .before .before .before .before .before .before .pre .1) (c .before .before .before .before .before .before .before .before .before .args .y) (c .before .before .before .before .before .before .if1 .taken) _ (c .before .before .before .row-bytes .ensures .0) (c .before .before .before .before .before .before .before .before .before .args .x) (c .before .before .before .before .if2 .taken) _ (c .bit-of .ensures)
 
+refuse-requires : tie.Need-refuse-requires
+refuse-requires c κs = search needs
+
 returns-2 : tie.Need-returns-2
-returns-2 c = pixel-beside (c .before .before .before .before .before .args .file .now) (c .before .before .before .before .before .args .b) (c .before .before .before .before .before .pre .1) (c .before .before .before .before .before .args .y) (c .before .before .if1 .taken) (c .before .before .before .before .before .args .x) (c .if2 .left)
+returns-2 c = ap NoPixel (c .refuse .ensures) ∙ pixel-beside (c .before .before .before .before .before .before .args .file .now) (c .before .before .before .before .before .before .args .b) (c .before .before .before .before .before .before .pre .1) (c .before .before .before .before .before .before .args .y) (c .before .before .before .if1 .taken) (c .before .before .before .before .before .before .args .x) (c .before .if2 .left)
+
+refuse-requires-2 : tie.Need-refuse-requires-2
+refuse-requires-2 c κs = search needs
 
 returns-3 : tie.Need-returns-3
-returns-3 c = pixel-below (c .before .before .before .args .file .now) (c .before .before .before .args .b) (c .before .before .before .args .y) (c .before .before .before .args .x) (c .if1 .left)
+returns-3 c = ap NoPixel (c .refuse2 .ensures) ∙ pixel-below (c .before .before .before .before .args .file .now) (c .before .before .before .before .args .b) (c .before .before .before .before .args .y) (c .before .before .before .before .args .x) (c .before .if1 .left)
 
 pub pixel-of-spec : {M : Type 1} → statement M
 pixel-of-spec =
@@ -48,5 +56,7 @@ pixel-of-spec =
     shared-slice-read-bit-of
     bit-of-requires
     returns
+    refuse-requires
     returns-2
+    refuse-requires-2
     returns-3)

@@ -1,13 +1,15 @@
--- `bitmap::row_of` meets its contract: the row stands in the bitmap. Assumes nothing.
-use Rattle.bitmap.proofs.Places.{row-fits, row-read, row-below}
-use mathlib.Core.Path.{_≡_, sym, _∙_, ap}
+-- `bitmap::row_of` meets its contract: the row stands in the bitmap. Assumes that the bitmap stands in the file.
 use native.Mathlib.Omega.{arith}
+use mathlib.Core.Path.{_≡_, refl, sym, _∙_, ap}
+use Rattle.bitmap.specs.declared.Part.the-variants.{At, Refused as NoPart}
+use Rattle.bitmap.proofs.Places.{row-fits, row-read, row-below, pixel-inside, pixel-read, pixel-beside, pixel-below}
 use borrow.Author.Needs.{needs}
 use Rattle.bitmap.proofs.row_of.Statement.{statement}
 use Rattle.bitmap.proofs.row_of.Tie as tie
 use Rattle.bitmap.proofs.row_of.Reads as reads
 use Rattle.bitmap.proofs.row_of.Lts as lts
-use Rattle.entries.proofs.row_bytes.Reads as row-bytes-reads
+use Rattle.header.proofs.row_bytes.Reads as row-bytes-reads
+use Rattle.refusal.proofs.refuse.Reads as refuse-reads
 
 row-bytes-requires : tie.Need-row-bytes-requires
 row-bytes-requires c κs = search needs
@@ -21,8 +23,12 @@ add-t7 c = omega (arith, c .before .before .before .before .before .pre .0, row-
 returns : tie.Need-returns
 returns c = (row-read (c .before .before .before .before .before .args .file .now) (c .before .before .before .before .before .args .b) (c .before .before .before .before .before .pre .1) (c .before .before .before .before .before .args .y) (c .before .before .if1 .taken) _ (c .before .row-bytes .ensures .0), row-fits (c .before .before .before .before .before .args .file .now) (c .before .before .before .before .before .args .b) (c .before .before .before .before .before .pre .1) (c .before .before .before .before .before .args .y) (c .before .before .if1 .taken) _ (c .before .row-bytes .ensures .0))
 
+refuse-requires : tie.Need-refuse-requires
+refuse-requires c κs = search needs
+
 returns-2 : tie.Need-returns-2
-returns-2 c = (row-below (c .before .before .before .args .b) (c .before .before .before .args .y) (c .if1 .left), tt)
+returns-2 c = (ap NoPart (c .refuse .ensures) ∙ row-below (c .before .before .before .before .args .b) (c .before .before .before .before .args .y) (c .before .if1 .left), tt)
 
 pub row-of-spec : {M : Type 1} → statement M
-row-of-spec = tie.close (tie.spec row-bytes-requires mul-t6 add-t7 returns returns-2)
+row-of-spec =
+    tie.close (tie.spec row-bytes-requires mul-t6 add-t7 returns refuse-requires returns-2)

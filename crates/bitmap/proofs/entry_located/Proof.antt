@@ -1,19 +1,25 @@
--- `bitmap::entry_bitmap` meets its contract: what the entry says. Assumes nothing.
-use mathlib.Core.Path.{_≡_, sym, _∙_, ap}
+-- `bitmap::entry_located` meets its contract: what the entry says. Assumes that it stands in the file.
+use native.Mathlib.Omega.{arith}
+use mathlib.Core.Path.{_≡_, refl, sym, _∙_, ap}
+use Rattle.bitmap.specs.declared.Located.the-variants.{Found, Refused as NotLocated}
 use borrow.Author.Needs.{needs}
-use Rattle.bitmap.proofs.entry_bitmap.Statement.{statement}
-use Rattle.bitmap.proofs.entry_bitmap.Tie as tie
-use Rattle.bitmap.proofs.entry_bitmap.Reads as reads
-use Rattle.bitmap.proofs.entry_bitmap.Lts as lts
+use Rattle.bitmap.proofs.entry_located.Statement.{statement}
+use Rattle.bitmap.proofs.entry_located.Tie as tie
+use Rattle.bitmap.proofs.entry_located.Reads as reads
+use Rattle.bitmap.proofs.entry_located.Lts as lts
 use Rattle.base.proofs.get32.Reads as get32-reads
 use Rattle.base.proofs.size.Reads as size-reads
 use Rattle.entries.proofs.entry_at.Reads as entry-at-reads
+use Rattle.refusal.proofs.refuse.Reads as refuse-reads
 
 entry-at-requires : tie.Need-entry-at-requires
 entry-at-requires c κs = search needs
 
 enum-told : tie.Need-enum-told
 enum-told c = search needs
+
+refuse-requires : tie.Need-refuse-requires
+refuse-requires c κs = search needs
 
 enum-known-e : tie.Need-enum-known-e
 enum-known-e c = search needs
@@ -24,8 +30,8 @@ get32-requires c κs = search needs
 size-requires : tie.Need-size-requires
 size-requires c κs = search needs
 
-add-t11 : tie.Need-add-t11
-add-t11 c = search needs
+add-t12 : tie.Need-add-t12
+add-t12 c = search needs
 
 add-get32 : tie.Need-add-get32
 add-get32 c = search needs
@@ -39,29 +45,34 @@ size-requires-2 c κs = search needs
 enum-told-2 : tie.Need-enum-told-2
 enum-told-2 c = search needs
 
+refuse-requires-2 : tie.Need-refuse-requires-2
+refuse-requires-2 c κs = search needs
+
 returns : tie.Need-returns
-returns c = rw (sym (c .before .before .entry-at .ensures) ∙ c .enum-told .given .1)
+returns c = ap NotLocated (c .refuse .ensures) ∙ rw (sym (c .before .before .before .entry-at .ensures) ∙ c .before .enum-told .given .1)
 
 returns-2 : tie.Need-returns-2
 returns-2 c = rw (sym (c .before .before .before .before .before .before .before .before .entry-at .ensures) ∙ c .before .before .before .before .before .before .e .given .1, c .before .before .before .size .ensures, c .size2 .ensures, c .before .before .before .before .get32 .ensures, c .before .get322 .ensures)
 
 returns-3 : tie.Need-returns-3
-returns-3 c = rw (sym (c .before .before .entry-at .ensures) ∙ c .enum-told2 .given .1)
+returns-3 c = ap NotLocated (c .refuse2 .ensures) ∙ rw (sym (c .before .before .before .entry-at .ensures) ∙ c .before .enum-told2 .given .1)
 
-pub entry-bitmap-spec : {M : Type 1} → statement M
-entry-bitmap-spec =
+pub entry-located-spec : {M : Type 1} → statement M
+entry-located-spec =
     tie.close
     (tie.spec
     entry-at-requires
     enum-told
+    refuse-requires
     enum-known-e
     get32-requires
     size-requires
-    add-t11
+    add-t12
     add-get32
     get32-requires-2
     size-requires-2
     enum-told-2
+    refuse-requires-2
     returns
     returns-2
     returns-3)
