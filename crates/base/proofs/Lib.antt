@@ -5,5 +5,6 @@ pub mod Ranged
 pub mod Parts
 pub mod Lists
 pub mod Over
+pub mod Written
 pub mod Numbers
 pub mod Begins

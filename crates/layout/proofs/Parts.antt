@@ -1,122 +1,102 @@
 -- The written parts one by one: their lengths, and one more entry or glyph of those that are left.
 use mathlib.Core.Path.{_≡_, refl, sym, _∙_, ap}
-use mathlib.Core.Bool.{Bool, true, false}
 use mathlib.Core.List.{List, [], _∷_, _++_}
+use mathlib.Core.Bool.{Bool}
 use Prim.Native.Nat.{ℕ, zero, suc, _+_, _-_, _*_, _≤_, _<_}
 use native.Mathlib.Omega.{arith}
 use native.Mathlib.Numerals.{add-one}
 use native.Mathlib.Nat.{add-sub-cancel-left, suc-mul}
-use lib.Dec.{eqb}
-use lib.ListN.{length, take, drop, length-append, length-take, length-drop}
+use lib.ListN.{length, take, drop, length-append, length-drop}
 use lib.Seq.{length-take-le}
-use borrow.Author.Tests.{eq-eqb, ne-eqb}
 use Rattle.base.specs.Numbers.{bytes16, bytes32}
-use Rattle.entries.specs.Entries.{addressAt}
-use Rattle.layout.specs.Layout.{fields, flagsOf, header32, modeOf, header4, metricsBytes, entryBytes, entriesFrom, glyphsFrom}
-
-pub fields-length : (a b c d : ℕ) → length (fields a b c d) ≡ 16
-unfolding fields bytes32
-fields-length a b c d = refl
-
-pub header32-length : (m : ℕ) (t : Bool) (n z h w : ℕ) → length (header32 m t n z h w) ≡ 32
-unfolding header32 fields bytes32
-header32-length m t n z h w = refl
-
-pub header4-length : (n : ℕ) (t : Bool) (z : ℕ) → length (header4 n t z) ≡ 4
-unfolding header4
-header4-length n t z = refl
+use Rattle.header.specs.declared.Kind.{Kind}
+use Rattle.header.specs.declared.Kind.the-variants.{Psf1, Psf2, Vfont2}
+use Rattle.header.specs.declared.Font.{Font}
+use Rattle.header.specs.Meaning.{entryLen, headerBytes}
+use Rattle.entries.specs.Meaning.{entryAt, addressAt}
+use Rattle.layout.specs.Meaning.{metricsBytes, entryBytes, entriesAt, evenly, dispatchBytes, gathered, kindGlyphs, glyphsIn}
 
 pub entry-length : (a c h w : ℕ) → length (entryBytes a c h w) ≡ 18
 unfolding entryBytes metricsBytes bytes32 bytes16
 entry-length a c h w = refl
 
-pub entries-length : (c h w i k : ℕ) → length (entriesFrom c h w i k) ≡ k * 18
-unfolding entriesFrom
-entries-length c h w i zero = refl
-entries-length c h w i (suc k) =
-    omega (arith, length-append (entryBytes (i * c) c h w) (entriesFrom c h w (suc i) k), entry-length (i * c) c h w, entries-length c h w (suc i) k)
+pub entries-length : (c h w : ℕ) (xs : List ℕ) → length (entriesAt c h w xs) ≡ length xs * 18
+unfolding entriesAt
+entries-length c h w [] = refl
+entries-length c h w (a ∷ xs) = omega (arith, length-append (entryBytes a c h w) (entriesAt c h w xs), entry-length a c h w, entries-length c h w xs)
 
-pub flags-yes : (t : Bool) → t ≡ true → 1 ≡ flagsOf t
-unfolding flagsOf
-flags-yes t e = rw e
+pub evenly-length : (c i k : ℕ) → length (evenly c i k) ≡ k
+unfolding evenly
+evenly-length c i zero = refl
+evenly-length c i (suc k) = let e = evenly-length c (suc i) k in omega arith
 
-pub flags-no : (t : Bool) → t ≡ false → 0 ≡ flagsOf t
-unfolding flagsOf
-flags-no t e = rw e
-
-pub mode-512 : (n : ℕ) (t : Bool) → n ≡ 512 → (t ≡ true → 3 ≡ modeOf n t) × (t ≡ false → 1 ≡ modeOf n t)
-unfolding modeOf
-mode-512 n t e = (λ q. rw (eq-eqb n 512 e, q), λ q. rw (eq-eqb n 512 e, q))
-
-pub mode-256 : (n : ℕ) (t : Bool) → (n ≡ 512 → ⊥) → (t ≡ true → 2 ≡ modeOf n t) × (t ≡ false → 0 ≡ modeOf n t)
-unfolding modeOf
-mode-256 n t e = (λ q. rw (ne-eqb n 512 e, q), λ q. rw (ne-eqb n 512 e, q))
+pub dispatch-length : (k : Kind) (c h w : ℕ) (xs : List ℕ) → length (dispatchBytes k c h w xs) ≡ length xs * entryLen k
+dispatch-length Psf1 c h w xs = omega arith
+dispatch-length Psf2 c h w xs = omega arith
+dispatch-length Vfont2 c h w xs = entries-length c h w xs
 
 -- one more of those that are left
 left-one : (n i : ℕ) → i < n → n - i ≡ suc (n - (i + 1))
 left-one n i h = omega arith
 
-pub entries-next : (c h w n i a : ℕ) → a ≡ i * c → i < n → entriesFrom c h w i (n - i) ≡ entryBytes a c h w ++ entriesFrom c h w (i + 1) (n - (i + 1))
-unfolding entriesFrom
-entries-next c h w n i a e l = rw (left-one n i l, e, add-one i)
+pub all-left : (n : ℕ) → n ≡ n - 0
+all-left n = omega arith
 
-pub entries-done : (c h w n i : ℕ) → i ≤ n → n ≤ i → entriesFrom c h w i (n - i) ≡ []
-unfolding entriesFrom
-entries-done c h w n i l g = let z : n - i ≡ 0 = omega arith in rw z
+none-left : (n i : ℕ) → n ≤ i → n - i ≡ 0
+none-left n i h = omega arith
+
+module _ (c h w n i : ℕ) where
+  pub entries-next : (a : ℕ) → a ≡ i * c → i < n → entriesAt c h w (evenly c i (n - i)) ≡ entryBytes a c h w ++ entriesAt c h w (evenly c (i + 1) (n - (i + 1)))
+  unfolding entriesAt evenly
+  entries-next a e l = rw (left-one n i l, e, add-one i)
+
+  pub entries-done : n ≤ i → entriesAt c h w (evenly c i (n - i)) ≡ []
+  unfolding entriesAt evenly
+  entries-done g = rw (none-left n i g)
 
 -- one more address
 pub next-multiple : (a i c : ℕ) → a ≡ i * c → a + c ≡ (i + 1) * c
 next-multiple a i c e = rw (e, add-one i, suc-mul i c)
 
-module _ (s : List ℕ) (e b c : ℕ) where
-  -- a part that stands in a list has its length
-  pub part-length : (a : ℕ) → a + c ≤ length s → length (take c (drop a s)) ≡ c
-  part-length a h = length-take-le c (drop a s) (omega (arith, length-drop a s))
-
-  pub glyphs-short : (i k : ℕ) → length (glyphsFrom s e b c i k) ≤ k * c
-  unfolding glyphsFrom
-  glyphs-short i zero = omega arith
-  glyphs-short i (suc k) =
-      let x = take c (drop (b + addressAt s (e + i * 18)) s) in
-      let y : length x ≤ c = short c (drop (b + addressAt s (e + i * 18)) s) in
-      omega (arith, length-append x (glyphsFrom s e b c (suc i) k), y, glyphs-short (suc i) k, suc-mul k c)
-    where
-      short : (m : ℕ) (l : List ℕ) → length (take m l) ≤ m
-      short zero l = omega arith
-      short (suc m) [] = omega arith
-      short (suc m) (z ∷ l) = let q = short m l in omega arith
-
-  pub glyphs-next : (n i : ℕ) → i < n → glyphsFrom s e b c i (n - i) ≡ take c (drop (b + addressAt s (e + i * 18)) s) ++ glyphsFrom s e b c (i + 1) (n - (i + 1))
-  unfolding glyphsFrom
-  glyphs-next n i l = rw (left-one n i l, add-one i)
-
-  pub glyphs-done : (n i : ℕ) → i ≤ n → n ≤ i → glyphsFrom s e b c i (n - i) ≡ []
-  unfolding glyphsFrom
-  glyphs-done n i l g = let z : n - i ≡ 0 = omega arith in rw z
-
-  -- the part from a to a + c
-  pub part-to : (a z : ℕ) → z ≡ a + c → take (z - a) (drop a s) ≡ take c (drop a s)
-  part-to a z q = rw (q, add-sub-cancel-left a c)
-
--- the header with its flags as they were worked out
-pub header-flags : (m f : ℕ) (t : Bool) (n z h w : ℕ) → f ≡ flagsOf t → fields m 0 32 f ++ fields n z h w ≡ header32 m t n z h w
-unfolding header32
-header-flags m f t n z h w e = rw e
-
-pub header-mode : (n m : ℕ) (t : Bool) (z : ℕ) → m ≡ modeOf n t → 0x36 ∷ 0x04 ∷ m ∷ z ∷ [] ≡ header4 n t z
-unfolding header4
-header-mode n m t z e = rw e
-
--- all are left at first
-all-left : (n : ℕ) → n ≡ n - 0
-all-left n = omega arith
-
-pub entries-all : (c h w n : ℕ) → entriesFrom c h w 0 n ≡ entriesFrom c h w 0 (n - 0)
-entries-all c h w n = ap (entriesFrom c h w 0) (all-left n)
-
-pub glyphs-all : (s : List ℕ) (e b c n : ℕ) → glyphsFrom s e b c 0 n ≡ glyphsFrom s e b c 0 (n - 0)
-glyphs-all s e b c n = ap (glyphsFrom s e b c 0) (all-left n)
+-- a part that stands in a list has its length
+pub part-length : (s : List ℕ) (c a : ℕ) → a + c ≤ length s → length (take c (drop a s)) ≡ c
+part-length s c a h = length-take-le c (drop a s) (omega (arith, length-drop a s))
 
 -- a part from a to z, said of the place that a is
 pub part-said : (s : List ℕ) (c a d z : ℕ) → a ≡ d → z ≡ a + c → take (z - a) (drop a s) ≡ take c (drop d s)
 part-said s c a d z e q = rw (q, add-sub-cancel-left a c, e)
+
+take-short : (m : ℕ) (l : List ℕ) → length (take m l) ≤ m
+take-short zero l = omega arith
+take-short (suc m) [] = omega arith
+take-short (suc m) (z ∷ l) = let q = take-short m l in omega arith
+
+module _ (s : List ℕ) (f : Font) (c : ℕ) where
+  pub gathered-short : (i k : ℕ) → length (gathered s f c i k) ≤ k * c
+  unfolding gathered
+  gathered-short i zero = omega arith
+  gathered-short i (suc k) =
+      let x = take c (drop (f .bitmaps + addressAt s (entryAt (f .entries) i)) s) in
+      omega (arith, length-append x (gathered s f c (suc i) k), take-short c (drop (f .bitmaps + addressAt s (entryAt (f .entries) i)) s), gathered-short (suc i) k, suc-mul k c)
+
+  pub gathered-next : (n i at : ℕ) → at ≡ f .bitmaps + addressAt s (entryAt (f .entries) i) → i < n → gathered s f c i (n - i) ≡ take c (drop at s) ++ gathered s f c (i + 1) (n - (i + 1))
+  unfolding gathered
+  gathered-next n i at e l = rw (left-one n i l, add-one i, e)
+
+  pub gathered-done : (n i : ℕ) → n ≤ i → gathered s f c i (n - i) ≡ []
+  unfolding gathered
+  gathered-done n i g = rw (none-left n i g)
+
+-- by the kind
+pub glyphs-of : (s : List ℕ) (f : Font) (k : Kind) → f .kind ≡ k → kindGlyphs s f k ≡ glyphsIn s f
+unfolding glyphsIn
+glyphs-of s f k e = rw e
+
+-- PSF1's header has no number at 20, and no width
+pub psf1-header : (t : Bool) (n z h w : ℕ) → headerBytes Psf1 t n h h 8 ≡ headerBytes Psf1 t n z h w
+unfolding headerBytes
+psf1-header t n z h w = refl
+
+-- the bitmaps of a font that has them end to end
+pub even-glyphs : (s : List ℕ) (f : Font) → f .end ≡ f .bitmaps + f .count * f .size → take (f .end - f .bitmaps) (drop (f .bitmaps) s) ≡ take (f .count * f .size) (drop (f .bitmaps) s)
+even-glyphs s f e = part-said s (f .count * f .size) (f .bitmaps) (f .bitmaps) (f .end) refl e

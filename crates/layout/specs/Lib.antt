@@ -1,2 +1,2 @@
--- The parts of a written font.
-pub mod Layout
+-- A written font.
+pub mod Meaning

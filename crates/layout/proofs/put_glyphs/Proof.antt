@@ -1,122 +1,101 @@
--- `layout::put_glyphs` meets its contract: x Assumes nothing.
-use borrow.Rule.Slice.PartMut.{midOf, putMid}
--- `layout::put_glyphs` meets its contract: at each turn the bitmaps written so far stand in front, and the others are left. Assumes nothing.
-use Rattle.layout.proofs.Parts.{glyphs-short, glyphs-all, glyphs-next, glyphs-done, next-multiple, part-length, part-said}
-use lib.ListN.{length-take, length-drop}
-use native.Mathlib.Nat.{mul-le-mul-right}
-use Rattle.layout.specs.Layout.{glyphsFrom}
-use Rattle.entries.specs.Entries.{addressAt}
-use Rattle.base.proofs.Over.{over-none, turn-within, turn-left, turn-over, turn-length, turn-room, all-over}
-use Rattle.base.specs.Numbers.{le32}
-use Rattle.base.specs.Over.{over}
-use lib.ListN.{length, take, drop, length-set}
-use Prim.Native.Nat.{ℕ, _+_, _-_, _*_, _≤_, _<_}
-use mathlib.Core.List.{List, [], _∷_, _++_}
-use mathlib.Core.Path.{_≡_, ap, sym, _∙_, refl}
+-- `layout::put_glyphs` meets its contract: by the kind. Assumes room, and that each glyph stands in the file.
 use native.Mathlib.Omega.{arith}
+use mathlib.Core.Path.{_≡_, refl, sym, _∙_, ap, subst}
+use Prim.Native.Nat.{ℕ, _+_, _*_, _≤_}
+use mathlib.Core.List.{List}
+use lib.ListN.{length, length-take, length-drop}
+use Rattle.base.specs.Over.{over}
+use Rattle.header.specs.declared.Kind.the-variants.{Psf1, Psf2, Vfont2}
+use Rattle.header.specs.Bounds.{Even, Dispatched}
+use Rattle.entries.specs.Meaning.{entryAt, addressAt}
+use Rattle.layout.specs.Meaning.{gathered}
+use Rattle.layout.proofs.Parts.{even-glyphs, glyphs-of}
 use borrow.Author.Needs.{needs}
 use Rattle.layout.proofs.put_glyphs.Statement.{statement}
 use Rattle.layout.proofs.put_glyphs.Tie as tie
 use Rattle.layout.proofs.put_glyphs.Reads as reads
 use Rattle.layout.proofs.put_glyphs.Lts as lts
 use Rattle.base.proofs.copy.Reads as copy-reads
-use Rattle.base.proofs.get32.Reads as get32-reads
-use Rattle.base.proofs.size.Reads as size-reads
+use Rattle.header.proofs.glyph_bytes.Reads as glyph-bytes-reads
+use Rattle.layout.proofs.put_gathered.Reads as put-gathered-reads
 
-abbrev Inv-loop : tie.InvT-loop
-Inv-loop file entries bitmaps n size out₀ i₀ at₀ entry₀ out i at entry = (i ≤ n) × (at ≡ i * size) × (entry ≡ entries + i * 18) × (at ≤ length (glyphsFrom file entries bitmaps size 0 n)) × (length (glyphsFrom file entries bitmaps size 0 n) ≤ length out₀) × (length out ≡ length out₀) × (out ≡ over (take at (glyphsFrom file entries bitmaps size 0 n)) out₀) × (drop at (glyphsFrom file entries bitmaps size 0 n) ≡ glyphsFrom file entries bitmaps size i (n - i))
+enum-told : tie.Need-enum-told
+enum-told c = search needs
 
-abbrev μ-loop : tie.MeasureT-loop
-μ-loop file entries bitmaps n size out₀ i₀ at₀ entry₀ out i at entry = n - i
+sub-copy : tie.Need-sub-copy
+sub-copy c = search needs
 
-loop-holds : tie.Need-loop-holds Inv-loop μ-loop
-loop-holds c = let m = glyphs-short (c .before .before .args .file .now) (c .before .before .args .entries) (c .before .before .args .bitmaps) (c .before .before .args .size) 0 (c .before .before .args .n) in (omega arith, omega arith, omega arith, omega arith, omega arith, refl, over-none _, glyphs-all _ _ _ _ _)
+part-copy-start : tie.Need-part-copy-start
+part-copy-start c = search needs
 
-get32-requires : tie.Need-get32-requires Inv-loop μ-loop
-get32-requires c κs = omega (arith, mul-le-mul-right {m = c .before .loop .i + 1} {n = c .before .before .before .before .args .n} 18 (omega arith))
+part-copy-end : tie.Need-part-copy-end
+part-copy-end c = search needs
 
-size-requires : tie.Need-size-requires Inv-loop μ-loop
-size-requires c κs = search needs
+copy-requires : tie.Need-copy-requires
+copy-requires c κs = let k : Even (c .before .before .before .before .before .before .args .f) = rw (c .before .before .enum-told .given .1) at (c .before .before .before .before .before .before .pre .0 .8) in let e = ap (λ (x : ℕ). c .before .before .before .before .before .before .args .f .count * x) (k .1) in simp (length-take, length-drop) (omega (arith, e, k .0, c .before .before .before .before .before .before .pre .1, c .before .before .before .before .before .before .pre .0 .7))
 
-add-start : tie.Need-add-start Inv-loop μ-loop
-add-start c = let b = c .before .before .before .before .before .before .pre .3 (c .before .before .before .loop .i) (omega arith) in let e = ap (le32 (c .before .before .before .before .before .before .args .file .now)) (c .before .before .before .loop .inv .2) in omega arith
+enum-told-2 : tie.Need-enum-told-2
+enum-told-2 c = search needs
 
-add-end : tie.Need-add-end Inv-loop μ-loop
-add-end c = let b = c .before .before .before .before .before .before .pre .3 (c .before .before .before .loop .i) (omega arith) in let e = ap (le32 (c .before .before .before .before .before .before .args .file .now)) (c .before .before .before .loop .inv .2) in omega arith
-
-sub-copy : tie.Need-sub-copy Inv-loop μ-loop
-sub-copy c = let b = c .before .before .before .before .before .before .pre .3 (c .before .before .before .loop .i) (omega arith) in let e = ap (le32 (c .before .before .before .before .before .before .args .file .now)) (c .before .before .before .loop .inv .2) in omega arith
-
-part-copy-start : tie.Need-part-copy-start Inv-loop μ-loop
-part-copy-start c = let b = c .before .before .before .before .before .before .pre .3 (c .before .before .before .loop .i) (omega arith) in let e = ap (le32 (c .before .before .before .before .before .before .args .file .now)) (c .before .before .before .loop .inv .2) in omega arith
-
-part-copy-end : tie.Need-part-copy-end Inv-loop μ-loop
-part-copy-end c = let b = c .before .before .before .before .before .before .pre .3 (c .before .before .before .loop .i) (omega arith) in let e = ap (le32 (c .before .before .before .before .before .before .args .file .now)) (c .before .before .before .loop .inv .2) in omega arith
-
-sub-copy-2 : tie.Need-sub-copy-2 Inv-loop μ-loop
+sub-copy-2 : tie.Need-sub-copy-2
 sub-copy-2 c = search needs
 
-part-copy-start-2 : tie.Need-part-copy-start-2 Inv-loop μ-loop
+part-copy-start-2 : tie.Need-part-copy-start-2
 part-copy-start-2 c = search needs
 
-part-copy-end-2 : tie.Need-part-copy-end-2 Inv-loop μ-loop
+part-copy-end-2 : tie.Need-part-copy-end-2
 part-copy-end-2 c = search needs
 
-copy-requires : tie.Need-copy-requires Inv-loop μ-loop
-copy-requires c κs = let b = c .before .before .before .before .before .before .before .before .pre .3 (c .before .before .before .before .before .loop .i) (omega arith) in let e = ap (le32 (c .before .before .before .before .before .before .before .before .args .file .now)) (c .before .before .before .before .before .loop .inv .2) in let d = c .before .before .before .before .before .loop .inv .7 ∙ glyphs-next (c .before .before .before .before .before .before .before .before .args .file .now) (c .before .before .before .before .before .before .before .before .args .entries) (c .before .before .before .before .before .before .before .before .args .bitmaps) (c .before .before .before .before .before .before .before .before .args .size) (c .before .before .before .before .before .before .before .before .args .n) (c .before .before .before .before .before .loop .i) (omega arith) in let l = part-length (c .before .before .before .before .before .before .before .before .args .file .now) (c .before .before .before .before .before .before .before .before .args .entries) (c .before .before .before .before .before .before .before .before .args .bitmaps) (c .before .before .before .before .before .before .before .before .args .size) (c .before .before .before .before .before .before .before .before .args .bitmaps + addressAt (c .before .before .before .before .before .before .before .before .args .file .now) (c .before .before .before .before .before .before .before .before .args .entries + c .before .before .before .before .before .loop .i * 18)) b in let r = turn-room (glyphsFrom (c .before .before .before .before .before .before .before .before .args .file .now) (c .before .before .before .before .before .before .before .before .args .entries) (c .before .before .before .before .before .before .before .before .args .bitmaps) (c .before .before .before .before .before .before .before .before .args .size) 0 (c .before .before .before .before .before .before .before .before .args .n)) (take (c .before .before .before .before .before .before .before .before .args .size) (drop (c .before .before .before .before .before .before .before .before .args .bitmaps + addressAt (c .before .before .before .before .before .before .before .before .args .file .now) (c .before .before .before .before .before .before .before .before .args .entries + c .before .before .before .before .before .loop .i * 18)) (c .before .before .before .before .before .before .before .before .args .file .now))) (glyphsFrom (c .before .before .before .before .before .before .before .before .args .file .now) (c .before .before .before .before .before .before .before .before .args .entries) (c .before .before .before .before .before .before .before .before .args .bitmaps) (c .before .before .before .before .before .before .before .before .args .size) (c .before .before .before .before .before .loop .i + 1) (c .before .before .before .before .before .before .before .before .args .n - (c .before .before .before .before .before .loop .i + 1))) (c .before .before .before .before .before .loop .at) (c .before .before .before .before .before .loop .inv .3) d in simp (length-take, length-drop) (omega arith)
+copy-requires-2 : tie.Need-copy-requires-2
+copy-requires-2 c κs = let k : Even (c .before .before .before .before .before .before .args .f) = rw (c .before .before .enum-told2 .given .1) at (c .before .before .before .before .before .before .pre .0 .8) in let e = ap (λ (x : ℕ). c .before .before .before .before .before .before .args .f .count * x) (k .1) in simp (length-take, length-drop) (omega (arith, e, k .0, c .before .before .before .before .before .before .pre .1, c .before .before .before .before .before .before .pre .0 .7))
 
-add-at : tie.Need-add-at Inv-loop μ-loop
-add-at c = let b = c .before .before .before .before .before .before .before .before .before .before .before .pre .3 (c .before .before .before .before .before .before .before .before .loop .i) (omega arith) in let e = ap (le32 (c .before .before .before .before .before .before .before .before .before .before .before .args .file .now)) (c .before .before .before .before .before .before .before .before .loop .inv .2) in let d = c .before .before .before .before .before .before .before .before .loop .inv .7 ∙ glyphs-next (c .before .before .before .before .before .before .before .before .before .before .before .args .file .now) (c .before .before .before .before .before .before .before .before .before .before .before .args .entries) (c .before .before .before .before .before .before .before .before .before .before .before .args .bitmaps) (c .before .before .before .before .before .before .before .before .before .before .before .args .size) (c .before .before .before .before .before .before .before .before .before .before .before .args .n) (c .before .before .before .before .before .before .before .before .loop .i) (omega arith) in let l = part-length (c .before .before .before .before .before .before .before .before .before .before .before .args .file .now) (c .before .before .before .before .before .before .before .before .before .before .before .args .entries) (c .before .before .before .before .before .before .before .before .before .before .before .args .bitmaps) (c .before .before .before .before .before .before .before .before .before .before .before .args .size) (c .before .before .before .before .before .before .before .before .before .before .before .args .bitmaps + addressAt (c .before .before .before .before .before .before .before .before .before .before .before .args .file .now) (c .before .before .before .before .before .before .before .before .before .before .before .args .entries + c .before .before .before .before .before .before .before .before .loop .i * 18)) b in let r = turn-room (glyphsFrom (c .before .before .before .before .before .before .before .before .before .before .before .args .file .now) (c .before .before .before .before .before .before .before .before .before .before .before .args .entries) (c .before .before .before .before .before .before .before .before .before .before .before .args .bitmaps) (c .before .before .before .before .before .before .before .before .before .before .before .args .size) 0 (c .before .before .before .before .before .before .before .before .before .before .before .args .n)) (take (c .before .before .before .before .before .before .before .before .before .before .before .args .size) (drop (c .before .before .before .before .before .before .before .before .before .before .before .args .bitmaps + addressAt (c .before .before .before .before .before .before .before .before .before .before .before .args .file .now) (c .before .before .before .before .before .before .before .before .before .before .before .args .entries + c .before .before .before .before .before .before .before .before .loop .i * 18)) (c .before .before .before .before .before .before .before .before .before .before .before .args .file .now))) (glyphsFrom (c .before .before .before .before .before .before .before .before .before .before .before .args .file .now) (c .before .before .before .before .before .before .before .before .before .before .before .args .entries) (c .before .before .before .before .before .before .before .before .before .before .before .args .bitmaps) (c .before .before .before .before .before .before .before .before .before .before .before .args .size) (c .before .before .before .before .before .before .before .before .loop .i + 1) (c .before .before .before .before .before .before .before .before .before .before .before .args .n - (c .before .before .before .before .before .before .before .before .loop .i + 1))) (c .before .before .before .before .before .before .before .before .loop .at) (c .before .before .before .before .before .before .before .before .loop .inv .3) d in omega arith
+enum-told-3 : tie.Need-enum-told-3
+enum-told-3 c = search needs
 
-add-entry : tie.Need-add-entry Inv-loop μ-loop
-add-entry c = search needs
+glyph-bytes-requires : tie.Need-glyph-bytes-requires
+glyph-bytes-requires c κs = search needs
 
-add-i : tie.Need-add-i Inv-loop μ-loop
-add-i c = search needs
+put-gathered-requires : tie.Need-put-gathered-requires
+put-gathered-requires c κs = let k : Dispatched (c .before .before .before .before .before .before .args .f) = rw (c .before .before .enum-told3 .given .1) at (c .before .before .before .before .before .before .pre .0 .8) in let e = c .before .glyph-bytes .ensures .0 in (c .before .before .before .before .before .before .pre .0 .0, omega (arith, k .0, c .before .before .before .before .before .before .pre .0 .6, c .before .before .before .before .before .before .pre .0 .7), subst (λ (x : ℕ). c .before .before .before .before .before .before .args .f .count * x ≤ length (c .before .before .before .before .before .before .args .out .now)) (sym e) (c .before .before .before .before .before .before .pre .1), λ i l. subst (λ (x : ℕ). c .before .before .before .before .before .before .args .f .bitmaps + addressAt (c .before .before .before .before .before .before .args .file .now) (entryAt (c .before .before .before .before .before .before .args .f .entries) i) + x ≤ length (c .before .before .before .before .before .before .args .file .now)) (sym e) (c .before .before .before .before .before .before .pre .2 (c .before .before .enum-told3 .given .1) i l))
 
-loop-less : tie.Need-loop-less Inv-loop μ-loop
-loop-less c = search needs
-
-loop-again : tie.Need-loop-again Inv-loop μ-loop
-loop-again c = let b = c .before .before .before .before .before .before .before .before .before .before .before .pre .3 (c .before .before .before .before .before .before .before .before .loop .i) (omega arith) in let e = ap (le32 (c .before .before .before .before .before .before .before .before .before .before .before .args .file .now)) (c .before .before .before .before .before .before .before .before .loop .inv .2) in let d = c .before .before .before .before .before .before .before .before .loop .inv .7 ∙ glyphs-next (c .before .before .before .before .before .before .before .before .before .before .before .args .file .now) (c .before .before .before .before .before .before .before .before .before .before .before .args .entries) (c .before .before .before .before .before .before .before .before .before .before .before .args .bitmaps) (c .before .before .before .before .before .before .before .before .before .before .before .args .size) (c .before .before .before .before .before .before .before .before .before .before .before .args .n) (c .before .before .before .before .before .before .before .before .loop .i) (omega arith) in let l = part-length (c .before .before .before .before .before .before .before .before .before .before .before .args .file .now) (c .before .before .before .before .before .before .before .before .before .before .before .args .entries) (c .before .before .before .before .before .before .before .before .before .before .before .args .bitmaps) (c .before .before .before .before .before .before .before .before .before .before .before .args .size) (c .before .before .before .before .before .before .before .before .before .before .before .args .bitmaps + addressAt (c .before .before .before .before .before .before .before .before .before .before .before .args .file .now) (c .before .before .before .before .before .before .before .before .before .before .before .args .entries + c .before .before .before .before .before .before .before .before .loop .i * 18)) b in (
-  omega arith,
-  next-multiple (c .before .before .before .before .before .before .before .before .loop .at) (c .before .before .before .before .before .before .before .before .loop .i) (c .before .before .before .before .before .before .before .before .before .before .before .args .size) (c .before .before .before .before .before .before .before .before .loop .inv .1),
-  omega arith,
-  turn-within (glyphsFrom (c .before .before .before .before .before .before .before .before .before .before .before .args .file .now) (c .before .before .before .before .before .before .before .before .before .before .before .args .entries) (c .before .before .before .before .before .before .before .before .before .before .before .args .bitmaps) (c .before .before .before .before .before .before .before .before .before .before .before .args .size) 0 (c .before .before .before .before .before .before .before .before .before .before .before .args .n)) (take (c .before .before .before .before .before .before .before .before .before .before .before .args .size) (drop (c .before .before .before .before .before .before .before .before .before .before .before .args .bitmaps + addressAt (c .before .before .before .before .before .before .before .before .before .before .before .args .file .now) (c .before .before .before .before .before .before .before .before .before .before .before .args .entries + c .before .before .before .before .before .before .before .before .loop .i * 18)) (c .before .before .before .before .before .before .before .before .before .before .before .args .file .now))) (glyphsFrom (c .before .before .before .before .before .before .before .before .before .before .before .args .file .now) (c .before .before .before .before .before .before .before .before .before .before .before .args .entries) (c .before .before .before .before .before .before .before .before .before .before .before .args .bitmaps) (c .before .before .before .before .before .before .before .before .before .before .before .args .size) (c .before .before .before .before .before .before .before .before .loop .i + 1) (c .before .before .before .before .before .before .before .before .before .before .before .args .n - (c .before .before .before .before .before .before .before .before .loop .i + 1))) (c .before .before .before .before .before .before .before .before .before .before .before .args .out .now) (c .before .before .before .before .before .before .before .before .loop .out) (c .before .before .before .before .before .before .before .before .before .before .before .args .out .now) (c .before .before .before .before .before .before .before .before .loop .at) (c .before .before .before .before .before .before .before .before .before .before .before .args .size) (c .before .before .before .before .before .before .before .before .loop .inv .3) d (sym l),
-  c .before .before .before .before .before .before .before .before .loop .inv .4,
-  turn-length (glyphsFrom (c .before .before .before .before .before .before .before .before .before .before .before .args .file .now) (c .before .before .before .before .before .before .before .before .before .before .before .args .entries) (c .before .before .before .before .before .before .before .before .before .before .before .args .bitmaps) (c .before .before .before .before .before .before .before .before .before .before .before .args .size) 0 (c .before .before .before .before .before .before .before .before .before .before .before .args .n)) (take (c .before .before .before .before .before .before .before .before .before .before .before .args .size) (drop (c .before .before .before .before .before .before .before .before .before .before .before .args .bitmaps + addressAt (c .before .before .before .before .before .before .before .before .before .before .before .args .file .now) (c .before .before .before .before .before .before .before .before .before .before .before .args .entries + c .before .before .before .before .before .before .before .before .loop .i * 18)) (c .before .before .before .before .before .before .before .before .before .before .before .args .file .now))) (glyphsFrom (c .before .before .before .before .before .before .before .before .before .before .before .args .file .now) (c .before .before .before .before .before .before .before .before .before .before .before .args .entries) (c .before .before .before .before .before .before .before .before .before .before .before .args .bitmaps) (c .before .before .before .before .before .before .before .before .before .before .before .args .size) (c .before .before .before .before .before .before .before .before .loop .i + 1) (c .before .before .before .before .before .before .before .before .before .before .before .args .n - (c .before .before .before .before .before .before .before .before .loop .i + 1))) (c .before .before .before .before .before .before .before .before .before .before .before .args .out .now) (c .before .before .before .before .before .before .before .before .loop .out) _ (c .before .before .before .before .before .before .before .before .loop .at) (c .before .before .before .before .before .before .before .before .before .before .before .args .size) (c .before .before .before .before .before .before .before .before .loop .inv .3) d (sym l) (c .before .before .before .before .before .before .before .before .loop .inv .4) (c .before .before .before .before .before .before .before .before .loop .inv .6) (c .before .before .copy .ensures ∙ ap (λ (p : List ℕ). over p (midOf (c .before .before .before .before .before .before .before .before .loop .at) (length (c .before .before .before .before .before .before .before .before .loop .out) - c .before .before .before .before .before .before .before .before .loop .at) (c .before .before .before .before .before .before .before .before .loop .out))) (part-said (c .before .before .before .before .before .before .before .before .before .before .before .args .file .now) (c .before .before .before .before .before .before .before .before .before .before .before .args .size) (c .before .before .before .before .before .before .before .before .before .before .before .args .bitmaps + c .before .before .before .before .before .size .result) (c .before .before .before .before .before .before .before .before .before .before .before .args .bitmaps + addressAt (c .before .before .before .before .before .before .before .before .before .before .before .args .file .now) (c .before .before .before .before .before .before .before .before .before .before .before .args .entries + c .before .before .before .before .before .before .before .before .loop .i * 18)) (c .before .before .before .before .before .before .before .before .before .before .before .args .bitmaps + c .before .before .before .before .before .size .result + c .before .before .before .before .before .before .before .before .before .before .before .args .size) (omega arith) refl)),
-  turn-over (glyphsFrom (c .before .before .before .before .before .before .before .before .before .before .before .args .file .now) (c .before .before .before .before .before .before .before .before .before .before .before .args .entries) (c .before .before .before .before .before .before .before .before .before .before .before .args .bitmaps) (c .before .before .before .before .before .before .before .before .before .before .before .args .size) 0 (c .before .before .before .before .before .before .before .before .before .before .before .args .n)) (take (c .before .before .before .before .before .before .before .before .before .before .before .args .size) (drop (c .before .before .before .before .before .before .before .before .before .before .before .args .bitmaps + addressAt (c .before .before .before .before .before .before .before .before .before .before .before .args .file .now) (c .before .before .before .before .before .before .before .before .before .before .before .args .entries + c .before .before .before .before .before .before .before .before .loop .i * 18)) (c .before .before .before .before .before .before .before .before .before .before .before .args .file .now))) (glyphsFrom (c .before .before .before .before .before .before .before .before .before .before .before .args .file .now) (c .before .before .before .before .before .before .before .before .before .before .before .args .entries) (c .before .before .before .before .before .before .before .before .before .before .before .args .bitmaps) (c .before .before .before .before .before .before .before .before .before .before .before .args .size) (c .before .before .before .before .before .before .before .before .loop .i + 1) (c .before .before .before .before .before .before .before .before .before .before .before .args .n - (c .before .before .before .before .before .before .before .before .loop .i + 1))) (c .before .before .before .before .before .before .before .before .before .before .before .args .out .now) (c .before .before .before .before .before .before .before .before .loop .out) _ (c .before .before .before .before .before .before .before .before .loop .at) (c .before .before .before .before .before .before .before .before .before .before .before .args .size) (c .before .before .before .before .before .before .before .before .loop .inv .3) d (sym l) (c .before .before .before .before .before .before .before .before .loop .inv .6) (c .before .before .copy .ensures ∙ ap (λ (p : List ℕ). over p (midOf (c .before .before .before .before .before .before .before .before .loop .at) (length (c .before .before .before .before .before .before .before .before .loop .out) - c .before .before .before .before .before .before .before .before .loop .at) (c .before .before .before .before .before .before .before .before .loop .out))) (part-said (c .before .before .before .before .before .before .before .before .before .before .before .args .file .now) (c .before .before .before .before .before .before .before .before .before .before .before .args .size) (c .before .before .before .before .before .before .before .before .before .before .before .args .bitmaps + c .before .before .before .before .before .size .result) (c .before .before .before .before .before .before .before .before .before .before .before .args .bitmaps + addressAt (c .before .before .before .before .before .before .before .before .before .before .before .args .file .now) (c .before .before .before .before .before .before .before .before .before .before .before .args .entries + c .before .before .before .before .before .before .before .before .loop .i * 18)) (c .before .before .before .before .before .before .before .before .before .before .before .args .bitmaps + c .before .before .before .before .before .size .result + c .before .before .before .before .before .before .before .before .before .before .before .args .size) (omega arith) refl)),
-  turn-left (glyphsFrom (c .before .before .before .before .before .before .before .before .before .before .before .args .file .now) (c .before .before .before .before .before .before .before .before .before .before .before .args .entries) (c .before .before .before .before .before .before .before .before .before .before .before .args .bitmaps) (c .before .before .before .before .before .before .before .before .before .before .before .args .size) 0 (c .before .before .before .before .before .before .before .before .before .before .before .args .n)) (take (c .before .before .before .before .before .before .before .before .before .before .before .args .size) (drop (c .before .before .before .before .before .before .before .before .before .before .before .args .bitmaps + addressAt (c .before .before .before .before .before .before .before .before .before .before .before .args .file .now) (c .before .before .before .before .before .before .before .before .before .before .before .args .entries + c .before .before .before .before .before .before .before .before .loop .i * 18)) (c .before .before .before .before .before .before .before .before .before .before .before .args .file .now))) (glyphsFrom (c .before .before .before .before .before .before .before .before .before .before .before .args .file .now) (c .before .before .before .before .before .before .before .before .before .before .before .args .entries) (c .before .before .before .before .before .before .before .before .before .before .before .args .bitmaps) (c .before .before .before .before .before .before .before .before .before .before .before .args .size) (c .before .before .before .before .before .before .before .before .loop .i + 1) (c .before .before .before .before .before .before .before .before .before .before .before .args .n - (c .before .before .before .before .before .before .before .before .loop .i + 1))) (c .before .before .before .before .before .before .before .before .before .before .before .args .out .now) (c .before .before .before .before .before .before .before .before .loop .out) (c .before .before .before .before .before .before .before .before .before .before .before .args .out .now) (c .before .before .before .before .before .before .before .before .loop .at) (c .before .before .before .before .before .before .before .before .before .before .before .args .size) (c .before .before .before .before .before .before .before .before .loop .inv .3) d (sym l),
-)
-
-same-length : tie.Need-same-length Inv-loop μ-loop
+same-length : tie.Need-same-length
 same-length c = search needs
 
-returns : tie.Need-returns Inv-loop μ-loop
-returns c = all-over _ _ _ (c .before .loop .at) (c .before .loop .inv .7 ∙ glyphs-done _ _ _ _ (c .before .before .before .before .args .n) (c .before .loop .i) (c .before .loop .inv .0) (omega arith)) (c .before .loop .inv .6)
+returns : tie.Need-returns
+returns c = let k : Even (c .before .before .before .before .before .before .before .before .before .args .f) = rw (c .before .before .before .before .before .enum-told .given .1) at (c .before .before .before .before .before .before .before .before .before .pre .0 .8) in c .before .before .copy .ensures ∙ ap (λ (p : List ℕ). over p (c .before .before .before .before .before .before .before .before .before .args .out .now)) (even-glyphs (c .before .before .before .before .before .before .before .before .before .args .file .now) (c .before .before .before .before .before .before .before .before .before .args .f) (k .0) ∙ glyphs-of (c .before .before .before .before .before .before .before .before .before .args .file .now) (c .before .before .before .before .before .before .before .before .before .args .f) Psf1 (c .before .before .before .before .before .enum-told .given .1))
+
+same-length-2 : tie.Need-same-length-2
+same-length-2 c = search needs
+
+returns-2 : tie.Need-returns-2
+returns-2 c = let k : Even (c .before .before .before .before .before .before .before .before .before .args .f) = rw (c .before .before .before .before .before .enum-told2 .given .1) at (c .before .before .before .before .before .before .before .before .before .pre .0 .8) in c .before .before .copy2 .ensures ∙ ap (λ (p : List ℕ). over p (c .before .before .before .before .before .before .before .before .before .args .out .now)) (even-glyphs (c .before .before .before .before .before .before .before .before .before .args .file .now) (c .before .before .before .before .before .before .before .before .before .args .f) (k .0) ∙ glyphs-of (c .before .before .before .before .before .before .before .before .before .args .file .now) (c .before .before .before .before .before .before .before .before .before .args .f) Psf2 (c .before .before .before .before .before .enum-told2 .given .1))
+
+same-length-3 : tie.Need-same-length-3
+same-length-3 c = search needs
+
+returns-3 : tie.Need-returns-3
+returns-3 c = c .before .before .put-gathered .ensures ∙ ap (λ (p : List ℕ). over p (c .before .before .before .before .before .before .before .before .before .args .out .now)) (ap (λ (x : ℕ). gathered (c .before .before .before .before .before .before .before .before .before .args .file .now) (c .before .before .before .before .before .before .before .before .before .args .f) x 0 (c .before .before .before .before .before .before .before .before .before .args .f .count)) (c .before .before .before .before .glyph-bytes .ensures .0) ∙ glyphs-of (c .before .before .before .before .before .before .before .before .before .args .file .now) (c .before .before .before .before .before .before .before .before .before .args .f) Vfont2 (c .before .before .before .before .before .enum-told3 .given .1))
 
 pub put-glyphs-spec : {M : Type 1} → statement M
 put-glyphs-spec =
     tie.close
     (tie.spec
-    Inv-loop
-    μ-loop
-    loop-holds
-    get32-requires
-    size-requires
-    add-start
-    add-end
+    enum-told
     sub-copy
     part-copy-start
     part-copy-end
+    copy-requires
+    enum-told-2
     sub-copy-2
     part-copy-start-2
     part-copy-end-2
-    copy-requires
-    add-at
-    add-entry
-    add-i
-    loop-less
-    loop-again
+    copy-requires-2
+    enum-told-3
+    glyph-bytes-requires
+    put-gathered-requires
     same-length
-    returns)
+    returns
+    same-length-2
+    returns-2
+    same-length-3
+    returns-3)

@@ -1,5 +1,5 @@
 -- `layout::put_metrics` meets its contract: five numbers, one behind the other. Assumes nothing.
-use Rattle.layout.specs.Layout.{fields, flagsOf, header32, modeOf, header4, metricsBytes, entryBytes, entriesFrom, glyphsFrom}
+use Rattle.layout.specs.Meaning.{metricsBytes, entryBytes}
 use Rattle.base.proofs.Over.{over-none, behind, stores, turn-within, turn-left, turn-over, turn-length, turn-room, all-over}
 use Rattle.base.specs.Numbers.{bytes16, bytes32}
 use Rattle.base.specs.Over.{over}
