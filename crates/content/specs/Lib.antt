@@ -1,0 +1,2 @@
+-- What a font is, whatever its kind of file.
+pub mod Meaning
