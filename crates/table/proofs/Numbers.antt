@@ -52,6 +52,7 @@ stops xs e g n o at h q z f = record { from = omega arith; short = omega arith; 
     beyond' : (m : ℕ) → h < g + m → checkSteps e g m o at xs ≡ checkSteps e g (suc n) o at xs
     beyond' zero l = absurd (omega arith)
     beyond' (suc m) l = f m
+
     before' : (m : ℕ) → h ≡ g + m → Ended (checkSteps e g m o at xs)
     before' zero l = z
     before' (suc m) l = absurd (omega arith)
@@ -64,6 +65,7 @@ stays x xs e g n o o' at next h z f r = record { from = r .from; short = r .shor
     beyond' : (m : ℕ) → h < g + m → checkSteps e g m o at (x ∷ xs) ≡ checkSteps e g (suc n) o at (x ∷ xs)
     beyond' zero l = absurd (omega (arith, r .from))
     beyond' (suc m) l = f m ∙ r .beyond (suc m) l ∙ sym (f n)
+
     before' : (m : ℕ) → h ≡ g + m → Ended (checkSteps e g m o at (x ∷ xs))
     before' zero l = z
     before' (suc m) l = subst Ended (sym (f m)) (r .before (suc m) l)
@@ -76,6 +78,7 @@ ends x xs e g n o o' at next h f r = record { from = omega (arith, r .from); sho
     beyond' : (m : ℕ) → h < g + m → checkSteps e g m o at (x ∷ xs) ≡ checkSteps e g (suc n) o at (x ∷ xs)
     beyond' zero l = absurd (omega (arith, r .from))
     beyond' (suc m) l = f m ∙ r .beyond m (omega arith) ∙ sym (f n)
+
     before' : (m : ℕ) → h ≡ g + m → Ended (checkSteps e g m o at (x ∷ xs))
     before' zero l = absurd (omega (arith, r .from))
     before' (suc m) l = subst Ended (sym (f m)) (r .before m (omega arith))
