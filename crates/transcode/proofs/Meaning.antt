@@ -72,7 +72,7 @@ module _ (from to : Coding) (ds : List Desc) (s : List ℕ) (o : Readable from d
       let p : length (bytes from (u .before)) ≡ k = omega (arith, u .here) in (
         omega (arith, r .1, w .0),
         subst (λ (x : List ℕ). InGlyph from x k g) (sym e)
-        (subst (λ (h : ℕ). InGlyph from (encode from ds) k h) (sym (r .1)) (subst (λ (j : ℕ). InGlyph from (encode from ds) j (endsIn (u .before))) p (w .1))),
+            (subst (λ (h : ℕ). InGlyph from (encode from ds) k h) (sym (r .1)) (subst (λ (j : ℕ). InGlyph from (encode from ds) j (endsIn (u .before))) p (w .1))),
       )
 
   -- what is written is the same descriptions in the other coding
