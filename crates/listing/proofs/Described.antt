@@ -6,16 +6,16 @@ use Prim.Native.Nat.{ℕ, _+_}
 use Rattle.table.specs.declared.Item.{Item}
 use Rattle.table.specs.declared.Item.the-variants.{Single, Start, Value, End}
 use Rattle.table.specs.Grammar.{Seq, Desc, each, seqs, described, items}
-use Rattle.listing.specs.Text.{decimal, hexadecimal, itemText, pieceOf, linesOf}
+use Rattle.listing.specs.Text.{numeral, itemText, pieceOf, linesOf}
 use Rattle.listing.specs.Lines.{singlesText, valuesText, sequencesText, glyphLine, glyphLines}
 
 module _ (g : ℕ) where
   -- the number stands in front of the first item
-  numbered : (i : Item) (is : List Item) → linesOf g true (i ∷ is) ≡ decimal g ++ linesOf g false (i ∷ is)
+  numbered : (i : Item) (is : List Item) → linesOf g true (i ∷ is) ≡ numeral 10 g ++ linesOf g false (i ∷ is)
   unfolding linesOf pieceOf
-  numbered i is = append-assoc (decimal g) (itemText i) _
+  numbered i is = append-assoc (numeral 10 g) (itemText i) _
 
-  front : (vs : List ℕ) (qs : List Seq) (k : List Item) → linesOf g true (each Single vs (seqs qs (End ∷ k))) ≡ decimal g ++ linesOf g false (each Single vs (seqs qs (End ∷ k)))
+  front : (vs : List ℕ) (qs : List Seq) (k : List Item) → linesOf g true (each Single vs (seqs qs (End ∷ k))) ≡ numeral 10 g ++ linesOf g false (each Single vs (seqs qs (End ∷ k)))
   front [] [] k = numbered End k
   front [] (q ∷ qs) k = numbered Start (Value (q .first) ∷ each Value (q .others) (seqs qs (End ∷ k)))
   front (v ∷ vs) qs k = numbered (Single v) (each Single vs (seqs qs (End ∷ k)))
@@ -23,12 +23,12 @@ module _ (g : ℕ) where
   singles-lines : (vs : List ℕ) (k : List Item) → linesOf g false (each Single vs k) ≡ singlesText vs ++ linesOf g false k
   unfolding linesOf pieceOf
   singles-lines [] k = refl
-  singles-lines (v ∷ vs) k = ap (λ (z : List ℕ). 32 ∷ (hexadecimal v ++ z)) (singles-lines vs k) ∙ ap (λ (z : List ℕ). 32 ∷ z) (sym (append-assoc (hexadecimal v) (singlesText vs) (linesOf g false k)))
+  singles-lines (v ∷ vs) k = ap (λ (z : List ℕ). 32 ∷ (numeral 16 v ++ z)) (singles-lines vs k) ∙ ap (λ (z : List ℕ). 32 ∷ z) (sym (append-assoc (numeral 16 v) (singlesText vs) (linesOf g false k)))
 
   values-lines : (vs : List ℕ) (k : List Item) → linesOf g false (each Value vs k) ≡ valuesText vs ++ linesOf g false k
   unfolding linesOf pieceOf
   values-lines [] k = refl
-  values-lines (v ∷ vs) k = ap (λ (z : List ℕ). 43 ∷ (hexadecimal v ++ z)) (values-lines vs k) ∙ ap (λ (z : List ℕ). 43 ∷ z) (sym (append-assoc (hexadecimal v) (valuesText vs) (linesOf g false k)))
+  values-lines (v ∷ vs) k = ap (λ (z : List ℕ). 43 ∷ (numeral 16 v ++ z)) (values-lines vs k) ∙ ap (λ (z : List ℕ). 43 ∷ z) (sym (append-assoc (numeral 16 v) (valuesText vs) (linesOf g false k)))
 
   seqs-lines : (qs : List Seq) (k : List Item) → linesOf g false (seqs qs k) ≡ sequencesText qs ++ linesOf g false k
   unfolding linesOf pieceOf
@@ -50,11 +50,11 @@ module _ (g : ℕ) where
   line : (d : Desc) (k : List Item) → linesOf g true (described d k) ≡ glyphLine g d ++ linesOf (g + 1) true k
   line d k =
       front (d .singles) (d .sequences) k
-      ∙ ap (λ (z : List ℕ). decimal g ++ z)
+      ∙ ap (λ (z : List ℕ). numeral 10 g ++ z)
       (singles-lines (d .singles) (seqs (d .sequences) (End ∷ k))
       ∙ ap (λ (z : List ℕ). singlesText (d .singles) ++ z)
       (seqs-lines (d .sequences) (End ∷ k) ∙ ap (λ (z : List ℕ). sequencesText (d .sequences) ++ z) (end-lines k)))
-      ∙ moved (decimal g) (singlesText (d .singles)) (sequencesText (d .sequences)) (10 ∷ []) (linesOf (g + 1) true k)
+      ∙ moved (numeral 10 g) (singlesText (d .singles)) (sequencesText (d .sequences)) (10 ∷ []) (linesOf (g + 1) true k)
 
 pub lines-of : (g : ℕ) (ds : List Desc) → linesOf g true (items ds) ≡ glyphLines g ds
 unfolding linesOf

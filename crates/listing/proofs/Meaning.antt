@@ -3,6 +3,7 @@ use mathlib.Core.Path.{_≡_, refl, sym, _∙_, ap}
 use mathlib.Core.Bool.{true, false}
 use mathlib.Core.List.{List, [], _∷_, _++_, append-nil}
 use Prim.Native.Nat.{ℕ, _≤_, _<_}
+use native.Mathlib.Omega.{arith}
 use lib.ListN.{length}
 use Rattle.refusal.specs.declared.Refusal.{Refusal}
 use Rattle.table.specs.Steps.{itemsIn}
@@ -13,9 +14,9 @@ use Rattle.header.specs.declared.Checked.the-variants.{Sound, Refused}
 use Rattle.stages.specs.Check.{codingOf, tailOf, checkOf}
 use Rattle.base.specs.Over.{over}
 use Rattle.listing.specs.declared.Listed.the-variants.{Wrote}
-use Rattle.listing.specs.Text.{decimal, hexadecimal, firstLine, linesOf, tableText, linesText, refusedText, bigText, listingOf, listedOf, leftOf}
+use Rattle.listing.specs.Text.{numeral, firstLine, linesOf, tableText, linesText, refusedText, bigText, listingOf, listedOf, leftOf}
 use Rattle.listing.specs.Lines.{glyphLines, numberIn, NoLeadingZero}
-use Rattle.listing.proofs.Numerals.{decimal-back, decimal-leads, hexadecimal-back, hexadecimal-leads}
+use Rattle.listing.proofs.Numerals.{numeral-back, numeral-leads}
 use Rattle.listing.proofs.Described.{lines-of}
 use Rattle.listing.proofs.Answers.{listing-big, listing-answer, font-text, lines-bare, wrote-inside, always-wrote}
 
@@ -50,24 +51,33 @@ room-suffices = always-wrote
 pub listed-inside : (text : List ℕ) (room n : ℕ) → listedOf text room ≡ Wrote n → n ≤ room
 listed-inside = wrote-inside
 
--- decimal digits are read as the number, and don't begin with 0 unless it is 0
-pub decimal-read : (n : ℕ) → numberIn 10 0 (decimal n) ≡ n
-decimal-read = decimal-back
+-- digits are read as the number, and don't begin with 0 unless it is 0
+pub numeral-read : (radix n : ℕ) → 2 ≤ radix → radix ≤ 16 → numberIn radix 0 (numeral radix n) ≡ n
+numeral-read = numeral-back
 
-pub decimal-no-zero : (n : ℕ) → 1 ≤ n → NoLeadingZero (decimal n)
-decimal-no-zero = decimal-leads
+pub numeral-no-zero : (radix n : ℕ) → 2 ≤ radix → radix ≤ 16 → 1 ≤ n → NoLeadingZero (numeral radix n)
+numeral-no-zero = numeral-leads
 
-pub decimal-zero : decimal 0 ≡ 48 ∷ []
-unfolding decimal Rattle.listing.specs.Text.digits Rattle.listing.specs.Text.digitOf
-decimal-zero = refl
+pub numeral-zero : (radix : ℕ) → numeral radix 0 ≡ 48 ∷ []
+unfolding numeral Rattle.listing.specs.Text.digits Rattle.listing.specs.Text.digitOf
+numeral-zero radix = refl
 
--- and so are hexadecimal ones
-pub hexadecimal-read : (v : ℕ) → numberIn 16 0 (hexadecimal v) ≡ v
-hexadecimal-read = hexadecimal-back
+-- so are decimal ones
+pub decimal-read : (n : ℕ) → numberIn 10 0 (numeral 10 n) ≡ n
+decimal-read n = numeral-read 10 n (omega arith) (omega arith)
 
-pub hexadecimal-no-zero : (v : ℕ) → 1 ≤ v → NoLeadingZero (hexadecimal v)
-hexadecimal-no-zero = hexadecimal-leads
+pub decimal-no-zero : (n : ℕ) → 1 ≤ n → NoLeadingZero (numeral 10 n)
+decimal-no-zero n = numeral-no-zero 10 n (omega arith) (omega arith)
 
-pub hexadecimal-zero : hexadecimal 0 ≡ 48 ∷ []
-unfolding hexadecimal Rattle.listing.specs.Text.digits Rattle.listing.specs.Text.digitOf
-hexadecimal-zero = refl
+pub decimal-zero : numeral 10 0 ≡ 48 ∷ []
+decimal-zero = numeral-zero 10
+
+-- and hexadecimal ones
+pub hexadecimal-read : (v : ℕ) → numberIn 16 0 (numeral 16 v) ≡ v
+hexadecimal-read v = numeral-read 16 v (omega arith) (omega arith)
+
+pub hexadecimal-no-zero : (v : ℕ) → 1 ≤ v → NoLeadingZero (numeral 16 v)
+hexadecimal-no-zero v = numeral-no-zero 16 v (omega arith) (omega arith)
+
+pub hexadecimal-zero : numeral 16 0 ≡ 48 ∷ []
+hexadecimal-zero = numeral-zero 16

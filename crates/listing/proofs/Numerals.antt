@@ -3,13 +3,15 @@ use mathlib.Core.Path.{_≡_, refl, sym, _∙_, ap}
 use mathlib.Core.Logic.{_⊎_, inl, inr}
 use mathlib.Core.List.{List, [], _∷_, _++_}
 use Prim.Native.Nat.{ℕ, zero, suc, _+_, _*_, _-_, _/_, _%_, _≤_, _<_}
+use native.Mathlib.Nat.{le-div-iff-mul-le, div-add-mod'}
 use native.Mathlib.Omega.{arith}
 use lib.Dec.{ltb}
 use borrow.Author.Tests.{lt-ltb, le-ltb}
 use Rattle.base.specs.Choice.{pick}
 use Rattle.base.proofs.Tests.{below}
-use Rattle.listing.specs.Text.{digitOf, digits, decimal, hexadecimal}
+use Rattle.listing.specs.Text.{digitOf, digits, numeral}
 use Rattle.listing.specs.Lines.{digitValue, numberIn, NoLeadingZero}
+use Rattle.listing.proofs.Digits.{divided, digit-left}
 
 -- a digit is read as its number
 digit-read : (d : ℕ) → d < 16 → digitValue (digitOf d) ≡ d
@@ -43,62 +45,34 @@ zero-more b x = omega arith
 one-read : (b d : ℕ) → d < 16 → numberIn b 0 (digitOf d ∷ []) ≡ d
 one-read b d h = zero-more b (digitValue (digitOf d)) ∙ digit-read d h
 
--- a base up to 16
-module _ (b : ℕ) (most : b ≤ 16) (less : (n : ℕ) → b ≤ n → n / b < n) (some : (n : ℕ) → b ≤ n → 1 ≤ n / b) (rest : (n : ℕ) → n % b < b) (whole : (n : ℕ) → n / b * b + n % b ≡ n) where
+-- a radix that has digits
+module _ (b : ℕ) (some : 2 ≤ b) (most : b ≤ 16) where
+  left : (n : ℕ) → b ≤ n → 1 ≤ n / b
+  left n l = le-div-iff-mul-le {k = b} {x = 1} {y = n} (omega arith) .1 (omega arith)
+
   read : (k n : ℕ) → n ≤ k → n < b ⊎ (b ≤ n) → numberIn b 0 (digits b k n) ≡ n
   unfolding digits
   read zero n h (inl l) = one-read b n (omega arith)
-  read zero n h (inr l) = absurd (omega (arith, some n l, less n l))
+  read zero n h (inr l) = absurd (omega arith)
   read (suc k) n h (inl l) = rw (lt-ltb n b l) (one-read b n (omega arith))
   read (suc k) n h (inr l) =
       rw (le-ltb n b l)
       (number-more b 0 (digits b k (n / b)) (digitOf (n % b))
-      ∙ ap (λ (z : ℕ). z * b + digitValue (digitOf (n % b))) (read k (n / b) (omega (arith, less n l)) (below (n / b) b))
-      ∙ ap (λ (z : ℕ). n / b * b + z) (digit-read (n % b) (omega (arith, rest n)))
-      ∙ whole n)
+      ∙ ap (λ (z : ℕ). z * b + digitValue (digitOf (n % b))) (read k (n / b) (omega (arith, divided b n some l)) (below (n / b) b))
+      ∙ ap (λ (z : ℕ). n / b * b + z) (digit-read (n % b) (omega (arith, digit-left b n some)))
+      ∙ div-add-mod' n b)
 
   leads : (k n : ℕ) → n ≤ k → 1 ≤ n → n < b ⊎ (b ≤ n) → NoLeadingZero (digits b k n)
   unfolding digits
   leads zero n h g l = absurd (omega arith)
   leads (suc k) n h g (inl l) = rw (lt-ltb n b l) (digit-some n g)
-  leads (suc k) n h g (inr l) = rw (le-ltb n b l) (lead-more (digits b k (n / b)) (digitOf (n % b)) (leads k (n / b) (omega (arith, less n l)) (some n l) (below (n / b) b)))
+  leads (suc k) n h g (inr l) =
+      rw (le-ltb n b l) (lead-more (digits b k (n / b)) (digitOf (n % b)) (leads k (n / b) (omega (arith, divided b n some l)) (left n l) (below (n / b) b)))
 
-less10 : (n : ℕ) → 10 ≤ n → n / 10 < n
-less10 n h = omega arith
+pub numeral-back : (b n : ℕ) → 2 ≤ b → b ≤ 16 → numberIn b 0 (numeral b n) ≡ n
+unfolding numeral
+numeral-back b n some most = read b some most n n (omega arith) (below n b)
 
-some10 : (n : ℕ) → 10 ≤ n → 1 ≤ n / 10
-some10 n h = omega arith
-
-rest10 : (n : ℕ) → n % 10 < 10
-rest10 n = omega arith
-
-whole10 : (n : ℕ) → n / 10 * 10 + n % 10 ≡ n
-whole10 n = omega arith
-
-less16 : (n : ℕ) → 16 ≤ n → n / 16 < n
-less16 n h = omega arith
-
-some16 : (n : ℕ) → 16 ≤ n → 1 ≤ n / 16
-some16 n h = omega arith
-
-rest16 : (n : ℕ) → n % 16 < 16
-rest16 n = omega arith
-
-whole16 : (n : ℕ) → n / 16 * 16 + n % 16 ≡ n
-whole16 n = omega arith
-
-pub decimal-back : (n : ℕ) → numberIn 10 0 (decimal n) ≡ n
-unfolding decimal
-decimal-back n = read 10 (omega arith) less10 some10 rest10 whole10 n n (omega arith) (below n 10)
-
-pub decimal-leads : (n : ℕ) → 1 ≤ n → NoLeadingZero (decimal n)
-unfolding decimal
-decimal-leads n h = leads 10 (omega arith) less10 some10 rest10 whole10 n n (omega arith) h (below n 10)
-
-pub hexadecimal-back : (v : ℕ) → numberIn 16 0 (hexadecimal v) ≡ v
-unfolding hexadecimal
-hexadecimal-back v = read 16 (omega arith) less16 some16 rest16 whole16 v v (omega arith) (below v 16)
-
-pub hexadecimal-leads : (v : ℕ) → 1 ≤ v → NoLeadingZero (hexadecimal v)
-unfolding hexadecimal
-hexadecimal-leads v h = leads 16 (omega arith) less16 some16 rest16 whole16 v v (omega arith) h (below v 16)
+pub numeral-leads : (b n : ℕ) → 2 ≤ b → b ≤ 16 → 1 ≤ n → NoLeadingZero (numeral b n)
+unfolding numeral
+numeral-leads b n some most h = leads b some most n n (omega arith) h (below n b)

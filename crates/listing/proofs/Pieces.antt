@@ -1,5 +1,5 @@
 -- The pieces of the listing: a number and the byte after it, an item with or without its glyph's number, and the lines by the first step.
-use mathlib.Core.Path.{_≡_, refl, sym, _∙_, ap}
+use mathlib.Core.Path.{_≡_, refl, sym, _∙_, ap, subst}
 use mathlib.Core.Bool.{Bool, true, false}
 use mathlib.Core.List.{List, [], _∷_, _++_}
 use Prim.Native.Nat.{ℕ, _+_, _-_, _≤_, _<_}
@@ -21,14 +21,18 @@ use Rattle.header.specs.declared.Kind.{Kind}
 use Rattle.header.specs.declared.Kind.the-variants.{Psf1, Psf2, Vfont2}
 use Rattle.header.specs.declared.Font.{Font}
 use Rattle.listing.proofs.Digits.{decimal-20}
-use Rattle.listing.specs.Text.{decimal, numberText, kindText, tableWord, firstLine, refusedText, itemText, pieceOf, linesOf, tableText}
+use Rattle.listing.specs.Text.{numeral, numberText, kindText, tableWord, firstLine, refusedText, itemText, pieceOf, linesOf, tableText}
 
-pub number-text : (n b : ℕ) → numberText n b ≡ decimal n ++ (b ∷ [])
+-- a number under another name
+pub same-numeral : (b m n : ℕ) (xs ys : List ℕ) (k : ℕ) → m ≡ n → (k ≡ length (numeral b m)) × (ys ≡ over (numeral b m) xs) → (k ≡ length (numeral b n)) × (ys ≡ over (numeral b n) xs)
+same-numeral b m n xs ys k e = subst (λ (x : ℕ). (k ≡ length (numeral b x)) × (ys ≡ over (numeral b x) xs)) e
+
+pub number-text : (n b : ℕ) → numberText n b ≡ numeral 10 n ++ (b ∷ [])
 unfolding numberText
 number-text n b = refl
 
-pub number-length : (n b : ℕ) → length (numberText n b) ≡ length (decimal n) + 1
-number-length n b = ap length (number-text n b) ∙ length-append (decimal n) (b ∷ [])
+pub number-length : (n b : ℕ) → length (numberText n b) ≡ length (numeral 10 n) + 1
+number-length n b = ap length (number-text n b) ∙ length-append (numeral 10 n) (b ∷ [])
 
 -- no number is longer than 21 bytes with the byte after it; no kind's name is longer than 7, and no word at the line's end than 6
 pub number-21 : (n b : ℕ) → n < 18446744073709551616 → length (numberText n b) ≤ 21
@@ -52,12 +56,12 @@ unfolding refusedText
 refused-text r n p e q = rw (e, q)
 
 module _ (fresh : Bool) (g : ℕ) (i : Item) where
-  pub piece-fresh : fresh ≡ true → pieceOf fresh g i ≡ decimal g ++ itemText i
+  pub piece-fresh : fresh ≡ true → pieceOf fresh g i ≡ numeral 10 g ++ itemText i
   unfolding pieceOf
   piece-fresh e = rw e
 
-  pub piece-fresh-length : fresh ≡ true → length (pieceOf fresh g i) ≡ length (decimal g) + length (itemText i)
-  piece-fresh-length e = ap length (piece-fresh e) ∙ length-append (decimal g) (itemText i)
+  pub piece-fresh-length : fresh ≡ true → length (pieceOf fresh g i) ≡ length (numeral 10 g) + length (itemText i)
+  piece-fresh-length e = ap length (piece-fresh e) ∙ length-append (numeral 10 g) (itemText i)
 
   pub piece-plain : fresh ≡ false → pieceOf fresh g i ≡ itemText i
   unfolding pieceOf

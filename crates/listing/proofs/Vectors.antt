@@ -11,7 +11,7 @@ use Rattle.table.specs.Check.{checkSteps}
 use Rattle.entries.specs.Entries.{glyphBytes}
 use Rattle.header.specs.Headers.{kindOf, headOf, psf2Body, headerOf}
 use Rattle.stages.specs.Check.{bodyOf, checkOf}
-use Rattle.listing.specs.Text.{digitOf, digits, decimal, hexadecimal, numberText, firstLine, pieceOf, linesOf, tableText, linesText, fontText, listingOf}
+use Rattle.listing.specs.Text.{digitOf, digits, numeral, numberText, firstLine, pieceOf, linesOf, tableText, linesText, fontText, listingOf}
 
 -- the header with header size 32, flags 1, n = 2, c = 2, height 2, width 3; bitmaps A0 40 E0 20; table 41 FF C3 85 FE 41 CC 8A FF
 abbrev pub small : List ℕ
@@ -27,5 +27,5 @@ smallText =
     ∷ 49 ∷ 32 ∷ 67 ∷ 53 ∷ 32 ∷ 43 ∷ 52 ∷ 49 ∷ 43 ∷ 51 ∷ 48 ∷ 65 ∷ 10 ∷ []
 
 pub small-listed : listingOf small ≡ smallText
-unfolding when le16 le32 leadOf conts readValue readUtf8 markLen readToken stepsFrom toldAs told checkSteps glyphBytes kindOf headOf psf2Body headerOf bodyOf checkOf listingOf fontText linesText tableText linesOf pieceOf firstLine numberText decimal hexadecimal digits digitOf
+unfolding when le16 le32 leadOf conts readValue readUtf8 markLen readToken stepsFrom toldAs told checkSteps glyphBytes kindOf headOf psf2Body headerOf bodyOf checkOf listingOf fontText linesText tableText linesOf pieceOf firstLine numberText numeral digits digitOf
 small-listed = refl

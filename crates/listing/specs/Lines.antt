@@ -5,17 +5,17 @@ use mathlib.Core.List.{List, [], _∷_, _++_}
 use lib.Dec.{ltb}
 use Rattle.base.specs.Choice.{pick}
 use Rattle.table.specs.Grammar.{Seq, Desc}
-use Rattle.listing.specs.Text.{decimal, hexadecimal}
+use Rattle.listing.specs.Text.{numeral}
 
 -- ` V` for each single
 abbrev pub singlesText : List ℕ → List ℕ
 singlesText [] = []
-singlesText (v ∷ vs) = 32 ∷ (hexadecimal v ++ singlesText vs)
+singlesText (v ∷ vs) = 32 ∷ (numeral 16 v ++ singlesText vs)
 
 -- `+V` for each value of a sequence
 abbrev pub valuesText : List ℕ → List ℕ
 valuesText [] = []
-valuesText (v ∷ vs) = 43 ∷ (hexadecimal v ++ valuesText vs)
+valuesText (v ∷ vs) = 43 ∷ (numeral 16 v ++ valuesText vs)
 
 -- ` +V+V` for each sequence
 abbrev pub sequencesText : List Seq → List ℕ
@@ -24,7 +24,7 @@ sequencesText (q ∷ qs) = 32 ∷ (valuesText (q .first ∷ q .others) ++ sequen
 
 -- a glyph's number, its singles, its sequences, a newline
 abbrev pub glyphLine : ℕ → Desc → List ℕ
-glyphLine g d = decimal g ++ (singlesText (d .singles) ++ (sequencesText (d .sequences) ++ (10 ∷ [])))
+glyphLine g d = numeral 10 g ++ (singlesText (d .singles) ++ (sequencesText (d .sequences) ++ (10 ∷ [])))
 
 -- a line for each glyph, counted from g
 abbrev pub glyphLines : ℕ → List Desc → List ℕ

@@ -26,22 +26,18 @@ use Rattle.listing.specs.declared.Listed.the-variants.{Wrote, Refused as
 unfoldable pub digitOf : ℕ → ℕ
 digitOf d = pick (ltb d 10) (48 + d) (55 + d)
 
--- n in a base, its highest digit first, where n has at most k digits
+-- n in a radix, its highest digit first, where n has at most k digits behind that
 unfoldable pub digits : ℕ → ℕ → ℕ → List ℕ
-digits base zero n = digitOf n ∷ []
-digits base (suc k) n = pick (ltb n base) (digitOf n ∷ []) (digits base k (n / base) ++ (digitOf (n % base) ∷ []))
+digits radix zero n = digitOf n ∷ []
+digits radix (suc k) n = pick (ltb n radix) (digitOf n ∷ []) (digits radix k (n / radix) ++ (digitOf (n % radix) ∷ []))
 
--- "Numbers other than values are decimal."
-unfoldable pub decimal : ℕ → List ℕ
-decimal n = digits 10 n n
-
--- "Values are upper-case hexadecimal without leading zeros."
-unfoldable pub hexadecimal : ℕ → List ℕ
-hexadecimal v = digits 16 v v
+-- n in a radix: "Numbers other than values are decimal. Values are upper-case hexadecimal without leading zeros."
+unfoldable pub numeral : ℕ → ℕ → List ℕ
+numeral radix n = digits radix n n
 
 -- a number and the byte after it
 unfoldable pub numberText : ℕ → ℕ → List ℕ
-numberText n b = decimal n ++ (b ∷ [])
+numberText n b = numeral 10 n ++ (b ∷ [])
 
 -- `psf1`, `psf2` or `vfont2`, and a blank
 abbrev pub kindText : Kind → List ℕ
@@ -60,14 +56,14 @@ firstLine f = kindText (f .kind) ++ numberText (f .count) 32 ++ numberText (f .h
 
 -- an item: a single is a blank and its value; a sequence is a blank and, for each value, `+` and the value; the end is a newline
 abbrev pub itemText : Item → List ℕ
-itemText (Single v) = 32 ∷ hexadecimal v
+itemText (Single v) = 32 ∷ numeral 16 v
 itemText Start = 32 ∷ []
-itemText (Value v) = 43 ∷ hexadecimal v
+itemText (Value v) = 43 ∷ numeral 16 v
 itemText End = 10 ∷ []
 
 -- an item of glyph g, the glyph's number in front of it where it is the first of the description
 unfoldable pub pieceOf : Bool → ℕ → Item → List ℕ
-pieceOf fresh g i = pick fresh (decimal g) [] ++ itemText i
+pieceOf fresh g i = pick fresh (numeral 10 g) [] ++ itemText i
 
 -- the glyph that the item after an item of glyph g belongs to
 abbrev pub nextGlyph : ℕ → Item → ℕ

@@ -12,7 +12,7 @@ ghost use Prim.Native.Nat.{ℕ, _+_, _*_, _≤_, _<_};
 ghost use lib.ListN.{length};
 ghost use Rattle.base.specs.Over.{over};
 ghost use Rattle.header.specs.Placed.{Placed};
-ghost use Rattle.listing.specs.Text.{digitOf, decimal, hexadecimal, numberText, kindText, tableWord, firstLine, itemText, pieceOf, tableText, linesText, fontText, refusedText, bigText, listingOf, listedOf, leftOf};
+ghost use Rattle.listing.specs.Text.{digitOf, numeral, numberText, kindText, tableWord, firstLine, itemText, pieceOf, tableText, linesText, fontText, refusedText, bigText, listingOf, listedOf, leftOf};
 
 // How many bytes of text stand in front of the buffer; or ROOM with the bytes needed, and the buffer is untouched.
 pub enum Listed {
@@ -31,57 +31,32 @@ fn digit(d: u8) -> u8
     55 + d
 }
 
-// How many digits a number has.
-fn decimal_len(n: usize) -> usize
-    ensures { λ r. ⌜ (r ≡ length (decimal n)) × (r ≤ 20) ⌝ }
+// How many digits a number has in a radix. Asks for a radix: each caller names 10 or 16.
+fn numeral_len(radix: usize, n: usize) -> usize
+    requires { ⌜ 2 ≤ radix ⌝ }
+    ensures { λ r. ⌜ (r ≡ length (numeral radix n)) × (r ≤ 64) ⌝ }
 {
     let mut k: usize = 1;
     let mut m = n;
-    while 10 <= m {
-        m = m / 10;
+    while radix <= m {
+        m = m / radix;
         k += 1;
     }
     k
 }
 
-// How many digits a value has.
-fn hexadecimal_len(v: u32) -> usize
-    ensures { λ r. ⌜ (r ≡ length (hexadecimal v)) × (r ≤ 8) ⌝ }
+// A number to the front, in a radix that has digits, and how many bytes it is. Asks for such a radix, each caller names 10 or 16, and
+// for room: the caller has measured.
+fn put_numeral(radix: usize, n: usize, out: &mut [u8]) -> usize
+    requires { ⌜ (2 ≤ radix) × (radix ≤ 16) × (length (numeral radix n) ≤ length (now out)) ⌝ }
+    ensures { λ r. ⌜ (r ≡ length (numeral radix n)) × (now (out .exit) ≡ over (numeral radix n) (now (out .entry))) ⌝ }
 {
-    let mut k: usize = 1;
-    let mut m = v;
-    while 16 <= m {
-        m = m / 16;
-        k += 1;
-    }
-    k
-}
-
-// A number to the front, and how many bytes it is. Asks for room: the caller has measured.
-fn put_decimal(n: usize, out: &mut [u8]) -> usize
-    requires { ⌜ length (decimal n) ≤ length (now out) ⌝ }
-    ensures { λ r. ⌜ (r ≡ length (decimal n)) × (now (out .exit) ≡ over (decimal n) (now (out .entry))) ⌝ }
-{
-    if n < 10 {
+    if n < radix {
         out[0] = digit(n as u8);
         return 1;
     }
-    let l = put_decimal(n / 10, out);
-    out[l] = digit((n % 10) as u8);
-    l + 1
-}
-
-// A value to the front, and how many bytes it is. Asks for room: the caller has measured.
-fn put_hexadecimal(v: u32, out: &mut [u8]) -> usize
-    requires { ⌜ length (hexadecimal v) ≤ length (now out) ⌝ }
-    ensures { λ r. ⌜ (r ≡ length (hexadecimal v)) × (now (out .exit) ≡ over (hexadecimal v) (now (out .entry))) ⌝ }
-{
-    if v < 16 {
-        out[0] = digit(v as u8);
-        return 1;
-    }
-    let l = put_hexadecimal(v / 16, out);
-    out[l] = digit((v % 16) as u8);
+    let l = put_numeral(radix, n / radix, out);
+    out[l] = digit((n % radix) as u8);
     l + 1
 }
 
@@ -99,7 +74,7 @@ fn put_number(n: usize, after: u8, out: &mut [u8]) -> usize
     requires { ⌜ length (numberText n after) ≤ length (now out) ⌝ }
     ensures { λ r. ⌜ (r ≡ length (numberText n after)) × (now (out .exit) ≡ over (numberText n after) (now (out .entry))) ⌝ }
 {
-    let l = put_decimal(n, out);
+    let l = put_numeral(10, n, out);
     out[l] = after;
     l + 1
 }
@@ -132,9 +107,9 @@ fn item_len(i: Item) -> usize
     ensures { λ r. ⌜ (r ≡ length (itemText i)) × (r ≤ 9) ⌝ }
 {
     match i {
-        Item::Single(v) => 1 + hexadecimal_len(v),
+        Item::Single(v) => 1 + numeral_len(16, base::size(v)),
         Item::Start => 1,
-        Item::Value(v) => 1 + hexadecimal_len(v),
+        Item::Value(v) => 1 + numeral_len(16, base::size(v)),
         Item::End => 1,
     }
 }
@@ -145,7 +120,7 @@ fn piece_len(fresh: bool, g: usize, i: Item) -> usize
 {
     let l = item_len(i);
     if fresh {
-        return decimal_len(g) + l;
+        return numeral_len(10, g) + l;
     }
     l
 }
@@ -161,11 +136,11 @@ fn put_byte(b: u8, out: &mut [u8]) -> usize
 
 // A byte and a value behind it to the front, and how many bytes they are. Asks for room: the caller has measured.
 fn put_value(lead: u8, v: u32, out: &mut [u8]) -> usize
-    requires { ⌜ length (lead ∷ hexadecimal v) ≤ length (now out) ⌝ }
-    ensures { λ r. ⌜ (r ≡ length (lead ∷ hexadecimal v)) × (now (out .exit) ≡ over (lead ∷ hexadecimal v) (now (out .entry))) ⌝ }
+    requires { ⌜ length (lead ∷ numeral 16 v) ≤ length (now out) ⌝ }
+    ensures { λ r. ⌜ (r ≡ length (lead ∷ numeral 16 v)) × (now (out .exit) ≡ over (lead ∷ numeral 16 v) (now (out .entry))) ⌝ }
 {
     let a = put_byte(lead, out);
-    let l = put_hexadecimal(v, &mut out[a..]);
+    let l = put_numeral(16, base::size(v), &mut out[a..]);
     a + l
 }
 
@@ -188,7 +163,7 @@ fn put_piece(fresh: bool, g: usize, i: Item, out: &mut [u8]) -> usize
     ensures { λ r. ⌜ (r ≡ length (pieceOf fresh g i)) × (now (out .exit) ≡ over (pieceOf fresh g i) (now (out .entry))) ⌝ }
 {
     if fresh {
-        let a = put_decimal(g, out);
+        let a = put_numeral(10, g, out);
         let l = put_item(i, &mut out[a..]);
         return a + l;
     }

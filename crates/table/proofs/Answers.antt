@@ -21,12 +21,12 @@ use Rattle.table.specs.declared.Step.{Step}
 use Rattle.table.specs.declared.Step.the-variants.{Start as StepStart, End as StepEnd, Cut as StepCut, Bad as StepBad}
 use Rattle.table.specs.declared.TableAnswer.{TableAnswer}
 use Rattle.table.specs.declared.TableAnswer.the-variants.{Complete, Cut as TableCut, Bad as TableBad, Trailing}
-use Rattle.table.specs.Grammar.{itemBytes, bytes, OfCoding}
+use Rattle.table.specs.Grammar.{endsIn, itemBytes, bytes, OfCoding}
 use Rattle.table.specs.Steps.{stepOf, stepsFrom}
 use Rattle.table.specs.Check.{checkSteps}
 use Rattle.table.proofs.Accepts.{Phase, singles, opened, filled, Accepts}
 use Rattle.table.proofs.Stepping.{first, item-front}
-use Rattle.table.proofs.Moves.{isOpened, ended, Move, single, first-value, other-value, first-start, other-start, end-singles, end-sequences, moved}
+use Rattle.table.proofs.Moves.{isOpened, ended, ended-more, Move, single, first-value, other-value, first-start, other-start, end-singles, end-sequences, moved}
 
 -- as many end marks as descriptions are left
 abbrev ends : ℕ → List Item
@@ -36,6 +36,9 @@ ends (suc n) = End ∷ ends n
 ends-accepted : (n : ℕ) → Accepts n singles (ends n)
 ends-accepted zero = tt
 ends-accepted (suc n) = ends-accepted n
+
+pub same-cut : {j k g h : ℕ} → j ≡ k → g ≡ h → TableCut j g ≡ TableCut k h
+same-cut p q = λ i. TableCut (p i) (q i)
 
 module _ (c : Coding) where
   -- the check of bytes that stand at a place, from a phase on, with g descriptions complete and n still to end
@@ -262,3 +265,20 @@ module _ (c : Coding) where
       ∙ on n p (m .left) (m .phase) i (m .move) g at (bytes c is ++ y)
       ∙ passes is (ended i g) (m .left) (m .phase) (at + length x) y (m .rest-of) (m .rest)
       ∙ ap (λ (k : ℕ). atOver k y) l
+
+  -- the items in front of an accepted one, written, are cut off at its place, in the description that it stands in
+  begins : (g n : ℕ) (p : Phase) (at : ℕ) → walk g (suc n) p at [] ≡ TableCut at g
+  unfolding checkSteps stepsFrom
+  begins g n p at = refl
+
+  pub stops-before : (is : List Item) (i : Item) (js : List Item) (g n : ℕ) (p : Phase) (at : ℕ) → OfCoding c (is ++ (i ∷ js)) → Accepts n p (is ++ (i ∷ js)) →
+      walk g n p at (bytes c is) ≡ TableCut (at + length (bytes c is)) (g + endsIn is)
+  stops-before [] i js g zero p at o a = absurd a
+  stops-before [] i js g (suc n) p at o a = begins g n p at ∙ same-cut (omega arith) (omega arith)
+  stops-before (x ∷ is) i js g n p at o a =
+      let m = moved c n p x (is ++ (i ∷ js)) o a in
+      let y = itemBytes c x in
+      let l : at + length y + length (bytes c is) ≡ at + length (y ++ bytes c is) = omega (arith, length-append y (bytes c is)) in
+      on n p (m .left) (m .phase) x (m .move) g at (bytes c is)
+      ∙ stops-before is i js (ended x g) (m .left) (m .phase) (at + length y) (m .rest-of) (m .rest)
+      ∙ same-cut l (ended-more x g is)

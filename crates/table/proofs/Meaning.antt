@@ -6,8 +6,9 @@ use Prim.Native.Nat.{ℕ, _≤_, _<_}
 use lib.ListN.{length, take, drop}
 use Rattle.base.specs.Bytes.{Bytes}
 use Rattle.coding.specs.declared.Coding.{Coding}
+use Rattle.table.specs.declared.Item.{Item}
 use Rattle.table.specs.declared.TableAnswer.the-variants.{Complete, Cut, Bad, Trailing}
-use Rattle.table.specs.Grammar.{Desc, itemsOf, items, bytes, encode, startOf, Readable}
+use Rattle.table.specs.Grammar.{Desc, itemsOf, items, endsIn, bytes, encode, startOf, Readable}
 use Rattle.table.specs.Steps.{itemsIn}
 use Rattle.table.specs.Check.{tableOf, placeOf}
 use Rattle.table.specs.Table.{IsTable, Completable, LongestStart, InGlyph}
@@ -15,7 +16,7 @@ use Rattle.table.proofs.Reading.{unique, items-back}
 use Rattle.table.proofs.EndToEnd.{described-append, encode-cons}
 use Rattle.table.proofs.EndToEnd as end-to-end
 use Rattle.table.proofs.Places.{complete-table, table-complete, cut-short, short-cut, bad-broken, broken-bad, trailing-over, over-trailing, within-tail}
-use Rattle.table.proofs.Numbers.{glyph-told, in-cut, in-bad}
+use Rattle.table.proofs.Numbers.{glyph-told, in-cut, in-bad, item-glyph}
 
 -- exactly the bytes of n descriptions, nothing over, are accepted
 pub complete-exactly : (c : Coding) (n : ℕ) (s : List ℕ) → Bytes s → (tableOf c n s ≡ Complete) ↔ IsTable c n s
@@ -75,6 +76,11 @@ bad-place c n s k y = (λ (g, e). bad-broken c n s k g y e, broken-bad c n s k y
 pub glyph-of-place : (c : Coding) (n : ℕ) (s : List ℕ) (k g : ℕ) → Bytes s →
     (tableOf c n s ≡ Cut k g) ⊎ (tableOf c n s ≡ Bad k g) → (g < n) × InGlyph c s k g
 glyph-of-place c n s k g y = glyph-told c s n k y g
+
+-- the place of a table's item stands in the description of the glyph that has it: as many as end before it
+pub glyph-of-item : (c : Coding) (ds : List Desc) (is : List Item) (i : Item) (js : List Item) → Readable c ds → items ds ≡ is ++ (i ∷ js) →
+    (endsIn is < length ds) × InGlyph c (encode c ds) (length (bytes c is)) (endsIn is)
+glyph-of-item = item-glyph
 
 -- TRAILING is given exactly when the longest completable start is a complete table and shorter than the tail; its place is the first byte after it
 pub trailing-exactly : (c : Coding) (n : ℕ) (s : List ℕ) (k : ℕ) → Bytes s →

@@ -3,13 +3,14 @@
 use mathlib.Core.Path.{_≡_, refl}
 use mathlib.Core.Bool.{Bool, true, false}
 use mathlib.Core.List.{List, [], _∷_}
-use Prim.Native.Nat.{ℕ, zero, suc}
+use Prim.Native.Nat.{ℕ, zero, suc, _+_}
+use native.Mathlib.Omega.{arith}
 use Rattle.coding.specs.declared.Coding.{Coding}
 use Rattle.coding.specs.Coding.{valueOf}
 use Rattle.table.specs.declared.Item.{Item}
 use Rattle.table.specs.declared.Item.the-variants.{Single, Start, Value, End}
 use Rattle.table.specs.declared.Step.{Step}
-use Rattle.table.specs.Grammar.{OfCoding}
+use Rattle.table.specs.Grammar.{endsIn, OfCoding}
 use Rattle.table.specs.Steps.{toldAs, told}
 use Rattle.table.specs.Check.{checkSteps}
 use Rattle.table.proofs.Accepts.{Phase, singles, opened, filled, Accepts}
@@ -33,6 +34,13 @@ ended (Single v) g = g
 ended Start g = g
 ended (Value v) g = g
 ended End g = suc g
+
+-- and those complete behind further items
+pub ended-more : (i : Item) (g : ℕ) (is : List Item) → ended i g + endsIn is ≡ g + endsIn (i ∷ is)
+ended-more (Single v) g is = refl
+ended-more Start g is = refl
+ended-more (Value v) g is = refl
+ended-more End g is = omega arith
 
 module _ (c : Coding) where
   -- item i leads from phase p with n descriptions left to phase p' with n' left

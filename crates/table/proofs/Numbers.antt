@@ -6,21 +6,23 @@ use mathlib.Core.List.{List, [], _∷_, _++_}
 use Prim.Native.Nat.{ℕ, zero, suc, _+_, _-_, _≤_, _<_}
 use native.Mathlib.Omega.{arith}
 use lib.ListN.{length, take, length-append, length-take}
-use lib.Seq.{take-take, take-all, take-length, length-take-le}
+use lib.Seq.{take-at, take-take, take-all, take-length, length-take-le}
 use Rattle.base.specs.Bytes.{Bytes}
 use Rattle.base.proofs.Tests.{below}
 use Rattle.coding.specs.declared.Coding.{Coding}
+use Rattle.table.specs.declared.Item.{Item}
 use Rattle.table.specs.declared.Step.{Step}
 use Rattle.table.specs.declared.Step.the-variants.{Value as StepValue, Start as StepStart, End as StepEnd, Cut as StepCut, Bad as StepBad}
 use Rattle.table.specs.declared.TableAnswer.{TableAnswer}
 use Rattle.table.specs.declared.TableAnswer.the-variants.{Complete, Cut as TableCut, Bad as TableBad, Trailing}
-use Rattle.table.specs.Grammar.{Desc, items, OfCoding, encode, startOf, Readable}
+use Rattle.table.specs.Grammar.{Desc, items, endsIn, bytes, OfCoding, encode, startOf, Readable}
 use Rattle.table.specs.Steps.{stepsFrom}
 use Rattle.table.specs.Check.{checkSteps, tableOf}
 use Rattle.table.specs.Table.{IsTable, Completable, LongestStart, InGlyph}
-use Rattle.table.proofs.EndToEnd.{items-append, encode-append, of-append, start-before, readable-before}
+use Rattle.table.proofs.EndToEnd.{bytes-of-append, items-append, encode-append, of-append, of-left, start-before, readable-before}
 use Rattle.table.proofs.Reading.{items-bytes}
-use Rattle.table.proofs.Places.{complete-table, table-complete, cut-short, short-cut, bad-broken, broken-bad, trailing-over, over-trailing}
+use Rattle.table.proofs.Places.{complete-table, table-complete, cut-short, short-cut, bad-broken, broken-bad, trailing-over, over-trailing, cut-before}
+use Rattle.table.proofs.Answers.{same-cut}
 
 -- an answer that tells glyph h
 abbrev pub Tells : ℕ → TableAnswer → Type 0
@@ -52,6 +54,7 @@ stops xs e g n o at h q z f = record { from = omega arith; short = omega arith; 
     beyond' : (m : ℕ) → h < g + m → checkSteps e g m o at xs ≡ checkSteps e g (suc n) o at xs
     beyond' zero l = absurd (omega arith)
     beyond' (suc m) l = f m
+
     before' : (m : ℕ) → h ≡ g + m → Ended (checkSteps e g m o at xs)
     before' zero l = z
     before' (suc m) l = absurd (omega arith)
@@ -64,6 +67,7 @@ stays x xs e g n o o' at next h z f r = record { from = r .from; short = r .shor
     beyond' : (m : ℕ) → h < g + m → checkSteps e g m o at (x ∷ xs) ≡ checkSteps e g (suc n) o at (x ∷ xs)
     beyond' zero l = absurd (omega (arith, r .from))
     beyond' (suc m) l = f m ∙ r .beyond (suc m) l ∙ sym (f n)
+
     before' : (m : ℕ) → h ≡ g + m → Ended (checkSteps e g m o at (x ∷ xs))
     before' zero l = z
     before' (suc m) l = subst Ended (sym (f m)) (r .before (suc m) l)
@@ -76,6 +80,7 @@ ends x xs e g n o o' at next h f r = record { from = omega (arith, r .from); sho
     beyond' : (m : ℕ) → h < g + m → checkSteps e g m o at (x ∷ xs) ≡ checkSteps e g (suc n) o at (x ∷ xs)
     beyond' zero l = absurd (omega (arith, r .from))
     beyond' (suc m) l = f m ∙ r .beyond m (omega arith) ∙ sym (f n)
+
     before' : (m : ℕ) → h ≡ g + m → Ended (checkSteps e g m o at (x ∷ xs))
     before' zero l = absurd (omega (arith, r .from))
     before' (suc m) l = subst Ended (sym (f m)) (r .before m (omega arith))
@@ -214,3 +219,25 @@ module _ (c : Coding) where
       in-bad g f i =
           let r = broken-bad c n s k y f in
           r .1 ∙ ap (TableBad k) (one-glyph k (r .0) g (f .0 .within) (bad-glyph (r .0) (r .1) .1) i)
+
+  -- what stands in a start of some bytes, stands in the bytes
+  in-start : (s : List ℕ) (k g : ℕ) → InGlyph c (take k s) k g → InGlyph c s k g
+  in-start s k g i =
+      record {
+        start = i .start;
+        before = i .before;
+        complete = subst (IsTable c g) (take-take (i .start) k s (i .before)) (i .complete);
+        unended = λ j l t. i .unended j l (subst (IsTable c (suc g)) (sym (take-take j k s l)) t);
+      }
+
+  -- the place of an item stands in the description of the glyph that has it: as many as end before it
+  pub item-glyph : (ds : List Desc) (is : List Item) (i : Item) (js : List Item) → Readable c ds → items ds ≡ is ++ (i ∷ js) →
+      (endsIn is < length ds) × InGlyph c (encode c ds) (length (bytes c is)) (endsIn is)
+  item-glyph ds is i js o e =
+      let x = bytes c is in
+      let y = bytes c (i ∷ js) in
+      let w : encode c ds ≡ x ++ y = ap (bytes c) e ∙ bytes-of-append c is (i ∷ js) in
+      let t : take (length x) (encode c ds) ≡ x = ap (take (length x)) w ∙ take-at x y (length x) refl in
+      let q : tableOf c (length ds) x ≡ TableCut (length x) (endsIn is) = cut-before c (length ds) ds is i js refl o e ∙ same-cut (omega arith) (omega arith) in
+      let r = glyph-told x (length ds) (length x) (items-bytes c is (of-left c is (i ∷ js) (subst (OfCoding c) e o))) (endsIn is) (inl q) in
+      (r .0, in-start (encode c ds) (length x) (endsIn is) (subst (λ (z : List ℕ). InGlyph c z (length x) (endsIn is)) (sym t) (r .1)))

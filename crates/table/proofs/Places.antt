@@ -2,7 +2,7 @@
 use mathlib.Core.Path.{_≡_, refl, sym, _∙_, ap, subst}
 use mathlib.Core.Bool.{false}
 use mathlib.Core.Logic.{_⊎_, inl, inr}
-use mathlib.Core.List.{List, [], _++_, append-assoc, append-nil}
+use mathlib.Core.List.{List, [], _∷_, _++_, append-assoc, append-nil}
 use Prim.Native.Nat.{ℕ, suc, _+_, _≤_, _<_}
 use native.Mathlib.Omega.{arith}
 use lib.ListN.{length, take, drop, take-append-drop}
@@ -11,19 +11,27 @@ use Rattle.base.specs.Bytes.{Bytes}
 use Rattle.base.proofs.Parts.{bytes-right}
 use Rattle.base.proofs.Tests.{below}
 use Rattle.coding.specs.declared.Coding.{Coding}
+use Rattle.table.specs.declared.Item.{Item}
 use Rattle.table.specs.declared.TableAnswer.{TableAnswer}
 use Rattle.table.specs.declared.TableAnswer.the-variants.{Complete, Cut as TableCut, Bad as TableBad, Trailing}
-use Rattle.table.specs.Grammar.{items, bytes, OfCoding, encode}
+use Rattle.table.specs.Grammar.{Desc, items, endsIn, bytes, OfCoding, encode, Readable}
 use Rattle.table.specs.Steps.{stepsFrom}
 use Rattle.table.specs.Check.{checkSteps, tableOf, placeOf}
 use Rattle.table.specs.Table.{IsTable, Completable, LongestStart}
-use Rattle.table.proofs.Accepts.{singles, accepts-items, accepted-items}
-use Rattle.table.proofs.Answers.{walk, Read, More, Stops, Says, answer-told, atOver, passes}
+use Rattle.table.proofs.Accepts.{singles, Accepts, accepts-items, accepted-items}
+use Rattle.table.proofs.Answers.{walk, Read, More, Stops, Says, answer-told, atOver, passes, stops-before}
 use Rattle.table.proofs.Reading.{items-bytes}
 
 module _ (c : Coding) (n : ℕ) where
   whole : (s : List ℕ) → walk c 0 n singles 0 s ≡ tableOf c n s
   whole s = let e : 0 + length s ≡ length s = omega arith in ap (λ (x : ℕ). checkSteps x 0 n false 0 (stepsFrom c 0 0 s)) e
+
+  -- the items in front of one of a table's
+  pub cut-before : (ds : List Desc) (is : List Item) (i : Item) (js : List Item) → length ds ≡ n → Readable c ds → items ds ≡ is ++ (i ∷ js) →
+      tableOf c n (bytes c is) ≡ TableCut (0 + length (bytes c is)) (0 + endsIn is)
+  cut-before ds is i js q o e =
+      sym (whole (bytes c is))
+      ∙ stops-before c is i js 0 n singles 0 (subst (OfCoding c) e o) (subst (Accepts n singles) e (subst (λ (m : ℕ). Accepts m singles (items ds)) q (accepts-items ds)))
 
   -- a table, and what stands behind it
   table-over : (s y : List ℕ) → IsTable c n s → tableOf c n (s ++ y) ≡ atOver c (length s) y

@@ -2,7 +2,7 @@
 --   <unicodedescription> := <uc>*<seq>*<term>
 --   <seq> := <ss><uc><uc>*
 use mathlib.Core.List.{List, [], _∷_, _++_}
-use Prim.Native.Nat.{ℕ}
+use Prim.Native.Nat.{ℕ, suc}
 use lib.ListN.{length, take}
 use Rattle.coding.specs.declared.Coding.{Coding}
 use Rattle.coding.specs.Coding.{valueOf, valueBytes, startBytes, endBytes}
@@ -41,6 +41,14 @@ itemsOf d = described d []
 abbrev pub items : List Desc → List Item
 items [] = []
 items (d ∷ ds) = described d (items ds)
+
+-- how many descriptions end among items
+abbrev pub endsIn : List Item → ℕ
+endsIn [] = 0
+endsIn (Single v ∷ is) = endsIn is
+endsIn (Start ∷ is) = endsIn is
+endsIn (Value v ∷ is) = endsIn is
+endsIn (End ∷ is) = suc (endsIn is)
 
 -- the bytes of an item
 abbrev pub itemBytes : Coding → Item → List ℕ

@@ -3,19 +3,20 @@
 use mathlib.Core.Path.{_≡_, refl, sym, _∙_, ap, subst}
 use mathlib.Core.Logic.{_↔_}
 use mathlib.Core.List.{List, [], _∷_, _++_}
-use Prim.Native.Nat.{ℕ, _+_}
+use Prim.Native.Nat.{ℕ, _+_, _<_}
 use native.Mathlib.Omega.{arith}
 use lib.ListN.{length}
 use Rattle.coding.specs.declared.Coding.{Coding}
 use Rattle.table.specs.declared.Item.{Item}
 use Rattle.table.specs.declared.Item.the-variants.{Single, Start, Value, End}
-use Rattle.table.specs.Grammar.{Desc, items, bytes, OfCoding, encode, Readable}
+use Rattle.table.specs.Grammar.{Desc, items, endsIn, bytes, OfCoding, encode, Readable}
 use Rattle.table.specs.Steps.{stepsFrom}
-use Rattle.table.proofs.Meaning.{items-read}
+use Rattle.table.specs.Table.{InGlyph}
+use Rattle.table.proofs.Meaning.{items-read, glyph-of-item}
 use Rattle.transcode.specs.declared.Measured.{Measured}
 use Rattle.transcode.specs.declared.Measured.the-variants.{Length, Uncarried}
 use Rattle.transcode.specs.Transcode.{measure, tableLen, recoded}
-use Rattle.transcode.specs.Carrying.{FirstUncarried, endsIn}
+use Rattle.transcode.specs.Carrying.{FirstUncarried}
 use Rattle.transcode.proofs.Measuring.{Said, same-place, measured, uncarried-measured}
 
 -- an item among items of a coding
@@ -61,6 +62,18 @@ module _ (from to : Coding) (ds : List Desc) (s : List ℕ) (o : Readable from d
   -- the same, whatever the glyph
   pub uncarried-place : (k : ℕ) → ((g : ℕ) × (tableLen from to s ≡ Uncarried k g)) ↔ FirstUncarried from to (items ds) 0 k
   uncarried-place k = (λ (g, q). uncarried-exactly k g .0 q .0, λ f. (endsIn (f .before), uncarried-exactly k (endsIn (f .before)) .1 (f, refl)))
+
+  -- the glyph is one of the table's, and the place stands in its description
+  pub uncarried-glyph : (k g : ℕ) → tableLen from to s ≡ Uncarried k g → (g < length ds) × InGlyph from s k g
+  uncarried-glyph k g q =
+      let r = uncarried-exactly k g .0 q in
+      let u = r .0 in
+      let w = glyph-of-item from ds (u .before) (u .item) (u .after) o (u .same) in
+      let p : length (bytes from (u .before)) ≡ k = omega (arith, u .here) in (
+        omega (arith, r .1, w .0),
+        subst (λ (x : List ℕ). InGlyph from x k g) (sym e)
+            (subst (λ (h : ℕ). InGlyph from (encode from ds) k h) (sym (r .1)) (subst (λ (j : ℕ). InGlyph from (encode from ds) j (endsIn (u .before))) p (w .1))),
+      )
 
   -- what is written is the same descriptions in the other coding
   pub recoded-table : recoded from to s ≡ encode to ds

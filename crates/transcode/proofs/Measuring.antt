@@ -14,14 +14,14 @@ use Rattle.table.specs.declared.Item.{Item}
 use Rattle.table.specs.declared.Item.the-variants.{Single, Start, Value, End}
 use Rattle.table.specs.declared.Step.{Step}
 use Rattle.table.specs.declared.Step.the-variants.{Value as StepValue, Start as StepStart, End as StepEnd, Cut as StepCut, Bad as StepBad}
-use Rattle.table.specs.Grammar.{itemBytes, bytes, OfCoding}
+use Rattle.table.specs.Grammar.{endsIn, itemBytes, bytes, OfCoding}
 use Rattle.table.specs.Steps.{stepsFrom, toldAs, told, itemsIn}
 use Rattle.table.proofs.Stepping.{item-front}
-use Rattle.table.proofs.Moves.{ended}
+use Rattle.table.proofs.Moves.{ended, ended-more}
 use Rattle.transcode.specs.declared.Measured.{Measured}
 use Rattle.transcode.specs.declared.Measured.the-variants.{Length, Uncarried}
 use Rattle.transcode.specs.Transcode.{measure, tableLen, recoded}
-use Rattle.transcode.specs.Carrying.{FirstUncarried, endsIn}
+use Rattle.transcode.specs.Carrying.{FirstUncarried}
 use Rattle.transcode.proofs.Turns.{value-more, value-not, start-more, end-more, blind}
 
 never : {A : Type 0} (k g m : ℕ) → Uncarried k g ≡ Length m → A
@@ -51,13 +51,6 @@ length-recoded from to s m e = omega (arith, told-length to 0 0 0 m false (steps
 
 pub same-place : {j k g h : ℕ} → j ≡ k → g ≡ h → Uncarried j g ≡ Uncarried k h
 same-place p q = λ i. Uncarried (p i) (q i)
-
--- the descriptions complete behind an item, and among those behind it
-ended-more : (i : Item) (g : ℕ) (is : List Item) → ended i g + endsIn is ≡ g + endsIn (i ∷ is)
-ended-more (Single v) g is = refl
-ended-more Start g is = refl
-ended-more (Value v) g is = refl
-ended-more End g is = omega arith
 
 -- items written in one coding, measured in another
 module _ (from to : Coding) where

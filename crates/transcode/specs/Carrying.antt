@@ -1,11 +1,10 @@
 -- What it is for a coding to carry a table's items: the meaning that the transcoder's answers are held to.
-use Prim.Native.Nat.{ℕ, suc, _+_}
+use Prim.Native.Nat.{ℕ, _+_}
 use mathlib.Core.Path.{_≡_}
 use mathlib.Core.List.{List, [], _∷_, _++_}
 use lib.ListN.{length}
 use Rattle.coding.specs.declared.Coding.{Coding}
 use Rattle.table.specs.declared.Item.{Item}
-use Rattle.table.specs.declared.Item.the-variants.{Single, Start, Value, End}
 use Rattle.table.specs.Grammar.{bytes, OfCoding}
 
 -- items, written in one coding from a place on, of which the first whose value another coding can't carry stands at a place:
@@ -18,11 +17,3 @@ pub record FirstUncarried (from to : Coding) (is : List Item) (at place : ℕ) :
   pub carried : OfCoding to before
   pub uncarried : OfCoding to (item ∷ []) → ⊥
   pub here : place ≡ at + length (bytes from before)
-
--- how many descriptions end among items
-abbrev pub endsIn : List Item → ℕ
-endsIn [] = 0
-endsIn (Single v ∷ is) = endsIn is
-endsIn (Start ∷ is) = endsIn is
-endsIn (Value v ∷ is) = endsIn is
-endsIn (End ∷ is) = suc (endsIn is)

@@ -61,6 +61,7 @@ module _ (v : ℕ) where
       yes e (inl h) y = inl h
       yes e (inr h) (inl k) = absurd (let q : false ≡ true = surrogate (h, k) ∙ e in let z : _≡_ {A = ℕ} 0 1 = cc in omega arith)
       yes e (inr h) (inr k) = inr (k, ltb-true v 0x110000 (above-surrogates (h, k) ∙ e))
+
       back : Scalar v → isScalar v ≡ true
       back (inl h) = sym (below-surrogates h)
       back (inr (g, h)) = sym (above-surrogates (omega arith, g)) ∙ lt-ltb v 0x110000 h

@@ -5,29 +5,29 @@ use lib.ListN.{length}
 use Rattle.base.proofs.Over.{length-over}
 use Rattle.listing.proofs.Putting.{put-more}
 use Rattle.listing.proofs.Pieces.{number-text, number-length}
-use Rattle.listing.specs.Text.{decimal, numberText}
+use Rattle.listing.specs.Text.{numeral, numberText}
 use borrow.Author.Needs.{needs}
 use Rattle.listing.proofs.put_number.Statement.{statement}
 use Rattle.listing.proofs.put_number.Tie as tie
 use Rattle.listing.proofs.put_number.Reads as reads
 use Rattle.listing.proofs.put_number.Lts as lts
-use Rattle.listing.proofs.put_decimal.Reads as put-decimal-reads
+use Rattle.listing.proofs.put_numeral.Reads as put-numeral-reads
 
-put-decimal-requires : tie.Need-put-decimal-requires
-put-decimal-requires c κs = let z = number-length (c .before .before .args .n) (c .before .before .args .after) in omega arith
+put-numeral-requires : tie.Need-put-numeral-requires
+put-numeral-requires c κs = let z = number-length (c .before .before .args .n) (c .before .before .args .after) in (omega arith, omega arith, omega arith)
 
 slice-write-out : tie.Need-slice-write-out
-slice-write-out c = let z = number-length (c .before .before .before .before .before .args .n) (c .before .before .before .before .before .args .after) in let e = ap length (c .before .before .put-decimal .ensures .1) ∙ length-over (decimal (c .before .before .before .before .before .args .n)) (c .before .before .before .before .before .args .out .now) (omega arith) in omega (arith, c .before .before .put-decimal .ensures .0, e)
+slice-write-out c = let z = number-length (c .before .before .before .before .before .args .n) (c .before .before .before .before .before .args .after) in let e = ap length (c .before .before .put-numeral .ensures .1) ∙ length-over (numeral 10 (c .before .before .before .before .before .args .n)) (c .before .before .before .before .before .args .out .now) (omega arith) in omega (arith, c .before .before .put-numeral .ensures .0, e)
 
 add-result : tie.Need-add-result
-add-result c = let z = number-length (c .before .before .before .before .before .args .n) (c .before .before .before .before .before .args .after) in omega (arith, c .before .before .put-decimal .ensures .0)
+add-result c = let z = number-length (c .before .before .before .before .before .args .n) (c .before .before .before .before .before .args .after) in omega (arith, c .before .before .put-numeral .ensures .0)
 
 same-length : tie.Need-same-length
 same-length c = search needs
 
 returns : tie.Need-returns
-returns c = let z = number-length (c .before .before .before .before .before .args .n) (c .before .before .before .before .before .args .after) in (omega (arith, c .before .before .put-decimal .ensures .0), put-more (numberText (c .before .before .before .before .before .args .n) (c .before .before .before .before .before .args .after)) (decimal (c .before .before .before .before .before .args .n)) _ _ _ _ (c .before .before .put-decimal .ensures .1) (number-text _ _) (c .before .before .put-decimal .ensures .0) (c .before .before .before .before .before .pre))
+returns c = let z = number-length (c .before .before .before .before .before .args .n) (c .before .before .before .before .before .args .after) in (omega (arith, c .before .before .put-numeral .ensures .0), put-more (numberText (c .before .before .before .before .before .args .n) (c .before .before .before .before .before .args .after)) (numeral 10 (c .before .before .before .before .before .args .n)) _ _ _ _ (c .before .before .put-numeral .ensures .1) (number-text _ _) (c .before .before .put-numeral .ensures .0) (c .before .before .before .before .before .pre))
 
 pub put-number-spec : {M : Type 1} → statement M
 put-number-spec =
-    tie.close (tie.spec put-decimal-requires slice-write-out add-result same-length returns)
+    tie.close (tie.spec put-numeral-requires slice-write-out add-result same-length returns)

@@ -6,33 +6,33 @@ use mathlib.Core.Path.{_≡_, sym, _∙_, ap}
 use lib.ListN.{length}
 use Rattle.listing.proofs.Putting.{first-stands, behind-room, behind-stands}
 use Rattle.listing.proofs.Pieces.{piece-fresh, piece-fresh-length, piece-plain}
-use Rattle.listing.specs.Text.{decimal, itemText}
+use Rattle.listing.specs.Text.{numeral, itemText}
 use Rattle.base.specs.Over.{over}
 use borrow.Author.Needs.{needs}
 use Rattle.listing.proofs.put_piece.Statement.{statement}
 use Rattle.listing.proofs.put_piece.Tie as tie
 use Rattle.listing.proofs.put_piece.Reads as reads
 use Rattle.listing.proofs.put_piece.Lts as lts
-use Rattle.listing.proofs.put_decimal.Reads as put-decimal-reads
+use Rattle.listing.proofs.put_numeral.Reads as put-numeral-reads
 use Rattle.listing.proofs.put_item.Reads as put-item-reads
 
-put-decimal-requires : tie.Need-put-decimal-requires
-put-decimal-requires c κs = let e = piece-fresh-length (c .before .before .before .args .fresh) (c .before .before .before .args .g) (c .before .before .before .args .i) (c .before .if1 .taken) in omega arith
+put-numeral-requires : tie.Need-put-numeral-requires
+put-numeral-requires c κs = let e = piece-fresh-length (c .before .before .before .args .fresh) (c .before .before .before .args .g) (c .before .before .before .args .i) (c .before .if1 .taken) in (omega arith, omega arith, omega arith)
 
 sub-put-item : tie.Need-sub-put-item
-sub-put-item c = let e = piece-fresh-length (c .before .before .before .before .before .before .args .fresh) (c .before .before .before .before .before .before .args .g) (c .before .before .before .before .before .before .args .i) (c .before .before .before .before .if1 .taken) in let s = first-stands (decimal (c .before .before .before .before .before .before .args .g)) (c .before .before .before .before .before .before .args .out .now) (c .before .before .put-decimal .last .1 .0) (c .before .before .put-decimal .result) (omega arith) (c .before .before .put-decimal .ensures) in omega (arith, s .0, s .1)
+sub-put-item c = let e = piece-fresh-length (c .before .before .before .before .before .before .args .fresh) (c .before .before .before .before .before .before .args .g) (c .before .before .before .before .before .before .args .i) (c .before .before .before .before .if1 .taken) in let s = first-stands (numeral 10 (c .before .before .before .before .before .before .args .g)) (c .before .before .before .before .before .before .args .out .now) (c .before .before .put-numeral .last .1 .1 .0) (c .before .before .put-numeral .result) (omega arith) (c .before .before .put-numeral .ensures) in omega (arith, s .0, s .1)
 
 part-put-item-start : tie.Need-part-put-item-start
-part-put-item-start c = let e = piece-fresh-length (c .before .before .before .before .before .before .args .fresh) (c .before .before .before .before .before .before .args .g) (c .before .before .before .before .before .before .args .i) (c .before .before .before .before .if1 .taken) in let s = first-stands (decimal (c .before .before .before .before .before .before .args .g)) (c .before .before .before .before .before .before .args .out .now) (c .before .before .put-decimal .last .1 .0) (c .before .before .put-decimal .result) (omega arith) (c .before .before .put-decimal .ensures) in omega (arith, s .0, s .1)
+part-put-item-start c = let e = piece-fresh-length (c .before .before .before .before .before .before .args .fresh) (c .before .before .before .before .before .before .args .g) (c .before .before .before .before .before .before .args .i) (c .before .before .before .before .if1 .taken) in let s = first-stands (numeral 10 (c .before .before .before .before .before .before .args .g)) (c .before .before .before .before .before .before .args .out .now) (c .before .before .put-numeral .last .1 .1 .0) (c .before .before .put-numeral .result) (omega arith) (c .before .before .put-numeral .ensures) in omega (arith, s .0, s .1)
 
 part-put-item-end : tie.Need-part-put-item-end
 part-put-item-end c = search needs
 
 put-item-requires : tie.Need-put-item-requires
-put-item-requires c κs = let e = piece-fresh-length (c .before .before .before .before .before .before .before .args .fresh) (c .before .before .before .before .before .before .before .args .g) (c .before .before .before .before .before .before .before .args .i) (c .before .before .before .before .before .if1 .taken) in let s = first-stands (decimal (c .before .before .before .before .before .before .before .args .g)) (c .before .before .before .before .before .before .before .args .out .now) (c .before .before .before .put-decimal .last .1 .0) (c .before .before .before .put-decimal .result) (omega arith) (c .before .before .before .put-decimal .ensures) in behind-room (decimal (c .before .before .before .before .before .before .before .args .g)) (itemText (c .before .before .before .before .before .before .before .args .i)) (c .before .before .before .before .before .before .before .args .out .now) (c .before .before .before .put-decimal .last .1 .0) (c .before .before .before .put-decimal .result) s (omega (arith, s .0))
+put-item-requires c κs = let e = piece-fresh-length (c .before .before .before .before .before .before .before .args .fresh) (c .before .before .before .before .before .before .before .args .g) (c .before .before .before .before .before .before .before .args .i) (c .before .before .before .before .before .if1 .taken) in let s = first-stands (numeral 10 (c .before .before .before .before .before .before .before .args .g)) (c .before .before .before .before .before .before .before .args .out .now) (c .before .before .before .put-numeral .last .1 .1 .0) (c .before .before .before .put-numeral .result) (omega arith) (c .before .before .before .put-numeral .ensures) in behind-room (numeral 10 (c .before .before .before .before .before .before .before .args .g)) (itemText (c .before .before .before .before .before .before .before .args .i)) (c .before .before .before .before .before .before .before .args .out .now) (c .before .before .before .put-numeral .last .1 .1 .0) (c .before .before .before .put-numeral .result) s (omega (arith, s .0))
 
 add-result : tie.Need-add-result
-add-result c = let e = piece-fresh-length (c .before .before .before .before .before .before .before .before .before .before .args .fresh) (c .before .before .before .before .before .before .before .before .before .before .args .g) (c .before .before .before .before .before .before .before .before .before .before .args .i) (c .before .before .before .before .before .before .before .before .if1 .taken) in omega (arith, c .before .before .before .before .before .before .put-decimal .ensures .0, c .before .before .put-item .ensures .0)
+add-result c = let e = piece-fresh-length (c .before .before .before .before .before .before .before .before .before .before .args .fresh) (c .before .before .before .before .before .before .before .before .before .before .args .g) (c .before .before .before .before .before .before .before .before .before .before .args .i) (c .before .before .before .before .before .before .before .before .if1 .taken) in omega (arith, c .before .before .before .before .before .before .put-numeral .ensures .0, c .before .before .put-item .ensures .0)
 
 same-length : tie.Need-same-length
 same-length c = search needs
@@ -40,8 +40,8 @@ same-length c = search needs
 returns : tie.Need-returns
 returns c = let e = piece-fresh-length (c .before .before .before .before .before .before .before .before .before .before .args .fresh) (c .before .before .before .before .before .before .before .before .before .before .args .g) (c .before .before .before .before .before .before .before .before .before .before .args .i) (c .before .before .before .before .before .before .before .before .if1 .taken) in
     let q = piece-fresh (c .before .before .before .before .before .before .before .before .before .before .args .fresh) (c .before .before .before .before .before .before .before .before .before .before .args .g) (c .before .before .before .before .before .before .before .before .before .before .args .i) (c .before .before .before .before .before .before .before .before .if1 .taken) in
-    let s = first-stands (decimal (c .before .before .before .before .before .before .before .before .before .before .args .g)) (c .before .before .before .before .before .before .before .before .before .before .args .out .now) (c .before .before .before .before .before .before .put-decimal .last .1 .0) (c .before .before .before .before .before .before .put-decimal .result) (omega arith) (c .before .before .before .before .before .before .put-decimal .ensures) in
-    let r = behind-stands (decimal (c .before .before .before .before .before .before .before .before .before .before .args .g)) (itemText (c .before .before .before .before .before .before .before .before .before .before .args .i)) (c .before .before .before .before .before .before .before .before .before .before .args .out .now) (c .before .before .before .before .before .before .put-decimal .last .1 .0) (c .before .before .before .before .before .before .put-decimal .result) s (omega (arith, s .0)) _ _ (c .before .before .put-item .ensures) in
+    let s = first-stands (numeral 10 (c .before .before .before .before .before .before .before .before .before .before .args .g)) (c .before .before .before .before .before .before .before .before .before .before .args .out .now) (c .before .before .before .before .before .before .put-numeral .last .1 .1 .0) (c .before .before .before .before .before .before .put-numeral .result) (omega arith) (c .before .before .before .before .before .before .put-numeral .ensures) in
+    let r = behind-stands (numeral 10 (c .before .before .before .before .before .before .before .before .before .before .args .g)) (itemText (c .before .before .before .before .before .before .before .before .before .before .args .i)) (c .before .before .before .before .before .before .before .before .before .before .args .out .now) (c .before .before .before .before .before .before .put-numeral .last .1 .1 .0) (c .before .before .before .before .before .before .put-numeral .result) s (omega (arith, s .0)) _ _ (c .before .before .put-item .ensures) in
     (r .0 ∙ sym (ap length q), r .2 ∙ sym (ap (λ (z : List ℕ). over z (c .before .before .before .before .before .before .before .before .before .before .args .out .now)) q))
 
 put-item-requires-2 : tie.Need-put-item-requires-2
@@ -57,7 +57,7 @@ pub put-piece-spec : {M : Type 1} → statement M
 put-piece-spec =
     tie.close
     (tie.spec
-    put-decimal-requires
+    put-numeral-requires
     sub-put-item
     part-put-item-start
     part-put-item-end

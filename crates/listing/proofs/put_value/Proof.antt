@@ -1,40 +1,50 @@
 -- `listing::put_value` meets its contract: the byte stands in front, and the value behind it. Assumes nothing.
 use native.Mathlib.Omega.{arith}
+use Prim.Native.Nat.{ℕ}
+use mathlib.Core.Path.{ap}
+use lib.ListN.{length}
 use mathlib.Core.List.{[], _∷_}
 use Rattle.listing.proofs.Putting.{first-stands, behind-stands}
-use Rattle.listing.specs.Text.{hexadecimal}
+use Rattle.listing.proofs.Pieces.{same-numeral}
+use Rattle.listing.specs.Text.{numeral}
 use borrow.Author.Needs.{needs}
 use Rattle.listing.proofs.put_value.Statement.{statement}
 use Rattle.listing.proofs.put_value.Tie as tie
 use Rattle.listing.proofs.put_value.Reads as reads
 use Rattle.listing.proofs.put_value.Lts as lts
 use Rattle.listing.proofs.put_byte.Reads as put-byte-reads
-use Rattle.listing.proofs.put_hexadecimal.Reads as put-hexadecimal-reads
+use Rattle.listing.proofs.put_numeral.Reads as put-numeral-reads
 
 put-byte-requires : tie.Need-put-byte-requires
 put-byte-requires c κs = search needs
 
-sub-put-hexadecimal : tie.Need-sub-put-hexadecimal
-sub-put-hexadecimal c = search needs
+size-requires : tie.Need-size-requires
+size-requires c κs = search needs
 
-part-put-hexadecimal-start : tie.Need-part-put-hexadecimal-start
-part-put-hexadecimal-start c = search needs
+sub-put-numeral : tie.Need-sub-put-numeral
+sub-put-numeral c = search needs
 
-part-put-hexadecimal-end : tie.Need-part-put-hexadecimal-end
-part-put-hexadecimal-end c = search needs
+part-put-numeral-start : tie.Need-part-put-numeral-start
+part-put-numeral-start c = search needs
 
-put-hexadecimal-requires : tie.Need-put-hexadecimal-requires
-put-hexadecimal-requires c κs = search needs
+part-put-numeral-end : tie.Need-part-put-numeral-end
+part-put-numeral-end c = search needs
+
+put-numeral-requires : tie.Need-put-numeral-requires
+put-numeral-requires c κs = let e = ap (λ (x : ℕ). length (numeral 16 x)) (c .before .size .ensures) in (omega arith, omega arith, omega (arith, e))
 
 add-result : tie.Need-add-result
-add-result c = search needs
+add-result c = let e = ap (λ (x : ℕ). length (numeral 16 x)) (c .before .before .before .before .size .ensures) in omega (arith, e)
 
 same-length : tie.Need-same-length
 same-length c = search needs
 
 returns : tie.Need-returns
-returns c = let s = first-stands (c .before .before .before .before .before .before .before .before .before .args .lead ∷ []) (c .before .before .before .before .before .before .before .before .before .args .out .now) (c .before .before .before .before .before .before .put-byte .last .1 .0) (c .before .before .before .before .before .before .put-byte .result) (omega (arith, (c .before .before .before .before .before .before .before .before .before .pre))) (c .before .before .before .before .before .before .put-byte .ensures) in
-    let r = behind-stands (c .before .before .before .before .before .before .before .before .before .args .lead ∷ []) (hexadecimal (c .before .before .before .before .before .before .before .before .before .args .v)) (c .before .before .before .before .before .before .before .before .before .args .out .now) _ _ s (omega (arith, (c .before .before .before .before .before .before .before .before .before .pre))) _ _ (c .before .before .put-hexadecimal .ensures) in
+returns c =
+    let a = c .before .before .before .before .before .before .before .before .before .before .args in
+    let h = c .before .before .before .before .before .before .before .before .before .before .pre in
+    let s = first-stands (a .lead ∷ []) (a .out .now) (c .before .before .before .before .before .before .before .put-byte .last .1 .0) (c .before .before .before .before .before .before .before .put-byte .result) (omega (arith, h)) (c .before .before .before .before .before .before .before .put-byte .ensures) in
+    let r = behind-stands (a .lead ∷ []) (numeral 16 (a .v)) (a .out .now) _ _ s (omega (arith, h)) _ _ (same-numeral 16 _ _ _ _ _ (c .before .before .before .before .size .ensures) (c .before .before .put-numeral .ensures)) in
     (r .0, r .2)
 
 pub put-value-spec : {M : Type 1} → statement M
@@ -42,10 +52,11 @@ put-value-spec =
     tie.close
     (tie.spec
     put-byte-requires
-    sub-put-hexadecimal
-    part-put-hexadecimal-start
-    part-put-hexadecimal-end
-    put-hexadecimal-requires
+    size-requires
+    sub-put-numeral
+    part-put-numeral-start
+    part-put-numeral-end
+    put-numeral-requires
     add-result
     same-length
     returns)

@@ -1,6 +1,5 @@
--- `listing::table_len` meets its contract:  Assumes nothing.
-use Rattle.listing.proofs.Pieces.{value-length, start-length, end-length, on-cut, on-bad, on-past, on-all, length-none}
 -- `listing::table_len` meets its contract: the bytes counted and those of the lines from the place on are all lines. Assumes nothing.
+use Rattle.listing.proofs.Pieces.{value-length, start-length, end-length, on-cut, on-bad, on-past, on-all, length-none}
 use borrow.Author.Needs.{needs}
 use native.Mathlib.Omega.{arith}
 use mathlib.Core.Path.{_≡_, sym, _∙_, ap}
