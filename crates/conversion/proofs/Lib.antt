@@ -1,0 +1,2 @@
+-- Laws of what comes before a conversion.
+pub mod Cases

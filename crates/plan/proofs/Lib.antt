@@ -1,4 +1,0 @@
--- Laws of the plans.
-pub mod Cases
-pub mod Inverse
-pub mod Evens
