@@ -3,3 +3,8 @@ pub mod Stretches
 pub mod Tails
 pub mod Tables
 pub mod Headers
+pub mod Evens
+pub mod Gathered
+pub mod Shapes
+pub mod Source
+pub mod Dispatch
