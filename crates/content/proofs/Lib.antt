@@ -1,0 +1,10 @@
+-- The laws of a font's content.
+pub mod Stretches
+pub mod Tails
+pub mod Tables
+pub mod Headers
+pub mod Evens
+pub mod Gathered
+pub mod Shapes
+pub mod Source
+pub mod Dispatch
