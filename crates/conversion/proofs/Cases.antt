@@ -169,7 +169,7 @@ measuredBy Psf2ToPsf1 t = tableLen Utf8 Ucs2 t
 measuredBy Psf2ToVfont2 t = Length (length t)
 measuredBy Vfont2ToPsf2 t = Length (length t)
 
-measured-same : (c : Conversion) (t : List ℕ) → measuredBy c t ≡ measuredOf c t
+pub measured-same : (c : Conversion) (t : List ℕ) → measuredBy c t ≡ measuredOf c t
 unfolding measuredOf
 measured-same Psf1ToPsf2 t = refl
 measured-same Psf2ToPsf1 t = refl

@@ -1,2 +1,3 @@
 -- Laws of what comes before a conversion.
 pub mod Cases
+pub mod Ready

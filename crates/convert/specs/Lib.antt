@@ -1,4 +1,2 @@
 -- What the conversions answer and write.
-pub mod Outputs
-pub mod Conversions
-pub mod Meanings
+pub mod Reading
