@@ -45,6 +45,13 @@ writtenFont Psf1 t n z h w = psf1Font n h t
 writtenFont Psf2 t n z h w = psf2Font (writtenFields t n z h w)
 writtenFont Vfont2 t n z h w = vfont2Font (writtenFields t n z h w)
 
+-- its kind, count, height and table are those that were written
+pub written-is : (k : Kind) (t : Bool) (n z h w : ℕ) →
+    (writtenFont k t n z h w .kind ≡ k) × (writtenFont k t n z h w .count ≡ n) × (writtenFont k t n z h w .height ≡ h) × (writtenFont k t n z h w .table ≡ t)
+written-is Psf1 t n z h w = (refl, refl, refl, refl)
+written-is Psf2 t n z h w = (refl, refl, refl, refl)
+written-is Vfont2 t n z h w = (refl, refl, refl, refl)
+
 -- what a kind asks of a header's numbers
 abbrev pub HeaderAsks : Kind → ℕ → ℕ → ℕ → ℕ → Type 0
 HeaderAsks Psf1 n z h w = ((n ≡ 256) ⊎ (n ≡ 512)) × (1 ≤ h)

@@ -8,3 +8,4 @@ pub mod Gathered
 pub mod Shapes
 pub mod Source
 pub mod Dispatch
+pub mod Written
