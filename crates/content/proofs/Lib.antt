@@ -9,3 +9,4 @@ pub mod Shapes
 pub mod Source
 pub mod Dispatch
 pub mod Written
+pub mod Octets

@@ -20,7 +20,7 @@ use Rattle.entries.specs.Meaning.{entryAt, addressAt, sizeAt}
 use Rattle.entries.specs.Reading.{entryOf, scanOf}
 use Rattle.bitmap.specs.Meaning.{evenMetrics}
 use Rattle.layout.specs.Meaning.{entriesAt, evenly, dispatchBytes, fieldAt20, fontBytes, charSize, gathered, kindGlyphs, glyphsIn}
-use Rattle.layout.proofs.Parts.{dispatch-length, evenly-length}
+use Rattle.layout.proofs.Parts.{dispatch-length, evenly-length, glyphs-of}
 use Rattle.stages.specs.Meaning.{codingOf, tailOf}
 use Rattle.stages.specs.Reading.{scanned, kindEntries, entriesOf, throughBody, throughEntries, checkOf}
 use Rattle.stages.proofs.Cases.{body-after, body-whole, entries-after, entries-of, greatest-right}
@@ -29,7 +29,7 @@ use Rattle.content.proofs.Stretches.{part-of-middle, nth-within}
 use Rattle.content.proofs.Tails.{Tail, tail-sound}
 use Rattle.content.proofs.Headers.{glyph-small, writtenFields, writtenFont, written-is, HeaderAsks, says-written}
 use Rattle.content.proofs.Evens.{EvenFields, even-metrics, even-rows, even-cols}
-use Rattle.content.proofs.Gathered.{gathered-is}
+use Rattle.content.proofs.Gathered.{startAt, gathered-is}
 use Rattle.content.proofs.Shapes.{Shape, Fills, GlyphIs, glyph-some}
 use Rattle.content.proofs.Dispatch.{entry-numbers, entry-fields, entry-says, scan-even}
 
@@ -44,6 +44,23 @@ abbrev pub Addressed : Kind → ℕ → ℕ → List ℕ → List ℕ → Type 0
 Addressed Psf1 n c xs b = length b ≡ n * c
 Addressed Psf2 n c xs b = length b ≡ n * c
 Addressed Vfont2 n c xs b = (length xs ≡ n) × ((i : ℕ) → i < n → getD xs i 0 + c ≤ length b)
+
+-- addresses one after the other
+nth-evenly : (c i k j : ℕ) → j < k → getD (evenly c i k) j 0 ≡ (i + j) * c
+unfolding evenly
+nth-evenly c i zero j l = absurd (omega arith)
+nth-evenly c i (suc k) zero l = let z : i ≡ i + 0 = omega arith in ap (λ (x : ℕ). x * c) z
+nth-evenly c i (suc k) (suc j) l = let z : suc i + j ≡ i + suc j = omega arith in nth-evenly c (suc i) k j (omega arith) ∙ ap (λ (x : ℕ). x * c) z
+
+pub evenly-place : (k : Kind) (c n g : ℕ) → g < n → placeIn k c (evenly c 0 n) g ≡ g * c
+evenly-place Psf1 c n g l = refl
+evenly-place Psf2 c n g l = refl
+evenly-place Vfont2 c n g l = let z : 0 + g ≡ g = omega arith in nth-evenly c 0 n g l ∙ ap (λ (x : ℕ). x * c) z
+
+pub evenly-addressed : (k : Kind) (n c : ℕ) (b : List ℕ) → length b ≡ n * c → Addressed k n c (evenly c 0 n) b
+evenly-addressed Psf1 n c b e = e
+evenly-addressed Psf2 n c b e = e
+evenly-addressed Vfont2 n c b e = (evenly-length c 0 n, λ i l. omega (arith, evenly-place Vfont2 c n i l, nth-within i n c l, e))
 
 -- a file that was written with numbers, bitmaps and a tail as its kind asks
 pub record WrittenAs (k : Kind) (t : Bool) (n c h w : ℕ) (xs b tl o : List ℕ) : Type 0 where
@@ -231,3 +248,21 @@ module _ (k : Kind) (t : Bool) (n c h w : ℕ) (xs b tl o : List ℕ) (r : Writt
       let bytes : take (glyphBytes h w) (drop (bitmapIn o f g k .start) o) ≡ take c (drop (placeIn k c xs g) b) =
       (λ i. take (sym (r .size) i) (drop (m .1 i) o)) ∙ place-bytes k t n c h w xs b tl o r g l in
       subst (λ (j : Kind). GlyphIs o f g j h w (take c (drop (placeIn k c xs g) b))) (sym (written-is k t n (fieldAt20 k c b) h w .0)) (m .0, inside, bytes)
+
+-- the bitmaps that are read again, where they were written end to end
+module _ (t : Bool) (n c h w : ℕ) (xs b tl o : List ℕ) (ex : xs ≡ evenly c 0 n) (lb : length b ≡ n * c) where
+  glyphs-back : (k : Kind) → WrittenAs k t n c h w xs b tl o → kindGlyphs o (fontOf k t n c h w b) k ≡ b
+  glyphs-back Psf1 r =
+      let q : n * h ≡ length b = omega (arith, end-at t n c h w xs b Psf1 (r .shape) (r .size) (r .addressed)) in
+      ap (λ (x : ℕ). take x (drop 4 o)) q ∙ bitmaps-back Psf1 t n c h w xs b tl o r
+  glyphs-back Psf2 r = ap (λ (x : ℕ). take x (drop 32 o)) (sym lb) ∙ bitmaps-back Psf2 t n c h w xs b tl o r
+  glyphs-back Vfont2 r =
+      let e = r .size in
+      gathered-is o (fontOf Vfont2 t n c h w b) (glyphBytes h w) 0 n b (lb ∙ ap (λ (x : ℕ). n * x) e)
+      (λ i l. let z : 0 + i ≡ i = omega arith in
+          let q : getD xs i 0 ≡ i * c = ap (λ (x : List ℕ). getD x i 0) ex ∙ evenly-place Vfont2 c n i l in
+          ap (λ (x : ℕ). take (glyphBytes h w) (drop (startAt o (fontOf Vfont2 t n c h w b) x) o)) z
+          ∙ written-glyph Vfont2 t n c h w xs b tl o r i l .2 ∙ ap (λ (x : ℕ). take c (drop x b)) q ∙ λ j. take (e j) (drop (i * e j) b))
+
+  pub written-glyphs : (k : Kind) → WrittenAs k t n c h w xs b tl o → glyphsIn o (fontOf k t n c h w b) ≡ b
+  written-glyphs k r = sym (glyphs-of o (fontOf k t n c h w b) k (written-is k t n (fieldAt20 k c b) h w .0)) ∙ glyphs-back k r
