@@ -10,3 +10,4 @@ pub mod Source
 pub mod Dispatch
 pub mod Written
 pub mod Octets
+pub mod Same
