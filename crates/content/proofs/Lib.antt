@@ -11,3 +11,4 @@ pub mod Dispatch
 pub mod Written
 pub mod Octets
 pub mod Same
+pub mod Self
