@@ -12,3 +12,4 @@ pub mod Written
 pub mod Octets
 pub mod Same
 pub mod Self
+pub mod Kept

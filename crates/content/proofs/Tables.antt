@@ -38,3 +38,16 @@ back-again from to tl m c true n i =
     recoded-table to from (i .reading) (recoded from to tl) (r .0) (r .1) ∙ sym (i .same)
 back-again from to tl m c false n e =
     ap (λ (x : List ℕ). recoded to from (recoded from to x)) e ∙ ap (recoded to from) (nothing-recoded from to) ∙ nothing-recoded to from ∙ sym e
+
+-- one tail carries the tables and the readings of another, each in its own coding
+pub record Carries (from to : Coding) (tl tl' : List ℕ) : Type 0 where
+  pub tail : (t : Bool) (n : ℕ) → Tail t from n tl → Tail t to n tl' × Bytes tl'
+  pub reading : (ds : List Desc) → Readable from ds → tl ≡ encode from ds → Readable to ds × (tl' ≡ encode to ds)
+
+-- the tail in another coding does, where its every value is one of that coding's
+pub recoded-carries : (from to : Coding) (tl : List ℕ) (m : ℕ) → tableLen from to tl ≡ Length m → Carries from to tl (recoded from to tl)
+recoded-carries from to tl m c = record { tail = carried-tail from to tl m c; reading = carried-reading from to tl m c }
+
+-- and so does the tail itself, in its own coding
+pub same-carries : (from to : Coding) (tl : List ℕ) → from ≡ to → Bytes tl → Carries from to tl tl
+same-carries from to tl e y = subst (λ (c : Coding). Carries from c tl tl) e (record { tail = λ t n i. (i, y); reading = λ ds o q. (o, q) })

@@ -30,7 +30,7 @@ use Rattle.content.proofs.Tails.{Tail, tail-sound}
 use Rattle.content.proofs.Headers.{glyph-small, writtenFields, writtenFont, written-is, HeaderAsks, says-written}
 use Rattle.content.proofs.Evens.{EvenFields, even-metrics, even-rows, even-cols}
 use Rattle.content.proofs.Gathered.{startAt, gathered-is}
-use Rattle.content.proofs.Shapes.{Shape, Fills, GlyphIs, glyph-some}
+use Rattle.content.proofs.Shapes.{Shape, Fills, GlyphIs, AllEven, glyph-some}
 use Rattle.content.proofs.Dispatch.{entry-numbers, entry-fields, entry-says, scan-even}
 
 -- where glyph g's bytes stand among the bitmaps
@@ -225,6 +225,12 @@ module _ (t : Bool) (n c h w : ℕ) (xs b tl o : List ℕ) where
       let at = entryAt 32 g in
       ((f .0, even-metrics o h w at lh lw f, even-rows o h w at lh f, even-cols o h w at lw f, a .1 ∙ r .size), ap (λ (x : ℕ). 32 + n * 18 + x) (a .0))
 
+-- its width is the one that was written, for PSF1 has no other
+pub written-width : (k : Kind) (t : Bool) (n z h w : ℕ) → Shape k n h w → writtenFont k t n z h w .width ≡ w
+written-width Psf1 t n z h w s = sym (s .6 .1)
+written-width Psf2 t n z h w s = refl
+written-width Vfont2 t n z h w s = refl
+
 module _ (k : Kind) (t : Bool) (n c h w : ℕ) (xs b tl o : List ℕ) (r : WrittenAs k t n c h w xs b tl o) where
   through-entries : throughEntries o ≡ Sound (fontOf k t n c h w b)
   through-entries =
@@ -248,6 +254,13 @@ module _ (k : Kind) (t : Bool) (n c h w : ℕ) (xs b tl o : List ℕ) (r : Writt
       let bytes : take (glyphBytes h w) (drop (bitmapIn o f g k .start) o) ≡ take c (drop (placeIn k c xs g) b) =
       (λ i. take (sym (r .size) i) (drop (m .1 i) o)) ∙ place-bytes k t n c h w xs b tl o r g l in
       subst (λ (j : Kind). GlyphIs o f g j h w (take c (drop (placeIn k c xs g) b))) (sym (written-is k t n (fieldAt20 k c b) h w .0)) (m .0, inside, bytes)
+
+-- all its glyphs fill its height and width
+module _ (t : Bool) (n c h w : ℕ) (xs b tl o : List ℕ) where
+  pub written-even : (k : Kind) → WrittenAs k t n c h w xs b tl o → AllEven o (fontOf k t n c h w b) (fontOf k t n c h w b .kind)
+  written-even Psf1 r = tt
+  written-even Psf2 r = tt
+  written-even Vfont2 r = λ i l. let g = written-glyph Vfont2 t n c h w xs b tl o r i l in (g .0 .0, g .0 .1)
 
 -- the bitmaps that are read again, where they were written end to end
 module _ (t : Bool) (n c h w : ℕ) (xs b tl o : List ℕ) (ex : xs ≡ evenly c 0 n) (lb : length b ≡ n * c) where
