@@ -3,29 +3,28 @@ use mathlib.Core.Path.{_≡_, refl, sym, _∙_, ap, subst}
 use mathlib.Core.Bool.{Bool, true, false}
 use mathlib.Core.Logic.{_⊎_, inl, inr}
 use mathlib.Core.List.{List, [], _∷_, _++_, append-assoc}
-use Prim.Native.Nat.{ℕ, zero, suc, _+_, _*_, _/_, _%_, _≤_, _<_}
+use Prim.Native.Nat.{ℕ, zero, suc, _+_, _*_, _/_, _≤_, _<_}
 use native.Mathlib.Omega.{arith}
 use native.Mathlib.Nat.{mul-le-mul}
 use lib.Dec.{eqb}
 use lib.ListN.{length, getD, take, drop, length-append}
-use lib.Seq.{drop-cons, drop-drop, take-add}
-use Rattle.base.specs.Choice.{pick, when}
+use lib.Seq.{drop-cons, take-add}
+use Rattle.base.specs.Choice.{when}
 use Rattle.base.specs.Bytes.{Bytes}
 use Rattle.base.specs.Begins.{Begins, startsWith}
 use Rattle.base.specs.Numbers.{le32, bytes32}
 use Rattle.base.proofs.Begins.{begins-exactly}
 use Rattle.base.proofs.Numbers.{le32-bytes}
 use Rattle.base.proofs.Parts.{byte-at}
-use Rattle.base.proofs.Lists.{same2, same4}
+use Rattle.base.proofs.Lists.{same4}
 use Rattle.header.specs.declared.Kind.{Kind}
 use Rattle.header.specs.declared.Kind.the-variants.{Psf1, Psf2, Vfont2}
-use Rattle.header.specs.declared.Named.{Named}
 use Rattle.header.specs.declared.Named.the-variants.{Is, Unknown}
 use Rattle.header.specs.declared.Fields.{Fields}
 use Rattle.header.specs.declared.Font.{Font}
 use Rattle.header.specs.declared.Head.the-variants.{Read}
 use Rattle.header.specs.declared.Checked.the-variants.{Sound}
-use Rattle.header.specs.Meaning.{magicOf, headerLen, glyphBytes, psf1Count, psf1Table, psf1Font, psf2Font, vfont2Font, fieldsOf, fields, flagsOf, modeOf, fixedFields, headerBytes}
+use Rattle.header.specs.Meaning.{magicOf, headerLen, glyphBytes, psf1Count, psf1Table, psf1Font, psf2Font, vfont2Font, fields, flagsOf, modeOf, fixedFields, headerBytes}
 use Rattle.header.specs.Reading.{kindOf, headOf, psf2Shaped, vfont2Shaped, onFields, saysOf}
 use Rattle.header.proofs.Cases.{psf1-read, head-read, psf2-sound, vfont2-sound, named-as}
 use Rattle.header.proofs.Known.{source}

@@ -1,27 +1,27 @@
 -- An accepted font's bitmaps written anew, as a file of any kind: the same content; and, written back, the same bytes.
 use mathlib.Core.Path.{_≡_, refl, sym, _∙_, ap, subst}
-use mathlib.Core.Bool.{Bool}
 use mathlib.Core.List.{List}
 use Prim.Native.Nat.{ℕ, _+_, _*_, _≤_, _<_}
 use native.Mathlib.Omega.{arith}
 use lib.ListN.{length, take, drop}
 use Rattle.base.specs.Bytes.{Bytes}
-use Rattle.coding.specs.declared.Coding.{Coding}
 use Rattle.table.specs.Grammar.{Desc, encode, Readable}
 use Rattle.header.specs.declared.Kind.{Kind}
 use Rattle.header.specs.declared.Font.{Font}
 use Rattle.header.specs.declared.Checked.the-variants.{Sound}
-use Rattle.header.specs.Meaning.{limit, glyphBytes}
+use Rattle.header.specs.Meaning.{limit, headerLen, entryLen, glyphBytes}
 use Rattle.layout.specs.Meaning.{evenly, fieldAt20, fontBytes, charSize, glyphsIn}
+use Rattle.layout.proofs.Parts.{evenly-length}
 use Rattle.stages.specs.Meaning.{codingOf, tailOf}
 use Rattle.stages.specs.Reading.{checkOf}
-use Rattle.content.specs.Meaning.{Content, Describes, HasContent}
+use Rattle.content.specs.Meaning.{Content, HasContent}
 use Rattle.content.proofs.Tails.{tail-known}
 use Rattle.content.proofs.Tables.{Carries}
 use Rattle.content.proofs.Headers.{Plain, written-is}
-use Rattle.content.proofs.Shapes.{KindShape, Shape, GlyphIs, AllEven}
-use Rattle.content.proofs.Source.{source-shape, source-length, source-glyph}
-use Rattle.content.proofs.Written.{WrittenAs, fontOf, evenly-place, evenly-addressed, written-tail, written-width, written-sound, written-glyph, written-glyphs}
+use Rattle.content.proofs.Shapes.{KindShape, AllEven}
+use Rattle.content.proofs.Source.{is-placed, glyphs-bytes, source-shape, source-length, source-glyph}
+use Rattle.content.proofs.Written.{WrittenAs, fontOf, font-length, evenly-place, evenly-addressed, written-tail, written-width, written-sound, written-glyph, written-glyphs}
+use Rattle.content.proofs.Octets.{written-bytes}
 use Rattle.content.proofs.Same.{SameGlyph, filled-same, described-moved, same-content}
 use Rattle.content.proofs.Self.{Bare, self}
 
@@ -33,6 +33,19 @@ rewritten s f k tl =
 -- the font that it is
 abbrev pub rewrittenFont : List ℕ → Font → Kind → Font
 rewrittenFont s f k = fontOf k (f .table) (f .count) (charSize f) (f .height) (f .width) (glyphsIn s f)
+
+-- how many bytes it has, and that they are bytes
+module _ (s : List ℕ) (f : Font) (y : Bytes s) (e : checkOf s ≡ Sound f) (k : Kind) (tl : List ℕ) where
+  pub rewritten-length : AllEven s f (f .kind) → length (rewritten s f k tl) ≡ headerLen k + f .count * entryLen k + f .count * charSize f + length tl
+  rewritten-length v =
+      let xs = evenly (charSize f) 0 (f .count) in
+      let q : length xs * entryLen k ≡ f .count * entryLen k = ap (λ (x : ℕ). x * entryLen k) (evenly-length (charSize f) 0 (f .count)) in
+      omega (arith, font-length k (f .table) (f .count) (charSize f) (f .height) (f .width) xs (glyphsIn s f) tl, source-length s f y e v, q)
+
+  pub rewritten-bytes : Bytes tl → Bytes (rewritten s f k tl)
+  rewritten-bytes b =
+      written-bytes k (f .table) (f .count) (charSize f) (f .height) (f .width) (evenly (charSize f) 0 (f .count)) (glyphsIn s f) tl (is-placed s f y e .3)
+      (glyphs-bytes s f y e) b
 
 module _ (s : List ℕ) (f : Font) (y : Bytes s) (e : checkOf s ≡ Sound f) (v : AllEven s f (f .kind)) (k : Kind) (tl : List ℕ)
     (ks : KindShape k (f .count) (f .width)) (c : Carries (codingOf (f .kind)) (codingOf k) (tailOf s f) tl) (short : length (rewritten s f k tl) ≤ limit) where

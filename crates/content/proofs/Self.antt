@@ -1,10 +1,10 @@
 -- A PSF1 or PSF2 file whose header has no extra bytes is what is written of its own parts.
 use mathlib.Core.Path.{_≡_, refl, sym, _∙_, ap, subst}
 use mathlib.Core.Logic.{_⊎_, inl, inr}
-use mathlib.Core.List.{List, [], _∷_, _++_, append-assoc, append-nil}
+use mathlib.Core.List.{List, [], _++_, append-assoc, append-nil}
 use Prim.Native.Nat.{ℕ, _+_, _*_}
-use lib.ListN.{take, drop, take-append-drop}
 use native.Mathlib.Omega.{arith}
+use lib.ListN.{take, drop, take-append-drop}
 use lib.Seq.{drop-drop}
 use Rattle.base.specs.Bytes.{Bytes}
 use Rattle.header.specs.declared.Kind.{Kind}

@@ -15,17 +15,15 @@ use Rattle.header.specs.declared.Kind.{Kind}
 use Rattle.header.specs.declared.Kind.the-variants.{Psf1, Psf2, Vfont2}
 use Rattle.header.specs.declared.Font.{Font}
 use Rattle.header.specs.declared.Checked.the-variants.{Sound}
-use Rattle.header.specs.Meaning.{glyphBytes, psf1Count}
+use Rattle.header.specs.Meaning.{psf1Count}
 use Rattle.header.specs.Bounds.{Placed, KindPlaced, Even, Dispatched}
 use Rattle.header.specs.Reading.{saysOf}
 use Rattle.header.proofs.Known.{source}
 use Rattle.entries.specs.Meaning.{entryAt, addressAt, sizeAt, rowsAt, colsAt, Breaks}
 use Rattle.entries.proofs.Meaning.{scan-greatest}
-use Rattle.bitmap.specs.Meaning.{evenMetrics, kindMetrics}
-use Rattle.layout.specs.Meaning.{charSize, gathered, kindGlyphs, glyphsIn}
+use Rattle.layout.specs.Meaning.{charSize, kindGlyphs, glyphsIn}
 use Rattle.stages.specs.Reading.{checkOf}
 use Rattle.stages.proofs.Cases.{accepted, passed-entries, passed-body, placed, scan-right}
-use Rattle.content.specs.Meaning.{bitmapIn, NoGlyph}
 use Rattle.content.proofs.Stretches.{part-of-take, nth-within}
 use Rattle.content.proofs.Evens.{EvenGlyph, EvenFields, metrics-even, even-rows, even-cols, even-size, even-some}
 use Rattle.content.proofs.Gathered.{startAt, gathered-length, nth-gathered, gathered-bytes}

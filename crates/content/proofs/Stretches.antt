@@ -1,11 +1,11 @@
 -- Parts of lists that are joined, and parts of parts.
 use mathlib.Core.Path.{_≡_, refl, sym, _∙_, ap}
 use mathlib.Core.List.{List, [], _∷_, _++_, append-assoc}
-use Prim.Native.Nat.{ℕ, zero, suc, _+_, _-_, _*_, _≤_, _<_}
+use Prim.Native.Nat.{ℕ, zero, suc, _+_, _*_, _≤_, _<_}
 use native.Mathlib.Omega.{arith}
 use native.Mathlib.Nat.{suc-mul, mul-le-mul-right}
-use lib.ListN.{length, getD, take, drop, length-append, length-drop}
-use lib.Seq.{drop-append-add, drop-append-le, take-append-le, take-take, drop-drop, take-add, getD-take, getD-drop, drop-at}
+use lib.ListN.{length, getD, take, drop, length-drop}
+use lib.Seq.{drop-append-add, drop-append-le, take-append-le, take-take, getD-take, getD-drop}
 
 -- a part of a list's front
 pub part-of-take : (z a m : ℕ) (l : List ℕ) → a + z ≤ m → take z (drop a (take m l)) ≡ take z (drop a l)

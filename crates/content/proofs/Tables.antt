@@ -1,14 +1,12 @@
 -- A table that is carried to another coding is a table there, of the same descriptions.
 use mathlib.Core.Path.{_≡_, refl, sym, _∙_, ap, subst}
 use mathlib.Core.Bool.{Bool, true, false}
-use mathlib.Core.List.{List, [], _∷_}
+use mathlib.Core.List.{List, []}
 use Prim.Native.Nat.{ℕ}
-use lib.ListN.{length}
 use Rattle.base.specs.Bytes.{Bytes}
 use Rattle.coding.specs.declared.Coding.{Coding}
 use Rattle.table.specs.Grammar.{Desc, items, encode, Readable}
-use Rattle.table.specs.Steps.{stepsFrom, told, itemsIn}
-use Rattle.table.specs.Table.{IsTable}
+use Rattle.table.specs.Steps.{stepsFrom, told}
 use Rattle.table.proofs.Reading.{items-bytes}
 use Rattle.transcode.specs.declared.Measured.the-variants.{Length}
 use Rattle.transcode.specs.Transcode.{tableLen, recoded}

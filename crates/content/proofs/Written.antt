@@ -1,7 +1,7 @@
 -- A written font is accepted, and is what was written: its font, its tail, each of its glyphs, and its bitmaps.
 use mathlib.Core.Path.{_≡_, refl, sym, _∙_, ap, subst}
 use mathlib.Core.Bool.{Bool}
-use mathlib.Core.List.{List, [], _∷_, _++_, append-assoc}
+use mathlib.Core.List.{List, _++_, append-assoc}
 use Prim.Native.Nat.{ℕ, zero, suc, _+_, _*_, _≤_, _<_}
 use native.Mathlib.Omega.{arith}
 use lib.ListN.{length, getD, take, drop, length-append}
@@ -19,15 +19,15 @@ use Rattle.entries.specs.declared.Entry.the-variants.{Glyph}
 use Rattle.entries.specs.Meaning.{entryAt, addressAt, sizeAt}
 use Rattle.entries.specs.Reading.{entryOf, scanOf}
 use Rattle.bitmap.specs.Meaning.{evenMetrics}
-use Rattle.layout.specs.Meaning.{entriesAt, evenly, dispatchBytes, fieldAt20, fontBytes, charSize, gathered, kindGlyphs, glyphsIn}
+use Rattle.layout.specs.Meaning.{evenly, dispatchBytes, fieldAt20, fontBytes, kindGlyphs, glyphsIn}
 use Rattle.layout.proofs.Parts.{dispatch-length, evenly-length, glyphs-of}
 use Rattle.stages.specs.Meaning.{codingOf, tailOf}
-use Rattle.stages.specs.Reading.{scanned, kindEntries, entriesOf, throughBody, throughEntries, checkOf}
+use Rattle.stages.specs.Reading.{scanned, kindEntries, throughBody, throughEntries, checkOf}
 use Rattle.stages.proofs.Cases.{body-after, body-whole, entries-after, entries-of, greatest-right}
-use Rattle.content.specs.Meaning.{bitmapIn, NoGlyph}
+use Rattle.content.specs.Meaning.{bitmapIn}
 use Rattle.content.proofs.Stretches.{part-of-middle, nth-within}
 use Rattle.content.proofs.Tails.{Tail, tail-sound}
-use Rattle.content.proofs.Headers.{glyph-small, writtenFields, writtenFont, written-is, HeaderAsks, says-written}
+use Rattle.content.proofs.Headers.{glyph-small, writtenFont, written-is, HeaderAsks, says-written}
 use Rattle.content.proofs.Evens.{EvenFields, even-metrics, even-rows, even-cols}
 use Rattle.content.proofs.Gathered.{startAt, gathered-is}
 use Rattle.content.proofs.Shapes.{Shape, Fills, GlyphIs, AllEven, glyph-some}
@@ -81,6 +81,14 @@ place-within : (k : Kind) (n c : ℕ) (xs b : List ℕ) → Addressed k n c xs b
 place-within Psf1 n c xs b a g l = omega (arith, nth-within g n c l, a)
 place-within Psf2 n c xs b a g l = omega (arith, nth-within g n c l, a)
 place-within Vfont2 n c xs b a g l = a .1 g l
+
+-- how many bytes a written font has
+pub font-length : (k : Kind) (t : Bool) (n c h w : ℕ) (xs b tl : List ℕ) → length (fontBytes k t n c h w xs b tl) ≡ headerLen k + length xs * entryLen k + length b + length tl
+unfolding fontBytes
+font-length k t n c h w xs b tl =
+    let p = headerBytes k t n (fieldAt20 k c b) h w in
+    let q = dispatchBytes k c h w xs in
+    omega (arith, length-append (p ++ q ++ b) tl, length-append (p ++ q) b, length-append p q, header-length k t n (fieldAt20 k c b) h w, dispatch-length k c h w xs)
 
 -- where the bitmaps stand, and where they end
 module _ (t : Bool) (n c h w : ℕ) (xs b : List ℕ) where
