@@ -63,7 +63,7 @@ module _ (s : List ℕ) (f : Font) (c : ℕ) where
       let first : take c (drop (startAt s f j) s) ≡ take c b = ap (λ (m : ℕ). take c (drop (startAt s f m) s)) v ∙ p 0 (omega arith) ∙ ap (λ (m : ℕ). take c (drop m b)) z in
       let others = gathered-is (suc j) k (drop c b) (omega (arith, length-drop c b, suc-mul k c))
       (λ i l. let u : suc j + i ≡ j + suc i = omega arith in let t : suc i * c ≡ c + i * c = omega (arith, suc-mul i c) in
-          ap (λ (m : ℕ). take c (drop (startAt s f m) s)) u ∙ p (suc i) (omega arith) ∙ ap (λ (m : ℕ). take c (drop m b)) t ∙ sym (ap (take c) (drop-drop (i * c) c b))) in
+      ap (λ (m : ℕ). take c (drop (startAt s f m) s)) u ∙ p (suc i) (omega arith) ∙ ap (λ (m : ℕ). take c (drop m b)) t ∙ sym (ap (take c) (drop-drop (i * c) c b))) in
       (λ i. first i ++ others i) ∙ take-append-drop c b
 
   pub gathered-bytes : Bytes s → (j k : ℕ) → Bytes (gathered s f c j k)

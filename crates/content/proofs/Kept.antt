@@ -90,9 +90,9 @@ module _ (s : List ℕ) (f : Font) (y : Bytes s) (e : checkOf s ≡ Sound f) (v 
   rewritten-content =
       let w = written-is k (f .table) (f .count) (fieldAt20 k (charSize f) (glyphsIn s f)) (f .height) (f .width) in
       let read : (ds : List Desc) → Readable (codingOf (f .kind)) ds → tailOf s f ≡ encode (codingOf (f .kind)) ds →
-          Readable (codingOf (rewrittenFont s f k .kind)) ds × (tailOf (rewritten s f k tl) (rewrittenFont s f k) ≡ encode (codingOf (rewrittenFont s f k .kind)) ds) =
+      Readable (codingOf (rewrittenFont s f k .kind)) ds × (tailOf (rewritten s f k tl) (rewrittenFont s f k) ≡ encode (codingOf (rewrittenFont s f k .kind)) ds) =
       λ ds o q. let r = c .reading ds o q in
-          subst (λ (j : Kind). Readable (codingOf j) ds × (tailOf (rewritten s f k tl) (rewrittenFont s f k) ≡ encode (codingOf j) ds)) (sym (w .0)) (r .0, rewritten-tail ∙ r .1) in
+      subst (λ (j : Kind). Readable (codingOf j) ds × (tailOf (rewritten s f k tl) (rewrittenFont s f k) ≡ encode (codingOf j) ds)) (sym (w .0)) (r .0, rewritten-tail ∙ r .1) in
       same-content s f (rewritten s f k tl) (rewrittenFont s f k) e rewritten-sound (sym (w .1)) (sym (w .3)) rewritten-glyph
       (described-moved s f (rewritten s f k tl) (rewrittenFont s f k) (sym (w .1)) read (f .table))
 

@@ -123,13 +123,12 @@ module _ (s : List ℕ) (f : Font) (y : Bytes s) (e : checkOf s ≡ Sound f) whe
       (f .bitmaps + g * f .size + charSize f ≤ length s)
       × (take (charSize f) (drop (f .bitmaps + g * f .size) s) ≡ take (charSize f) (drop (g * charSize f) (take (f .count * f .size) (drop (f .bitmaps) s))))
   even-glyph g l k =
-      let n = nth-within g (f .count) (f .size) l in (
+      let n = nth-within g (f .count) (f .size) l in
+      let b = take (f .count * f .size) (drop (f .bitmaps) s) in
+      let q : take (f .size) (drop (g * f .size) b) ≡ take (f .size) (drop (f .bitmaps + g * f .size) s) =
+      part-of-take (f .size) (g * f .size) (f .count * f .size) (drop (f .bitmaps) s) n ∙ ap (take (f .size)) (drop-drop (g * f .size) (f .bitmaps) s) in (
         omega (arith, n, k .0, k .1, is-placed .7),
-        sym (
-          (λ i. take (sym (k .1) i) (drop (g * sym (k .1) i) (take (f .count * f .size) (drop (f .bitmaps) s))))
-              ∙ part-of-take (f .size) (g * f .size) (f .count * f .size) (drop (f .bitmaps) s) n
-              ∙ ap (take (f .size)) (drop-drop (g * f .size) (f .bitmaps) s) ∙ ap (λ (z : ℕ). take z (drop (f .bitmaps + g * f .size) s)) (k .1)
-        ),
+        ap (λ (z : ℕ). take z (drop (f .bitmaps + g * f .size) s)) (sym (k .1)) ∙ sym q ∙ λ i. take (k .1 i) (drop (g * k .1 i) b),
       )
 
   glyph-of : (k : Kind) → f .kind ≡ k → AllEven s f k → (g : ℕ) → g < f .count → GlyphIs s f g k (f .height) (f .width) (take (charSize f) (drop (g * charSize f) (kindGlyphs s f k)))

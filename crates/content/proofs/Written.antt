@@ -281,9 +281,9 @@ module _ (t : Bool) (n c h w : ℕ) (xs b tl o : List ℕ) (ex : xs ≡ evenly c
       let e = r .size in
       gathered-is o (fontOf Vfont2 t n c h w b) (glyphBytes h w) 0 n b (lb ∙ ap (λ (x : ℕ). n * x) e)
       (λ i l. let z : 0 + i ≡ i = omega arith in
-          let q : getD xs i 0 ≡ i * c = ap (λ (x : List ℕ). getD x i 0) ex ∙ evenly-place Vfont2 c n i l in
-          ap (λ (x : ℕ). take (glyphBytes h w) (drop (startAt o (fontOf Vfont2 t n c h w b) x) o)) z
-          ∙ written-glyph Vfont2 t n c h w xs b tl o r i l .2 ∙ ap (λ (x : ℕ). take c (drop x b)) q ∙ λ j. take (e j) (drop (i * e j) b))
+      let q : getD xs i 0 ≡ i * c = ap (λ (x : List ℕ). getD x i 0) ex ∙ evenly-place Vfont2 c n i l in
+      ap (λ (x : ℕ). take (glyphBytes h w) (drop (startAt o (fontOf Vfont2 t n c h w b) x) o)) z
+      ∙ written-glyph Vfont2 t n c h w xs b tl o r i l .2 ∙ ap (λ (x : ℕ). take c (drop x b)) q ∙ λ j. take (e j) (drop (i * e j) b))
 
   pub written-glyphs : (k : Kind) → WrittenAs k t n c h w xs b tl o → glyphsIn o (fontOf k t n c h w b) ≡ b
   written-glyphs k r = sym (glyphs-of o (fontOf k t n c h w b) k (written-is k t n (fieldAt20 k c b) h w .0)) ∙ glyphs-back k r
