@@ -20,10 +20,37 @@ use Rattle.content.proofs.Tables.{Carries}
 use Rattle.content.proofs.Headers.{Plain, written-is}
 use Rattle.content.proofs.Shapes.{KindShape, AllEven}
 use Rattle.content.proofs.Source.{is-placed, glyphs-bytes, source-shape, source-length, source-glyph}
-use Rattle.content.proofs.Written.{WrittenAs, fontOf, font-length, evenly-place, evenly-addressed, written-tail, written-width, written-sound, written-glyph, written-glyphs}
+use Rattle.content.proofs.Written.{WrittenAs, fontOf, placeIn, font-length, evenly-place, evenly-addressed, written-tail, written-width, written-sound, written-glyph, written-glyphs}
 use Rattle.content.proofs.Octets.{written-bytes}
 use Rattle.content.proofs.Same.{SameGlyph, filled-same, described-moved, same-content}
 use Rattle.content.proofs.Self.{Bare, self}
+
+-- a file written with the bytes of each glyph of a font, wherever they stand, and a tail that carries the font's readings
+module _ (s : List ℕ) (f : Font) (y : Bytes s) (e : checkOf s ≡ Sound f) (v : AllEven s f (f .kind)) (k : Kind) (xs b tl o : List ℕ)
+    (r : WrittenAs k (f .table) (f .count) (charSize f) (f .height) (f .width) xs b tl o)
+    (gs : (g : ℕ) → g < f .count → take (charSize f) (drop (placeIn k (charSize f) xs g) b) ≡ take (charSize f) (drop (g * charSize f) (glyphsIn s f)))
+    (c : Carries (codingOf (f .kind)) (codingOf k) (tailOf s f) tl) where
+  abbrev font : Font
+  font = fontOf k (f .table) (f .count) (charSize f) (f .height) (f .width) b
+
+  -- each of its glyphs is drawn as it was
+  pub kept-glyph : (g : ℕ) → g < f .count → SameGlyph s f o (fontOf k (f .table) (f .count) (charSize f) (f .height) (f .width) b) g
+  kept-glyph g l =
+      let q = written-glyph k (f .table) (f .count) (charSize f) (f .height) (f .width) xs b tl o r g l in
+      filled-same s f o font g (f .height) (f .width) (take (charSize f) (drop (g * charSize f) (glyphsIn s f))) (source-glyph s f y e v g l) (q .0, q .1, q .2 ∙ gs g l)
+
+  kept-reading : (ds : List Desc) → Readable (codingOf (f .kind)) ds → tailOf s f ≡ encode (codingOf (f .kind)) ds → Readable (codingOf (font .kind)) ds × (tailOf o font ≡ encode (codingOf (font .kind)) ds)
+  kept-reading ds p q =
+      let x = c .reading ds p q in
+      subst (λ (j : Kind). Readable (codingOf j) ds × (tailOf o font ≡ encode (codingOf j) ds)) (sym (written-is k (f .table) (f .count) (fieldAt20 k (charSize f) b) (f .height) (f .width) .0))
+      (x .0, written-tail k (f .table) (f .count) (charSize f) (f .height) (f .width) xs b tl o r ∙ x .1)
+
+  -- it has the font's content
+  pub kept-content : (m : Content) → HasContent s m → HasContent o m
+  kept-content =
+      let w = written-is k (f .table) (f .count) (fieldAt20 k (charSize f) b) (f .height) (f .width) in
+      same-content s f o font e (written-sound k (f .table) (f .count) (charSize f) (f .height) (f .width) xs b tl o r) (sym (w .1)) (sym (w .3)) kept-glyph
+      (described-moved s f o font (sym (w .1)) kept-reading (f .table))
 
 -- a font's glyphs, written one after the other as a file of a kind, before a tail
 abbrev pub rewritten : List ℕ → Font → Kind → List ℕ → List ℕ
@@ -76,25 +103,11 @@ module _ (s : List ℕ) (f : Font) (y : Bytes s) (e : checkOf s ≡ Sound f) (v 
       written-glyphs (f .table) (f .count) (charSize f) (f .height) (f .width) (evenly (charSize f) 0 (f .count)) (glyphsIn s f) tl (rewritten s f k tl) refl
       (source-length s f y e v) k rewritten-as
 
-  -- each of its glyphs is drawn as it was
-  pub rewritten-glyph : (g : ℕ) → g < f .count → SameGlyph s f (rewritten s f k tl) (rewrittenFont s f k) g
-  rewritten-glyph g l =
-      let a = source-glyph s f y e v g l in
-      let b = written-glyph k (f .table) (f .count) (charSize f) (f .height) (f .width) (evenly (charSize f) 0 (f .count)) (glyphsIn s f) tl (rewritten s f k tl) rewritten-as g l in
-      let z = evenly-place k (charSize f) (f .count) g l in
-      filled-same s f (rewritten s f k tl) (rewrittenFont s f k) g (f .height) (f .width) (take (charSize f) (drop (g * charSize f) (glyphsIn s f))) a
-      (b .0, b .1, b .2 ∙ ap (λ (x : ℕ). take (charSize f) (drop x (glyphsIn s f))) z)
-
   -- it has the font's content
   pub rewritten-content : (m : Content) → HasContent s m → HasContent (rewritten s f k tl) m
   rewritten-content =
-      let w = written-is k (f .table) (f .count) (fieldAt20 k (charSize f) (glyphsIn s f)) (f .height) (f .width) in
-      let read : (ds : List Desc) → Readable (codingOf (f .kind)) ds → tailOf s f ≡ encode (codingOf (f .kind)) ds →
-      Readable (codingOf (rewrittenFont s f k .kind)) ds × (tailOf (rewritten s f k tl) (rewrittenFont s f k) ≡ encode (codingOf (rewrittenFont s f k .kind)) ds) =
-      λ ds o q. let r = c .reading ds o q in
-      subst (λ (j : Kind). Readable (codingOf j) ds × (tailOf (rewritten s f k tl) (rewrittenFont s f k) ≡ encode (codingOf j) ds)) (sym (w .0)) (r .0, rewritten-tail ∙ r .1) in
-      same-content s f (rewritten s f k tl) (rewrittenFont s f k) e rewritten-sound (sym (w .1)) (sym (w .3)) rewritten-glyph
-      (described-moved s f (rewritten s f k tl) (rewrittenFont s f k) (sym (w .1)) read (f .table))
+      kept-content s f y e v k (evenly (charSize f) 0 (f .count)) (glyphsIn s f) tl (rewritten s f k tl) rewritten-as
+      (λ g l. ap (λ (x : ℕ). take (charSize f) (drop x (glyphsIn s f))) (evenly-place k (charSize f) (f .count) g l)) c
 
   -- written back with the tail that it had, it is the file that it was
   pub written-back : Bare (f .kind) → Plain s (f .kind) → (tl' : List ℕ) → tl' ≡ tailOf s f → rewritten (rewritten s f k tl) (rewrittenFont s f k) (f .kind) tl' ≡ s

@@ -161,3 +161,7 @@ module _ (s : List ℕ) (f : Font) (y : Bytes s) (e : checkOf s ≡ Sound f) whe
     pub source-glyph : (g : ℕ) → g < f .count → GlyphIs s f g (f .kind) (f .height) (f .width) (take (charSize f) (drop (g * charSize f) (glyphsIn s f)))
     unfolding glyphsIn
     source-glyph = glyph-of (f .kind) refl v
+
+    -- each bitmap of a vfont2 font stands in the file
+    pub source-stands : f .kind ≡ Vfont2 → (i : ℕ) → i < f .count → f .bitmaps + addressAt s (entryAt (f .entries) i) + charSize f ≤ length s
+    source-stands q i l = entry-stands q i l (subst (AllEven s f) q v i l)
