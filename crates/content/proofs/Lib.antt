@@ -7,6 +7,7 @@ pub mod Evens
 pub mod Gathered
 pub mod Shapes
 pub mod Source
+pub mod Found
 pub mod Dispatch
 pub mod Written
 pub mod Octets

@@ -25,7 +25,7 @@ use Rattle.stages.specs.Meaning.{codingOf, tailOf}
 use Rattle.stages.specs.Reading.{scanned, kindEntries, throughBody, throughEntries, checkOf}
 use Rattle.stages.proofs.Cases.{body-after, body-whole, entries-after, entries-of, greatest-right}
 use Rattle.content.specs.Meaning.{bitmapIn}
-use Rattle.content.proofs.Stretches.{part-of-middle, nth-within}
+use Rattle.content.proofs.Stretches.{part-of-middle, nth-within, parts-same}
 use Rattle.content.proofs.Tails.{Tail, tail-sound}
 use Rattle.content.proofs.Headers.{glyph-small, writtenFont, written-is, HeaderAsks, says-written}
 use Rattle.content.proofs.Evens.{EvenFields, even-metrics, even-rows, even-cols}
@@ -270,20 +270,28 @@ module _ (t : Bool) (n c h w : ℕ) (xs b tl o : List ℕ) where
   written-even Psf2 r = tt
   written-even Vfont2 r = λ i l. let g = written-glyph Vfont2 t n c h w xs b tl o r i l in (g .0 .0, g .0 .1)
 
--- the bitmaps that are read again, where they were written end to end
-module _ (t : Bool) (n c h w : ℕ) (xs b tl o : List ℕ) (ex : xs ≡ evenly c 0 n) (lb : length b ≡ n * c) where
-  glyphs-back : (k : Kind) → WrittenAs k t n c h w xs b tl o → kindGlyphs o (fontOf k t n c h w b) k ≡ b
-  glyphs-back Psf1 r =
+-- the bitmaps that are read again: a list y, where each glyph's bytes stand at its place
+module _ (t : Bool) (n c h w : ℕ) (xs b tl o y : List ℕ) (ly : length y ≡ n * c) where
+  glyphs-back : (k : Kind) → WrittenAs k t n c h w xs b tl o → ((g : ℕ) → g < n → take c (drop (placeIn k c xs g) b) ≡ take c (drop (g * c) y)) →
+      kindGlyphs o (fontOf k t n c h w b) k ≡ y
+  glyphs-back Psf1 r p =
       let q : n * h ≡ length b = omega (arith, end-at t n c h w xs b Psf1 (r .shape) (r .size) (r .addressed)) in
-      ap (λ (x : ℕ). take x (drop 4 o)) q ∙ bitmaps-back Psf1 t n c h w xs b tl o r
-  glyphs-back Psf2 r = ap (λ (x : ℕ). take x (drop 32 o)) (sym lb) ∙ bitmaps-back Psf2 t n c h w xs b tl o r
-  glyphs-back Vfont2 r =
+      ap (λ (x : ℕ). take x (drop 4 o)) q ∙ bitmaps-back Psf1 t n c h w xs b tl o r ∙ parts-same n c b y (r .addressed) ly p
+  glyphs-back Psf2 r p =
+      ap (λ (x : ℕ). take x (drop 32 o)) (sym (r .addressed)) ∙ bitmaps-back Psf2 t n c h w xs b tl o r ∙ parts-same n c b y (r .addressed) ly p
+  glyphs-back Vfont2 r p =
       let e = r .size in
-      gathered-is o (fontOf Vfont2 t n c h w b) (glyphBytes h w) 0 n b (lb ∙ ap (λ (x : ℕ). n * x) e)
-      (λ i l. let z : 0 + i ≡ i = omega arith in
-      let q : getD xs i 0 ≡ i * c = ap (λ (x : List ℕ). getD x i 0) ex ∙ evenly-place Vfont2 c n i l in
-      ap (λ (x : ℕ). take (glyphBytes h w) (drop (startAt o (fontOf Vfont2 t n c h w b) x) o)) z
-      ∙ written-glyph Vfont2 t n c h w xs b tl o r i l .2 ∙ ap (λ (x : ℕ). take c (drop x b)) q ∙ λ j. take (e j) (drop (i * e j) b))
+      let f = fontOf Vfont2 t n c h w b in
+      let each : (i : ℕ) → i < n → take (glyphBytes h w) (drop (startAt o f (0 + i)) o) ≡ take (glyphBytes h w) (drop (i * glyphBytes h w) y) =
+      λ i l. let z : 0 + i ≡ i = omega arith in
+      ap (λ (x : ℕ). take (glyphBytes h w) (drop (startAt o f x) o)) z ∙ written-glyph Vfont2 t n c h w xs b tl o r i l .2 ∙ p i l ∙ λ j. take (e j) (drop (i * e j) y) in
+      gathered-is o f (glyphBytes h w) 0 n y (ly ∙ ap (λ (x : ℕ). n * x) e) each
 
-  pub written-glyphs : (k : Kind) → WrittenAs k t n c h w xs b tl o → glyphsIn o (fontOf k t n c h w b) ≡ b
-  written-glyphs k r = sym (glyphs-of o (fontOf k t n c h w b) k (written-is k t n (fieldAt20 k c b) h w .0)) ∙ glyphs-back k r
+  pub written-glyphs : (k : Kind) → WrittenAs k t n c h w xs b tl o → ((g : ℕ) → g < n → take c (drop (placeIn k c xs g) b) ≡ take c (drop (g * c) y)) →
+      glyphsIn o (fontOf k t n c h w b) ≡ y
+  written-glyphs k r p = sym (glyphs-of o (fontOf k t n c h w b) k (written-is k t n (fieldAt20 k c b) h w .0)) ∙ glyphs-back k r p
+
+-- where they were written end to end, they are those that were written
+pub written-evenly : (k : Kind) (t : Bool) (n c h w : ℕ) (b tl o : List ℕ) → length b ≡ n * c → WrittenAs k t n c h w (evenly c 0 n) b tl o → glyphsIn o (fontOf k t n c h w b) ≡ b
+written-evenly k t n c h w b tl o lb r =
+    written-glyphs t n c h w (evenly c 0 n) b tl o b lb k r (λ g l. ap (λ (x : ℕ). take c (drop x b)) (evenly-place k c n g l))
