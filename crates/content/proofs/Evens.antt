@@ -69,6 +69,7 @@ module _ (s : List ℕ) (h w at : ℕ) where
       let z : h + 0 ≡ h = omega arith in
       rw (p .1, p .2, low h lh, low 0 (omega arith)) z
 
+  -- and its columns
   pub even-cols : w < 32768 → EvenFields → colsAt s at ≡ w
   unfolding colsAt
   even-cols lw p = rw (p .3, p .4, low w lw, low 0 (omega arith)) (zero-left w)

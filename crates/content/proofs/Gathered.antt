@@ -22,6 +22,7 @@ module _ (s : List ℕ) (f : Font) (c : ℕ) where
   abbrev pub Stand : ℕ → ℕ → Type 0
   Stand j k = (i : ℕ) → j ≤ i → i < j + k → startAt s f i + c ≤ length s
 
+  -- they have c bytes each
   pub gathered-length : (j k : ℕ) → Stand j k → length (gathered s f c j k) ≡ k * c
   unfolding gathered
   gathered-length j zero p = omega arith
@@ -66,6 +67,7 @@ module _ (s : List ℕ) (f : Font) (c : ℕ) where
       ap (λ (m : ℕ). take c (drop (startAt s f m) s)) u ∙ p (suc i) (omega arith) ∙ ap (λ (m : ℕ). take c (drop m b)) t ∙ sym (ap (take c) (drop-drop (i * c) c b))) in
       (λ i. first i ++ others i) ∙ take-append-drop c b
 
+  -- they are bytes
   pub gathered-bytes : Bytes s → (j k : ℕ) → Bytes (gathered s f c j k)
   unfolding gathered
   gathered-bytes y j zero = tt

@@ -35,10 +35,11 @@ pub glyph-small : (h w : ℕ) → h ≤ 255 → w ≤ 255 → glyphBytes h w ≤
 unfolding glyphBytes
 glyph-small h w bh bw = let g : (w + 7) / 8 ≤ 32 = omega arith in mul-le-mul bh g
 
--- what a written header says: the fields of 32 bytes, and the font
+-- what a written header says: the fields of 32 bytes
 abbrev pub writtenFields : Bool → ℕ → ℕ → ℕ → ℕ → Fields
 writtenFields t n z h w = record { header = headerLen Psf2; count = n; size = z; height = h; width = w; table = t }
 
+-- and the font
 abbrev pub writtenFont : Kind → Bool → ℕ → ℕ → ℕ → ℕ → Font
 writtenFont Psf1 t n z h w = psf1Font n h t
 writtenFont Psf2 t n z h w = psf2Font (writtenFields t n z h w)
@@ -132,6 +133,7 @@ module _ (t : Bool) (n z h w : ℕ) (r o : List ℕ) where
       ∙ ap (onFields vfont2Shaped) (head-written 0x27 0x5B 0xA4 0x68 t n z h w r o e (omega arith) lz (omega arith) (omega arith) l an bn)
       ∙ sym (vfont2-sound (writtenFields t n z h w) (bh, bw))
 
+  -- the same, whatever the kind
   pub says-written : (k : Kind) → o ≡ headerBytes k t n z h w ++ r → HeaderAsks k n z h w → saysOf o ≡ Sound (writtenFont k t n z h w)
   says-written Psf1 e a = psf1-says t n z h w r o e a
   says-written Psf2 e a = psf2-says e a
@@ -201,6 +203,7 @@ chosen Vfont2 false true c e = let z : _≡_ {A = ℕ} 0 1 = cc in absurd (omega
 chosen Vfont2 false false true e = refl
 chosen Vfont2 false false false e = let z : _≡_ {A = ℕ} 0 1 = cc in absurd (omega arith)
 
+-- the magic stands in front
 pub magic-begins : (s : List ℕ) (k : Kind) → kindOf s ≡ Is k → Begins (magicOf k) s
 unfolding kindOf
 magic-begins s Psf1 e = begins-exactly (magicOf Psf1) s .0 (chosen Psf1 (startsWith (magicOf Psf1) s) (startsWith (magicOf Psf2) s) (startsWith (magicOf Vfont2) s) e)
@@ -262,5 +265,6 @@ module _ (s : List ℕ) (f : Font) (y : Bytes s) (e : saysOf s ≡ Sound f) wher
       let h = r .1 in
       subst (HeaderIs Vfont2) (r .2 .0) (fields-back s (magicOf Vfont2) y (h .0) (magic-begins s Vfont2 (r .0)) (h .1) (h .2) p)
 
+  -- the same, of the font's own kind
   pub header-self : Plain s (f .kind) → take (headerLen (f .kind)) s ≡ headerBytes (f .kind) (f .table) (f .count) (f .size) (f .height) (f .width)
   header-self p = self-of (f .kind) refl p

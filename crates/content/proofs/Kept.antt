@@ -82,12 +82,14 @@ module _ (s : List ℕ) (f : Font) (y : Bytes s) (e : checkOf s ≡ Sound f) (v 
 
 -- how many bytes it has, and that they are bytes
 module _ (s : List ℕ) (f : Font) (y : Bytes s) (e : checkOf s ≡ Sound f) (k : Kind) (tl : List ℕ) where
+  -- a header, entries, bitmaps and the tail
   pub rewritten-length : AllEven s f (f .kind) → length (rewritten s f k tl) ≡ headerLen k + f .count * entryLen k + f .count * charSize f + length tl
   rewritten-length v =
       let xs = evenly (charSize f) 0 (f .count) in
       let q : length xs * entryLen k ≡ f .count * entryLen k = ap (λ (x : ℕ). x * entryLen k) (evenly-length (charSize f) 0 (f .count)) in
       omega (arith, font-length k (f .table) (f .count) (charSize f) (f .height) (f .width) xs (glyphsIn s f) tl, source-length s f y e v, q)
 
+  -- bytes, where the tail is bytes
   pub rewritten-bytes : Bytes tl → Bytes (rewritten s f k tl)
   rewritten-bytes b =
       written-bytes k (f .table) (f .count) (charSize f) (f .height) (f .width) (evenly (charSize f) 0 (f .count)) (glyphsIn s f) tl (is-placed s f y e .3)
@@ -114,6 +116,7 @@ module _ (s : List ℕ) (f : Font) (y : Bytes s) (e : checkOf s ≡ Sound f) (v 
   pub rewritten-sound : checkOf (rewritten s f k tl) ≡ Sound (rewrittenFont s f k)
   rewritten-sound = written-sound k (f .table) (f .count) (charSize f) (f .height) (f .width) (evenly (charSize f) 0 (f .count)) (glyphsIn s f) tl (rewritten s f k tl) rewritten-as
 
+  -- its tail is the one that was given
   pub rewritten-tail : tailOf (rewritten s f k tl) (rewrittenFont s f k) ≡ tl
   rewritten-tail = written-tail k (f .table) (f .count) (charSize f) (f .height) (f .width) (evenly (charSize f) 0 (f .count)) (glyphsIn s f) tl (rewritten s f k tl) rewritten-as
 
@@ -121,6 +124,7 @@ module _ (s : List ℕ) (f : Font) (y : Bytes s) (e : checkOf s ≡ Sound f) (v 
       take (charSize f) (drop (placeIn k (charSize f) (evenly (charSize f) 0 (f .count)) g) (glyphsIn s f)) ≡ take (charSize f) (drop (g * charSize f) (glyphsIn s f))
   in-place g l = ap (λ (x : ℕ). take (charSize f) (drop x (glyphsIn s f))) (evenly-place k (charSize f) (f .count) g l)
 
+  -- its bitmaps are the font's
   pub rewritten-glyphs : glyphsIn (rewritten s f k tl) (rewrittenFont s f k) ≡ glyphsIn s f
   rewritten-glyphs = kept-glyphs s f y e v k (evenly (charSize f) 0 (f .count)) (glyphsIn s f) tl (rewritten s f k tl) rewritten-as in-place c
 

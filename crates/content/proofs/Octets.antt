@@ -48,6 +48,7 @@ fields-bytes a b c d =
 fielded : (m : List ℕ) (t : Bool) (n z h w : ℕ) → Bytes m → Bytes (m ++ fixedFields t ++ fields n z h w)
 fielded m t n z h w y = bytes-append (m ++ fixedFields t) (fields n z h w) (bytes-append m (fixedFields t) y (fixed-bytes t)) (fields-bytes n z h w)
 
+-- a header
 pub header-bytes : (k : Kind) (t : Bool) (n z h w : ℕ) → h ≤ 255 → Bytes (headerBytes k t n z h w)
 unfolding headerBytes
 header-bytes Psf1 t n z h w l = (omega arith, (omega arith, (mode-low n t, (omega arith, tt))))
@@ -66,6 +67,7 @@ unfolding entryBytes
 entry-bytes a c h w =
     bytes-append (bytes32 a ++ bytes32 c) (metricsBytes h w) (bytes-append (bytes32 a) (bytes32 c) (four-bytes a) (four-bytes c)) (metrics-bytes h w)
 
+-- a dispatch table
 pub entries-bytes : (c h w : ℕ) (xs : List ℕ) → Bytes (entriesAt c h w xs)
 unfolding entriesAt
 entries-bytes c h w [] = tt

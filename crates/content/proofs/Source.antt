@@ -43,6 +43,7 @@ module _ (s : List ℕ) (f : Font) (y : Bytes s) (e : checkOf s ≡ Sound f) whe
   pub is-placed : Placed s f
   is-placed = placed s f (byte-at s y 3) (accepted s f e .0)
 
+  -- as its kind places them
   pub is-kind : (k : Kind) → f .kind ≡ k → KindPlaced f k
   is-kind k q = subst (λ (x : Kind). KindPlaced f x) q (is-placed .8)
 
@@ -149,6 +150,7 @@ module _ (s : List ℕ) (f : Font) (y : Bytes s) (e : checkOf s ≡ Sound f) whe
   glyphs-bytes = bytes-of (f .kind)
 
   module _ (v : AllEven s f (f .kind)) where
+    -- the font's numbers are within the bounds of its kind
     pub source-shape : Shape (f .kind) (f .count) (f .height) (f .width)
     source-shape = shape-of (f .kind) refl v
 

@@ -13,14 +13,17 @@ use Rattle.transcode.specs.Transcode.{tableLen, recoded}
 use Rattle.transcode.proofs.Meaning.{length-exactly, recoded-table}
 use Rattle.content.proofs.Tails.{Tail}
 
+-- no bytes stay no bytes
 pub nothing-recoded : (from to : Coding) → recoded from to [] ≡ []
 unfolding recoded told stepsFrom
 nothing-recoded from to = refl
 
 module _ (from to : Coding) (tl : List ℕ) (m : ℕ) (c : tableLen from to tl ≡ Length m) where
+  -- each reading in one coding is one in the other
   pub carried-reading : (ds : List Desc) → Readable from ds → tl ≡ encode from ds → Readable to ds × (recoded from to tl ≡ encode to ds)
   carried-reading ds o e = (length-exactly from to ds tl o e m .0 c .0, recoded-table from to ds tl o e)
 
+  -- a table in one coding is one in the other, and nothing stays nothing
   pub carried-tail : (t : Bool) (n : ℕ) → Tail t from n tl → Tail t to n (recoded from to tl) × Bytes (recoded from to tl)
   carried-tail true n i =
       let r = carried-reading (i .reading) (i .values) (i .same) in

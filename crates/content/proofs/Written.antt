@@ -52,11 +52,13 @@ nth-evenly c i zero j l = absurd (omega arith)
 nth-evenly c i (suc k) zero l = let z : i ≡ i + 0 = omega arith in ap (λ (x : ℕ). x * c) z
 nth-evenly c i (suc k) (suc j) l = let z : suc i + j ≡ i + suc j = omega arith in nth-evenly c (suc i) k j (omega arith) ∙ ap (λ (x : ℕ). x * c) z
 
+-- each at its index times c
 pub evenly-place : (k : Kind) (c n g : ℕ) → g < n → placeIn k c (evenly c 0 n) g ≡ g * c
 evenly-place Psf1 c n g l = refl
 evenly-place Psf2 c n g l = refl
 evenly-place Vfont2 c n g l = let z : 0 + g ≡ g = omega arith in nth-evenly c 0 n g l ∙ ap (λ (x : ℕ). x * c) z
 
+-- they serve bitmaps that stand end to end
 pub evenly-addressed : (k : Kind) (n c : ℕ) (b : List ℕ) → length b ≡ n * c → Addressed k n c (evenly c 0 n) b
 evenly-addressed Psf1 n c b e = e
 evenly-addressed Psf2 n c b e = e
@@ -265,6 +267,7 @@ module _ (k : Kind) (t : Bool) (n c h w : ℕ) (xs b tl o : List ℕ) (r : Writt
 
 -- all its glyphs fill its height and width
 module _ (t : Bool) (n c h w : ℕ) (xs b tl o : List ℕ) where
+  -- so that it can be written anew
   pub written-even : (k : Kind) → WrittenAs k t n c h w xs b tl o → AllEven o (fontOf k t n c h w b) (fontOf k t n c h w b .kind)
   written-even Psf1 r = tt
   written-even Psf2 r = tt
@@ -287,6 +290,7 @@ module _ (t : Bool) (n c h w : ℕ) (xs b tl o y : List ℕ) (ly : length y ≡ 
       ap (λ (x : ℕ). take (glyphBytes h w) (drop (startAt o f x) o)) z ∙ written-glyph Vfont2 t n c h w xs b tl o r i l .2 ∙ p i l ∙ λ j. take (e j) (drop (i * e j) y) in
       gathered-is o f (glyphBytes h w) 0 n y (ly ∙ ap (λ (x : ℕ). n * x) e) each
 
+  -- the same, of the font's own kind
   pub written-glyphs : (k : Kind) → WrittenAs k t n c h w xs b tl o → ((g : ℕ) → g < n → take c (drop (placeIn k c xs g) b) ≡ take c (drop (g * c) y)) →
       glyphsIn o (fontOf k t n c h w b) ≡ y
   written-glyphs k r p = sym (glyphs-of o (fontOf k t n c h w b) k (written-is k t n (fieldAt20 k c b) h w .0)) ∙ glyphs-back k r p
