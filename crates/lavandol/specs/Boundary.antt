@@ -1,9 +1,10 @@
 -- Each answer of the public calls as the struct that C reads: `refusal` 0 and the answer's numbers, or the refusal's number and place
 -- and zeros. include/lavandol.h says the same in C.
 use Prim.Native.Nat.{ℕ}
+use lib.IntN.{pos}
 use mathlib.Core.Bool.{Bool, true, false}
 use Rattle.refusal.specs.declared.Refusal.{Refusal}
-use Rattle.refusal.specs.Refusals.{numberOf, placeOf}
+use Rattle.refusal.specs.Refusals.{numberOf}
 use Rattle.header.specs.declared.Kind.{Kind}
 use Rattle.header.specs.declared.Kind.the-variants.{Psf1, Psf2, Vfont2}
 use Rattle.header.specs.declared.Font.{Font}
@@ -12,17 +13,21 @@ use Rattle.header.specs.declared.Checked.the-variants.{Sound, Refused}
 use Rattle.bitmap.specs.declared.Part.{Part}
 use Rattle.bitmap.specs.declared.Part.the-variants.{At, Refused as NoPart}
 use Rattle.bitmap.specs.declared.Pixel.{Pixel}
-use Rattle.bitmap.specs.declared.Pixel.the-variants.{Bit, NoPixel}
+use Rattle.bitmap.specs.declared.Pixel.the-variants.{Bit, Refused as NoPixel}
+use Rattle.entries.specs.declared.Metrics.{Metrics}
+use Rattle.bitmap.specs.declared.GlyphMetrics.{GlyphMetrics}
+use Rattle.bitmap.specs.declared.GlyphMetrics.the-variants.{Is as IsMetrics, Refused as NoMetrics}
 use Rattle.table.specs.declared.Item as I
 use Rattle.table.specs.declared.Item.the-variants.{Single, Start, Value, End}
 use Rattle.fonts.specs.declared.Walk.{Walk}
-use Rattle.fonts.specs.declared.Walk.the-variants.{Is, NoWalk}
+use Rattle.fonts.specs.declared.Walk.the-variants.{Is, Refused as NoWalk}
 use Rattle.fonts.specs.declared.Lookup.{Lookup}
-use Rattle.fonts.specs.declared.Lookup.the-variants.{Glyph, NoLookup}
+use Rattle.fonts.specs.declared.Lookup.the-variants.{Glyph, Refused as NoLookup}
 use Rattle.convert.specs.declared.Converted.{Converted}
 use Rattle.convert.specs.declared.Converted.the-variants.{Wrote, Refused as NoOutput}
 use Rattle.lavandol.specs.declared.LavFont.{LavFont}
 use Rattle.lavandol.specs.declared.LavPart.{LavPart}
+use Rattle.lavandol.specs.declared.LavMetrics.{LavMetrics}
 use Rattle.lavandol.specs.declared.LavItem.{LavItem}
 use Rattle.lavandol.specs.declared.LavNumber.{LavNumber}
 
@@ -38,6 +43,22 @@ flagNumber true = 1
 flagNumber false = 0
 
 -- the check's answer
+abbrev pub refusedFont : Refusal → LavFont
+refusedFont r =
+    record {
+      refusal = numberOf (r .reason);
+      kind = 0;
+      place = r .place;
+      count = 0;
+      height = 0;
+      width = 0;
+      table = 0;
+      entries = 0;
+      bitmaps = 0;
+      size = 0;
+      end = 0;
+    }
+
 abbrev pub fontAnswer : Checked → LavFont
 fontAnswer (Sound f) =
     record {
@@ -53,32 +74,30 @@ fontAnswer (Sound f) =
       size = f .size;
       end = f .end;
     }
-fontAnswer (Refused r) =
-    record {
-      refusal = numberOf r;
-      kind = 0;
-      place = placeOf r;
-      count = 0;
-      height = 0;
-      width = 0;
-      table = 0;
-      entries = 0;
-      bitmaps = 0;
-      size = 0;
-      end = 0;
-    }
+fontAnswer (Refused r) = refusedFont r
 
 -- a part of the file
+abbrev pub refusedPart : Refusal → LavPart
+refusedPart r = record { refusal = numberOf (r .reason); place = r .place; offset = 0; length = 0 }
+
 abbrev pub partAnswer : Part → LavPart
 partAnswer (At start len) = record { refusal = 0; place = 0; offset = start; length = len }
-partAnswer (NoPart r) = record { refusal = numberOf r; place = placeOf r; offset = 0; length = 0 }
+partAnswer (NoPart r) = refusedPart r
+
+-- a glyph's metrics
+abbrev pub refusedMetrics : Refusal → LavMetrics
+refusedMetrics r = record { refusal = numberOf (r .reason); place = r .place; up = pos 0; down = pos 0; left = pos 0; right = pos 0; logical = pos 0 }
+
+abbrev pub metricsAnswer : GlyphMetrics → LavMetrics
+metricsAnswer (IsMetrics m) = record { refusal = 0; place = 0; up = m .up; down = m .down; left = m .left; right = m .right; logical = m .logical }
+metricsAnswer (NoMetrics r) = refusedMetrics r
 
 -- one number, and the refusals of the calls that answer so
 abbrev pub numberAnswer : ℕ → LavNumber
 numberAnswer n = record { refusal = 0; place = 0; number = n }
 
 abbrev pub refusedNumber : Refusal → LavNumber
-refusedNumber r = record { refusal = numberOf r; place = placeOf r; number = 0 }
+refusedNumber r = record { refusal = numberOf (r .reason); place = r .place; number = 0 }
 
 -- a pixel, 1 is drawn
 abbrev pub pixelAnswer : Pixel → LavNumber
@@ -90,7 +109,7 @@ abbrev pub lookupAnswer : Lookup → LavNumber
 lookupAnswer (Glyph g) = numberAnswer g
 lookupAnswer (NoLookup r) = refusedNumber r
 
--- LAV_SINGLE, LAV_START, LAV_VALUE, LAV_END; a mark has the value 0
+-- LAV_SINGLE, LAV_START, LAV_VALUE_IN_SEQUENCE, LAV_END; a mark has the value 0
 abbrev pub itemAnswer : I.Item → LavItem
 itemAnswer (Single v) = record { refusal = 0; kind = 1; place = 0; value = v }
 itemAnswer Start = record { refusal = 0; kind = 2; place = 0; value = 0 }
@@ -98,9 +117,12 @@ itemAnswer (Value v) = record { refusal = 0; kind = 3; place = 0; value = v }
 itemAnswer End = record { refusal = 0; kind = 4; place = 0; value = 0 }
 
 -- an item of a description
+abbrev pub refusedItem : Refusal → LavItem
+refusedItem r = record { refusal = numberOf (r .reason); kind = 0; place = r .place; value = 0 }
+
 abbrev pub walkAnswer : Walk → LavItem
 walkAnswer (Is i) = itemAnswer i
-walkAnswer (NoWalk r) = record { refusal = numberOf r; kind = 0; place = placeOf r; value = 0 }
+walkAnswer (NoWalk r) = refusedItem r
 
 -- how many bytes a conversion wrote
 abbrev pub convertedAnswer : Converted → LavNumber

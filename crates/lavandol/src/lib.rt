@@ -1,5 +1,6 @@
 // The boundary for C and Rust: every public call on numbers and slices, each answer one struct by value. A slice is lent for the call only;
 // nothing is allocated or kept, and only a conversion changes what it is lent, its buffer. Definitions: specs/Boundary.antt. The C side: include/lavandol.h.
+use bitmap::GlyphMetrics;
 use bitmap::Part;
 use bitmap::Pixel;
 use convert::Converted;
@@ -11,10 +12,11 @@ use refusal::Refusal;
 use table::Item;
 ghost use mathlib.Core.Path.{_≡_};
 ghost use lib.ListN.{length};
-ghost use Rattle.stages.specs.Check.{checkOf};
-ghost use Rattle.fonts.specs.Questions.{glyphPartOf, rowPartOf, pixelAt, itemOf, valueGlyph, sequenceGlyph};
-ghost use Rattle.convert.specs.Conversions.{psf1ToPsf2, psf1ToPsf2Into, psf2ToPsf1, psf2ToPsf1Into, psf2ToVfont2, psf2ToVfont2Into, vfont2ToPsf2, vfont2ToPsf2Into};
-ghost use Rattle.lavandol.specs.Boundary.{kindNumber, flagNumber, fontAnswer, partAnswer, numberAnswer, refusedNumber, pixelAnswer, lookupAnswer, itemAnswer, walkAnswer, convertedAnswer};
+ghost use Rattle.stages.specs.Reading.{checkOf};
+ghost use Rattle.fonts.specs.Reading.{glyphPartOf, rowPartOf, pixelAt, glyphMetricsOf, itemOf, valueGlyph, sequenceGlyph};
+ghost use Rattle.conversion.specs.declared.Conversion.the-variants.{Psf1ToPsf2, Psf2ToPsf1, Psf2ToVfont2, Vfont2ToPsf2};
+ghost use Rattle.convert.specs.Reading.{convertedOf, convertedInto};
+ghost use Rattle.lavandol.specs.Boundary.{kindNumber, flagNumber, refusedFont, fontAnswer, refusedPart, partAnswer, refusedMetrics, metricsAnswer, numberAnswer, refusedNumber, pixelAnswer, lookupAnswer, itemAnswer, refusedItem, walkAnswer, convertedAnswer};
 
 // What the check says: a refusal's number (0 where the font is sound) and place; the fields of a sound font.
 #[repr(C)]
@@ -45,6 +47,18 @@ pub struct LavPart {
     pub place: usize,
     pub offset: usize,
     pub length: usize,
+}
+
+// A glyph's metrics.
+#[repr(C)]
+pub struct LavMetrics {
+    pub refusal: u32,
+    pub place: usize,
+    pub up: i32,
+    pub down: i32,
+    pub left: i32,
+    pub right: i32,
+    pub logical: i32,
 }
 
 // An item of a description: 1 single, 2 start mark, 3 value in a sequence, 4 end mark.
@@ -83,6 +97,25 @@ fn flag_number(b: bool) -> usize
     0
 }
 
+fn refused_font(r: Refusal) -> LavFont
+    ensures { λ a. ⌜ a ≡ refusedFont r ⌝ }
+{
+    let reason = r.reason;
+    LavFont {
+        refusal: refusal::number(reason),
+        kind: 0,
+        place: r.place,
+        count: 0,
+        height: 0,
+        width: 0,
+        table: 0,
+        entries: 0,
+        bitmaps: 0,
+        size: 0,
+        end: 0,
+    }
+}
+
 fn font_answer(a: Checked) -> LavFont
     ensures { λ r. ⌜ r ≡ fontAnswer a ⌝ }
 {
@@ -103,19 +136,19 @@ fn font_answer(a: Checked) -> LavFont
                 end: f.end,
             }
         }
-        Checked::Refused(r) => LavFont {
-            refusal: refusal::number(r),
-            kind: 0,
-            place: refusal::place(r),
-            count: 0,
-            height: 0,
-            width: 0,
-            table: 0,
-            entries: 0,
-            bitmaps: 0,
-            size: 0,
-            end: 0,
-        },
+        Checked::Refused(r) => refused_font(r),
+    }
+}
+
+fn refused_part(r: Refusal) -> LavPart
+    ensures { λ a. ⌜ a ≡ refusedPart r ⌝ }
+{
+    let reason = r.reason;
+    LavPart {
+        refusal: refusal::number(reason),
+        place: r.place,
+        offset: 0,
+        length: 0,
     }
 }
 
@@ -129,12 +162,7 @@ fn part_answer(p: Part) -> LavPart
             offset: start,
             length: len,
         },
-        Part::Refused(r) => LavPart {
-            refusal: refusal::number(r),
-            place: refusal::place(r),
-            offset: 0,
-            length: 0,
-        },
+        Part::Refused(r) => refused_part(r),
     }
 }
 
@@ -151,9 +179,10 @@ fn number_answer(n: usize) -> LavNumber
 fn refused_number(r: Refusal) -> LavNumber
     ensures { λ a. ⌜ a ≡ refusedNumber r ⌝ }
 {
+    let reason = r.reason;
     LavNumber {
-        refusal: refusal::number(r),
-        place: refusal::place(r),
+        refusal: refusal::number(reason),
+        place: r.place,
         number: 0,
     }
 }
@@ -163,7 +192,7 @@ fn pixel_answer(p: Pixel) -> LavNumber
 {
     match p {
         Pixel::Bit(b) => number_answer(base::size(base::wide(b))),
-        Pixel::NoPixel(r) => refused_number(r),
+        Pixel::Refused(r) => refused_number(r),
     }
 }
 
@@ -172,7 +201,39 @@ fn lookup_answer(l: Lookup) -> LavNumber
 {
     match l {
         Lookup::Glyph(g) => number_answer(g),
-        Lookup::NoLookup(r) => refused_number(r),
+        Lookup::Refused(r) => refused_number(r),
+    }
+}
+
+fn refused_metrics(r: Refusal) -> LavMetrics
+    ensures { λ a. ⌜ a ≡ refusedMetrics r ⌝ }
+{
+    let reason = r.reason;
+    LavMetrics {
+        refusal: refusal::number(reason),
+        place: r.place,
+        up: 0,
+        down: 0,
+        left: 0,
+        right: 0,
+        logical: 0,
+    }
+}
+
+fn metrics_answer(m: GlyphMetrics) -> LavMetrics
+    ensures { λ r. ⌜ r ≡ metricsAnswer m ⌝ }
+{
+    match m {
+        GlyphMetrics::Is(x) => LavMetrics {
+            refusal: 0,
+            place: 0,
+            up: x.up,
+            down: x.down,
+            left: x.left,
+            right: x.right,
+            logical: x.logical,
+        },
+        GlyphMetrics::Refused(r) => refused_metrics(r),
     }
 }
 
@@ -207,17 +268,24 @@ fn item_answer(i: Item) -> LavItem
     }
 }
 
+fn refused_item(r: Refusal) -> LavItem
+    ensures { λ a. ⌜ a ≡ refusedItem r ⌝ }
+{
+    let reason = r.reason;
+    LavItem {
+        refusal: refusal::number(reason),
+        kind: 0,
+        place: r.place,
+        value: 0,
+    }
+}
+
 fn walk_answer(w: Walk) -> LavItem
     ensures { λ r. ⌜ r ≡ walkAnswer w ⌝ }
 {
     match w {
         Walk::Is(i) => item_answer(i),
-        Walk::NoWalk(r) => LavItem {
-            refusal: refusal::number(r),
-            kind: 0,
-            place: refusal::place(r),
-            value: 0,
-        },
+        Walk::Refused(r) => refused_item(r),
     }
 }
 
@@ -256,6 +324,15 @@ pub extern "C" fn lav_pixel(file: &[u8], g: usize, y: usize, x: usize) -> LavNum
 {
     let p = fonts::pixel(file, g, y, x);
     pixel_answer(p)
+}
+
+// The metrics of glyph g: up, down, left, right and logical width. Refusals: the font's own (1 to 12), ASK, NO GLYPH.
+#[no_mangle]
+pub extern "C" fn lav_metrics(file: &[u8], g: usize) -> LavMetrics
+    ensures { λ r. ⌜ r ≡ metricsAnswer (glyphMetricsOf (now (file .entry)) g) ⌝ }
+{
+    let m = fonts::metrics(file, g);
+    metrics_answer(m)
 }
 
 // Item k of glyph g's description, counted from 0. Refusals: the font's own (1 to 12), NO TABLE, ASK.
@@ -300,10 +377,10 @@ fn converted_answer(c: Converted) -> LavNumber
 // Refusals: the font's own (1 to 12), WRONG KIND, VALUE, SIZE, ROOM.
 #[no_mangle]
 pub extern "C" fn lav_psf1_to_psf2(file: &[u8], out: &mut [u8]) -> LavNumber
-    ensures answer { λ r. ⌜ r ≡ convertedAnswer (psf1ToPsf2 (now (file .entry)) (length (now (out .entry)))) ⌝ }
-    ensures buffer { λ r. ⌜ now (out .exit) ≡ psf1ToPsf2Into (now (file .entry)) (now (out .entry)) ⌝ }
+    ensures answer { λ r. ⌜ r ≡ convertedAnswer (convertedOf Psf1ToPsf2 (now (file .entry)) (length (now (out .entry)))) ⌝ }
+    ensures buffer { λ r. ⌜ now (out .exit) ≡ convertedInto Psf1ToPsf2 (now (file .entry)) (now (out .entry)) ⌝ }
 {
-    let c = convert::psf1_to_psf2(file, out);
+    let c = fonts::psf1_to_psf2(file, out);
     converted_answer(c)
 }
 
@@ -311,10 +388,10 @@ pub extern "C" fn lav_psf1_to_psf2(file: &[u8], out: &mut [u8]) -> LavNumber
 // Refusals: the font's own (1 to 12), WRONG KIND, GLYPHS, VALUE, SIZE, ROOM.
 #[no_mangle]
 pub extern "C" fn lav_psf2_to_psf1(file: &[u8], out: &mut [u8]) -> LavNumber
-    ensures answer { λ r. ⌜ r ≡ convertedAnswer (psf2ToPsf1 (now (file .entry)) (length (now (out .entry)))) ⌝ }
-    ensures buffer { λ r. ⌜ now (out .exit) ≡ psf2ToPsf1Into (now (file .entry)) (now (out .entry)) ⌝ }
+    ensures answer { λ r. ⌜ r ≡ convertedAnswer (convertedOf Psf2ToPsf1 (now (file .entry)) (length (now (out .entry)))) ⌝ }
+    ensures buffer { λ r. ⌜ now (out .exit) ≡ convertedInto Psf2ToPsf1 (now (file .entry)) (now (out .entry)) ⌝ }
 {
-    let c = convert::psf2_to_psf1(file, out);
+    let c = fonts::psf2_to_psf1(file, out);
     converted_answer(c)
 }
 
@@ -322,10 +399,10 @@ pub extern "C" fn lav_psf2_to_psf1(file: &[u8], out: &mut [u8]) -> LavNumber
 // Refusals: the font's own (1 to 12), WRONG KIND, SIZE, ROOM.
 #[no_mangle]
 pub extern "C" fn lav_psf2_to_vfont2(file: &[u8], out: &mut [u8]) -> LavNumber
-    ensures answer { λ r. ⌜ r ≡ convertedAnswer (psf2ToVfont2 (now (file .entry)) (length (now (out .entry)))) ⌝ }
-    ensures buffer { λ r. ⌜ now (out .exit) ≡ psf2ToVfont2Into (now (file .entry)) (now (out .entry)) ⌝ }
+    ensures answer { λ r. ⌜ r ≡ convertedAnswer (convertedOf Psf2ToVfont2 (now (file .entry)) (length (now (out .entry)))) ⌝ }
+    ensures buffer { λ r. ⌜ now (out .exit) ≡ convertedInto Psf2ToVfont2 (now (file .entry)) (now (out .entry)) ⌝ }
 {
-    let c = convert::psf2_to_vfont2(file, out);
+    let c = fonts::psf2_to_vfont2(file, out);
     converted_answer(c)
 }
 
@@ -333,9 +410,9 @@ pub extern "C" fn lav_psf2_to_vfont2(file: &[u8], out: &mut [u8]) -> LavNumber
 // Refusals: the font's own (1 to 12), WRONG KIND, GLYPHS, SIZE, ROOM.
 #[no_mangle]
 pub extern "C" fn lav_vfont2_to_psf2(file: &[u8], out: &mut [u8]) -> LavNumber
-    ensures answer { λ r. ⌜ r ≡ convertedAnswer (vfont2ToPsf2 (now (file .entry)) (length (now (out .entry)))) ⌝ }
-    ensures buffer { λ r. ⌜ now (out .exit) ≡ vfont2ToPsf2Into (now (file .entry)) (now (out .entry)) ⌝ }
+    ensures answer { λ r. ⌜ r ≡ convertedAnswer (convertedOf Vfont2ToPsf2 (now (file .entry)) (length (now (out .entry)))) ⌝ }
+    ensures buffer { λ r. ⌜ now (out .exit) ≡ convertedInto Vfont2ToPsf2 (now (file .entry)) (now (out .entry)) ⌝ }
 {
-    let c = convert::vfont2_to_psf2(file, out);
+    let c = fonts::vfont2_to_psf2(file, out);
     converted_answer(c)
 }

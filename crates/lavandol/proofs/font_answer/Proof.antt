@@ -1,5 +1,6 @@
--- `lavandol::font_answer` meets its contract: by cases on the check. Assumes nothing.
-use mathlib.Core.Path.{_≡_, sym, _∙_, ap}
+-- `lavandol::font_answer` meets its contract: both cases. Assumes nothing.
+use mathlib.Core.Path.{_≡_, refl, sym, _∙_, ap}
+use Rattle.lavandol.specs.Boundary.{fontAnswer}
 use borrow.Author.Needs.{needs}
 use Rattle.lavandol.proofs.font_answer.Statement.{statement}
 use Rattle.lavandol.proofs.font_answer.Tie as tie
@@ -7,8 +8,7 @@ use Rattle.lavandol.proofs.font_answer.Reads as reads
 use Rattle.lavandol.proofs.font_answer.Lts as lts
 use Rattle.lavandol.proofs.flag_number.Reads as flag-number-reads
 use Rattle.lavandol.proofs.kind_number.Reads as kind-number-reads
-use Rattle.refusal.proofs.number.Reads as number-reads
-use Rattle.refusal.proofs.place.Reads as place-reads
+use Rattle.lavandol.proofs.refused_font.Reads as refused-font-reads
 
 enum-known-a : tie.Need-enum-known-a
 enum-known-a c = search needs
@@ -22,17 +22,14 @@ flag-number-requires c κs = search needs
 enum-known-a-2 : tie.Need-enum-known-a-2
 enum-known-a-2 c = search needs
 
-number-requires : tie.Need-number-requires
-number-requires c κs = search needs
-
-place-requires : tie.Need-place-requires
-place-requires c κs = search needs
+refused-font-requires : tie.Need-refused-font-requires
+refused-font-requires c κs = search needs
 
 returns : tie.Need-returns
 returns c = rw (c .before .before .before .a .given .1, c .before .kind-number .ensures, c .flag-number .ensures)
 
 returns-2 : tie.Need-returns-2
-returns-2 c = rw (c .before .before .before .a2 .given .1, c .before .number .ensures, c .place .ensures)
+returns-2 c = c .refused-font .ensures ∙ ap fontAnswer (sym (c .before .before .a2 .given .1))
 
 pub font-answer-spec : {M : Type 1} → statement M
 font-answer-spec =
@@ -42,7 +39,6 @@ font-answer-spec =
     kind-number-requires
     flag-number-requires
     enum-known-a-2
-    number-requires
-    place-requires
+    refused-font-requires
     returns
     returns-2)

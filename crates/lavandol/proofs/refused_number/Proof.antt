@@ -1,21 +1,17 @@
 -- `lavandol::refused_number` meets its contract: the refusal's number and place. Assumes nothing.
-use mathlib.Core.Path.{_≡_, sym, _∙_, ap}
+use mathlib.Core.Path.{_≡_, refl, sym, _∙_, ap}
 use borrow.Author.Needs.{needs}
 use Rattle.lavandol.proofs.refused_number.Statement.{statement}
 use Rattle.lavandol.proofs.refused_number.Tie as tie
 use Rattle.lavandol.proofs.refused_number.Reads as reads
 use Rattle.lavandol.proofs.refused_number.Lts as lts
 use Rattle.refusal.proofs.number.Reads as number-reads
-use Rattle.refusal.proofs.place.Reads as place-reads
 
 number-requires : tie.Need-number-requires
 number-requires c κs = search needs
 
-place-requires : tie.Need-place-requires
-place-requires c κs = search needs
-
 returns : tie.Need-returns
-returns c = rw (c .before .number .ensures, c .place .ensures)
+returns c = rw (c .number .ensures)
 
 pub refused-number-spec : {M : Type 1} → statement M
-refused-number-spec = tie.close (tie.spec number-requires place-requires returns)
+refused-number-spec = tie.close (tie.spec number-requires returns)

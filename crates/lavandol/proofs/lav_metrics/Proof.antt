@@ -1,0 +1,22 @@
+-- `lavandol::lav_metrics` meets its contract: the public call, as a struct. Assumes nothing.
+use mathlib.Core.Path.{_≡_, refl, sym, _∙_, ap}
+use Rattle.lavandol.specs.Boundary.{metricsAnswer}
+use borrow.Author.Needs.{needs}
+use Rattle.lavandol.proofs.lav_metrics.Statement.{statement}
+use Rattle.lavandol.proofs.lav_metrics.Tie as tie
+use Rattle.lavandol.proofs.lav_metrics.Reads as reads
+use Rattle.lavandol.proofs.lav_metrics.Lts as lts
+use Rattle.fonts.proofs.metrics.Reads as metrics-reads
+use Rattle.lavandol.proofs.metrics_answer.Reads as metrics-answer-reads
+
+metrics-requires : tie.Need-metrics-requires
+metrics-requires c κs = search needs
+
+metrics-answer-requires : tie.Need-metrics-answer-requires
+metrics-answer-requires c κs = search needs
+
+returns : tie.Need-returns
+returns c = c .metrics-answer .ensures ∙ ap metricsAnswer (c .before .metrics .ensures)
+
+pub lav-metrics-spec : {M : Type 1} → statement M
+lav-metrics-spec = tie.close (tie.spec metrics-requires metrics-answer-requires returns)
