@@ -6,7 +6,6 @@ use native.Mathlib.Omega.{arith}
 use lib.ListN.{length, getD, drop}
 use lib.Seq.{drop-append-add}
 use borrow.Author.Tests.{lt-ltb, le-ltb}
-use Rattle.base.specs.Choice.{pick}
 use Rattle.base.specs.Numbers.{le16, le32, bytes16, bytes32}
 use Rattle.base.proofs.Numbers.{le16-bytes, le32-bytes, le16-drop, le32-drop}
 use Rattle.header.specs.Meaning.{glyphBytes}
@@ -96,6 +95,7 @@ module _ (s : List ℕ) (total start h w : ℕ) where
       ∙ (λ j. scanOf s total start (v j) (i + 1) (larger-same h j) (larger-same w j))
       ∙ scan-same k (i + 1) (λ j a l. f j (omega arith) (omega arith))
 
+  -- entries that all have a glyph of one height and width give that height and width
   pub scan-even : (k : ℕ) → 1 ≤ k → 1 ≤ h → 1 ≤ w → ((j : ℕ) → j < k → entryOf s total (entryAt start j) ≡ Glyph h w) → scanOf s total start k 0 0 0 ≡ Greatest h w
   scan-even k ak ah aw f =
       cases.past-glyph s total start 0 (entryAt start 0) 0 0 refl k h w ak (f 0 ak)

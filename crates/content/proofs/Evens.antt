@@ -1,5 +1,5 @@
 -- An entry of the dispatch table with the metrics (height, 0, 0, width, width): its fields, its rows and columns, its size.
-use mathlib.Core.Path.{_≡_, refl, sym, _∙_, ap}
+use mathlib.Core.Path.{_≡_, sym, _∙_, ap}
 use mathlib.Core.Logic.{_⊎_, inl, inr}
 use mathlib.Core.List.{List}
 use Prim.Native.Nat.{ℕ, _+_, _-_, _*_, _≤_, _<_}
@@ -69,6 +69,7 @@ module _ (s : List ℕ) (h w at : ℕ) where
       let z : h + 0 ≡ h = omega arith in
       rw (p .1, p .2, low h lh, low 0 (omega arith)) z
 
+  -- and its columns
   pub even-cols : w < 32768 → EvenFields → colsAt s at ≡ w
   unfolding colsAt
   even-cols lw p = rw (p .3, p .4, low w lw, low 0 (omega arith)) (zero-left w)

@@ -1,7 +1,7 @@
 -- The bitmaps of glyphs, each taken from the address that its entry has: how many bytes they are, and each of them.
 use mathlib.Core.Path.{_≡_, refl, sym, _∙_, ap}
 use mathlib.Core.List.{List, [], _∷_, _++_}
-use Prim.Native.Nat.{ℕ, zero, suc, _+_, _-_, _*_, _≤_, _<_}
+use Prim.Native.Nat.{ℕ, zero, suc, _+_, _*_, _≤_, _<_}
 use native.Mathlib.Omega.{arith}
 use native.Mathlib.Nat.{suc-mul}
 use lib.ListN.{length, take, drop, length-append, length-drop, take-append-drop}
@@ -22,6 +22,7 @@ module _ (s : List ℕ) (f : Font) (c : ℕ) where
   abbrev pub Stand : ℕ → ℕ → Type 0
   Stand j k = (i : ℕ) → j ≤ i → i < j + k → startAt s f i + c ≤ length s
 
+  -- they have c bytes each
   pub gathered-length : (j k : ℕ) → Stand j k → length (gathered s f c j k) ≡ k * c
   unfolding gathered
   gathered-length j zero p = omega arith
@@ -63,9 +64,10 @@ module _ (s : List ℕ) (f : Font) (c : ℕ) where
       let first : take c (drop (startAt s f j) s) ≡ take c b = ap (λ (m : ℕ). take c (drop (startAt s f m) s)) v ∙ p 0 (omega arith) ∙ ap (λ (m : ℕ). take c (drop m b)) z in
       let others = gathered-is (suc j) k (drop c b) (omega (arith, length-drop c b, suc-mul k c))
       (λ i l. let u : suc j + i ≡ j + suc i = omega arith in let t : suc i * c ≡ c + i * c = omega (arith, suc-mul i c) in
-          ap (λ (m : ℕ). take c (drop (startAt s f m) s)) u ∙ p (suc i) (omega arith) ∙ ap (λ (m : ℕ). take c (drop m b)) t ∙ sym (ap (take c) (drop-drop (i * c) c b))) in
+      ap (λ (m : ℕ). take c (drop (startAt s f m) s)) u ∙ p (suc i) (omega arith) ∙ ap (λ (m : ℕ). take c (drop m b)) t ∙ sym (ap (take c) (drop-drop (i * c) c b))) in
       (λ i. first i ++ others i) ∙ take-append-drop c b
 
+  -- they are bytes
   pub gathered-bytes : Bytes s → (j k : ℕ) → Bytes (gathered s f c j k)
   unfolding gathered
   gathered-bytes y j zero = tt

@@ -3,29 +3,28 @@ use mathlib.Core.Path.{_≡_, refl, sym, _∙_, ap, subst}
 use mathlib.Core.Bool.{Bool, true, false}
 use mathlib.Core.Logic.{_⊎_, inl, inr}
 use mathlib.Core.List.{List, [], _∷_, _++_, append-assoc}
-use Prim.Native.Nat.{ℕ, zero, suc, _+_, _*_, _/_, _%_, _≤_, _<_}
+use Prim.Native.Nat.{ℕ, zero, suc, _+_, _*_, _/_, _≤_, _<_}
 use native.Mathlib.Omega.{arith}
 use native.Mathlib.Nat.{mul-le-mul}
 use lib.Dec.{eqb}
 use lib.ListN.{length, getD, take, drop, length-append}
-use lib.Seq.{drop-cons, drop-drop, take-add}
-use Rattle.base.specs.Choice.{pick, when}
+use lib.Seq.{drop-cons, take-add}
+use Rattle.base.specs.Choice.{when}
 use Rattle.base.specs.Bytes.{Bytes}
 use Rattle.base.specs.Begins.{Begins, startsWith}
 use Rattle.base.specs.Numbers.{le32, bytes32}
 use Rattle.base.proofs.Begins.{begins-exactly}
 use Rattle.base.proofs.Numbers.{le32-bytes}
 use Rattle.base.proofs.Parts.{byte-at}
-use Rattle.base.proofs.Lists.{same2, same4}
+use Rattle.base.proofs.Lists.{same4}
 use Rattle.header.specs.declared.Kind.{Kind}
 use Rattle.header.specs.declared.Kind.the-variants.{Psf1, Psf2, Vfont2}
-use Rattle.header.specs.declared.Named.{Named}
 use Rattle.header.specs.declared.Named.the-variants.{Is, Unknown}
 use Rattle.header.specs.declared.Fields.{Fields}
 use Rattle.header.specs.declared.Font.{Font}
 use Rattle.header.specs.declared.Head.the-variants.{Read}
 use Rattle.header.specs.declared.Checked.the-variants.{Sound}
-use Rattle.header.specs.Meaning.{magicOf, headerLen, glyphBytes, psf1Count, psf1Table, psf1Font, psf2Font, vfont2Font, fieldsOf, fields, flagsOf, modeOf, fixedFields, headerBytes}
+use Rattle.header.specs.Meaning.{magicOf, headerLen, glyphBytes, psf1Count, psf1Table, psf1Font, psf2Font, vfont2Font, fields, flagsOf, modeOf, fixedFields, headerBytes}
 use Rattle.header.specs.Reading.{kindOf, headOf, psf2Shaped, vfont2Shaped, onFields, saysOf}
 use Rattle.header.proofs.Cases.{psf1-read, head-read, psf2-sound, vfont2-sound, named-as}
 use Rattle.header.proofs.Known.{source}
@@ -36,14 +35,22 @@ pub glyph-small : (h w : ℕ) → h ≤ 255 → w ≤ 255 → glyphBytes h w ≤
 unfolding glyphBytes
 glyph-small h w bh bw = let g : (w + 7) / 8 ≤ 32 = omega arith in mul-le-mul bh g
 
--- what a written header says: the fields of 32 bytes, and the font
+-- what a written header says: the fields of 32 bytes
 abbrev pub writtenFields : Bool → ℕ → ℕ → ℕ → ℕ → Fields
 writtenFields t n z h w = record { header = headerLen Psf2; count = n; size = z; height = h; width = w; table = t }
 
+-- and the font
 abbrev pub writtenFont : Kind → Bool → ℕ → ℕ → ℕ → ℕ → Font
 writtenFont Psf1 t n z h w = psf1Font n h t
 writtenFont Psf2 t n z h w = psf2Font (writtenFields t n z h w)
 writtenFont Vfont2 t n z h w = vfont2Font (writtenFields t n z h w)
+
+-- its kind, count, height and table are those that were written
+pub written-is : (k : Kind) (t : Bool) (n z h w : ℕ) →
+    (writtenFont k t n z h w .kind ≡ k) × (writtenFont k t n z h w .count ≡ n) × (writtenFont k t n z h w .height ≡ h) × (writtenFont k t n z h w .table ≡ t)
+written-is Psf1 t n z h w = (refl, refl, refl, refl)
+written-is Psf2 t n z h w = (refl, refl, refl, refl)
+written-is Vfont2 t n z h w = (refl, refl, refl, refl)
 
 -- what a kind asks of a header's numbers
 abbrev pub HeaderAsks : Kind → ℕ → ℕ → ℕ → ℕ → Type 0
@@ -126,6 +133,7 @@ module _ (t : Bool) (n z h w : ℕ) (r o : List ℕ) where
       ∙ ap (onFields vfont2Shaped) (head-written 0x27 0x5B 0xA4 0x68 t n z h w r o e (omega arith) lz (omega arith) (omega arith) l an bn)
       ∙ sym (vfont2-sound (writtenFields t n z h w) (bh, bw))
 
+  -- the same, whatever the kind
   pub says-written : (k : Kind) → o ≡ headerBytes k t n z h w ++ r → HeaderAsks k n z h w → saysOf o ≡ Sound (writtenFont k t n z h w)
   says-written Psf1 e a = psf1-says t n z h w r o e a
   says-written Psf2 e a = psf2-says e a
@@ -195,6 +203,7 @@ chosen Vfont2 false true c e = let z : _≡_ {A = ℕ} 0 1 = cc in absurd (omega
 chosen Vfont2 false false true e = refl
 chosen Vfont2 false false false e = let z : _≡_ {A = ℕ} 0 1 = cc in absurd (omega arith)
 
+-- the magic stands in front
 pub magic-begins : (s : List ℕ) (k : Kind) → kindOf s ≡ Is k → Begins (magicOf k) s
 unfolding kindOf
 magic-begins s Psf1 e = begins-exactly (magicOf Psf1) s .0 (chosen Psf1 (startsWith (magicOf Psf1) s) (startsWith (magicOf Psf2) s) (startsWith (magicOf Vfont2) s) e)
@@ -256,5 +265,6 @@ module _ (s : List ℕ) (f : Font) (y : Bytes s) (e : saysOf s ≡ Sound f) wher
       let h = r .1 in
       subst (HeaderIs Vfont2) (r .2 .0) (fields-back s (magicOf Vfont2) y (h .0) (magic-begins s Vfont2 (r .0)) (h .1) (h .2) p)
 
+  -- the same, of the font's own kind
   pub header-self : Plain s (f .kind) → take (headerLen (f .kind)) s ≡ headerBytes (f .kind) (f .table) (f .count) (f .size) (f .height) (f .width)
   header-self p = self-of (f .kind) refl p

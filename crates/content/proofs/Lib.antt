@@ -7,4 +7,10 @@ pub mod Evens
 pub mod Gathered
 pub mod Shapes
 pub mod Source
+pub mod Found
 pub mod Dispatch
+pub mod Written
+pub mod Octets
+pub mod Same
+pub mod Self
+pub mod Kept

@@ -15,17 +15,15 @@ use Rattle.header.specs.declared.Kind.{Kind}
 use Rattle.header.specs.declared.Kind.the-variants.{Psf1, Psf2, Vfont2}
 use Rattle.header.specs.declared.Font.{Font}
 use Rattle.header.specs.declared.Checked.the-variants.{Sound}
-use Rattle.header.specs.Meaning.{glyphBytes, psf1Count}
+use Rattle.header.specs.Meaning.{psf1Count}
 use Rattle.header.specs.Bounds.{Placed, KindPlaced, Even, Dispatched}
 use Rattle.header.specs.Reading.{saysOf}
 use Rattle.header.proofs.Known.{source}
 use Rattle.entries.specs.Meaning.{entryAt, addressAt, sizeAt, rowsAt, colsAt, Breaks}
 use Rattle.entries.proofs.Meaning.{scan-greatest}
-use Rattle.bitmap.specs.Meaning.{evenMetrics, kindMetrics}
-use Rattle.layout.specs.Meaning.{charSize, gathered, kindGlyphs, glyphsIn}
+use Rattle.layout.specs.Meaning.{charSize, kindGlyphs, glyphsIn}
 use Rattle.stages.specs.Reading.{checkOf}
 use Rattle.stages.proofs.Cases.{accepted, passed-entries, passed-body, placed, scan-right}
-use Rattle.content.specs.Meaning.{bitmapIn, NoGlyph}
 use Rattle.content.proofs.Stretches.{part-of-take, nth-within}
 use Rattle.content.proofs.Evens.{EvenGlyph, EvenFields, metrics-even, even-rows, even-cols, even-size, even-some}
 use Rattle.content.proofs.Gathered.{startAt, gathered-length, nth-gathered, gathered-bytes}
@@ -45,6 +43,7 @@ module _ (s : List ℕ) (f : Font) (y : Bytes s) (e : checkOf s ≡ Sound f) whe
   pub is-placed : Placed s f
   is-placed = placed s f (byte-at s y 3) (accepted s f e .0)
 
+  -- as its kind places them
   pub is-kind : (k : Kind) → f .kind ≡ k → KindPlaced f k
   is-kind k q = subst (λ (x : Kind). KindPlaced f x) q (is-placed .8)
 
@@ -125,13 +124,12 @@ module _ (s : List ℕ) (f : Font) (y : Bytes s) (e : checkOf s ≡ Sound f) whe
       (f .bitmaps + g * f .size + charSize f ≤ length s)
       × (take (charSize f) (drop (f .bitmaps + g * f .size) s) ≡ take (charSize f) (drop (g * charSize f) (take (f .count * f .size) (drop (f .bitmaps) s))))
   even-glyph g l k =
-      let n = nth-within g (f .count) (f .size) l in (
+      let n = nth-within g (f .count) (f .size) l in
+      let b = take (f .count * f .size) (drop (f .bitmaps) s) in
+      let q : take (f .size) (drop (g * f .size) b) ≡ take (f .size) (drop (f .bitmaps + g * f .size) s) =
+      part-of-take (f .size) (g * f .size) (f .count * f .size) (drop (f .bitmaps) s) n ∙ ap (take (f .size)) (drop-drop (g * f .size) (f .bitmaps) s) in (
         omega (arith, n, k .0, k .1, is-placed .7),
-        sym (
-          (λ i. take (sym (k .1) i) (drop (g * sym (k .1) i) (take (f .count * f .size) (drop (f .bitmaps) s))))
-              ∙ part-of-take (f .size) (g * f .size) (f .count * f .size) (drop (f .bitmaps) s) n
-              ∙ ap (take (f .size)) (drop-drop (g * f .size) (f .bitmaps) s) ∙ ap (λ (z : ℕ). take z (drop (f .bitmaps + g * f .size) s)) (k .1)
-        ),
+        ap (λ (z : ℕ). take z (drop (f .bitmaps + g * f .size) s)) (sym (k .1)) ∙ sym q ∙ λ i. take (k .1 i) (drop (g * k .1 i) b),
       )
 
   glyph-of : (k : Kind) → f .kind ≡ k → AllEven s f k → (g : ℕ) → g < f .count → GlyphIs s f g k (f .height) (f .width) (take (charSize f) (drop (g * charSize f) (kindGlyphs s f k)))
@@ -152,6 +150,7 @@ module _ (s : List ℕ) (f : Font) (y : Bytes s) (e : checkOf s ≡ Sound f) whe
   glyphs-bytes = bytes-of (f .kind)
 
   module _ (v : AllEven s f (f .kind)) where
+    -- the font's numbers are within the bounds of its kind
     pub source-shape : Shape (f .kind) (f .count) (f .height) (f .width)
     source-shape = shape-of (f .kind) refl v
 
@@ -164,3 +163,7 @@ module _ (s : List ℕ) (f : Font) (y : Bytes s) (e : checkOf s ≡ Sound f) whe
     pub source-glyph : (g : ℕ) → g < f .count → GlyphIs s f g (f .kind) (f .height) (f .width) (take (charSize f) (drop (g * charSize f) (glyphsIn s f)))
     unfolding glyphsIn
     source-glyph = glyph-of (f .kind) refl v
+
+    -- each bitmap of a vfont2 font stands in the file
+    pub source-stands : f .kind ≡ Vfont2 → (i : ℕ) → i < f .count → f .bitmaps + addressAt s (entryAt (f .entries) i) + charSize f ≤ length s
+    source-stands q i l = entry-stands q i l (subst (AllEven s f) q v i l)

@@ -2,13 +2,13 @@
 use mathlib.Core.Path.{_≡_, refl, sym, _∙_, ap, subst}
 use mathlib.Core.List.{List, _++_}
 use mathlib.Core.Bool.{Bool}
-use Prim.Native.Nat.{ℕ, _+_, _*_, _≤_, _<_}
+use Prim.Native.Nat.{ℕ, _+_, _-_, _*_, _≤_, _<_}
 use native.Mathlib.Omega.{arith}
-use lib.ListN.{length, length-append}
+use lib.ListN.{length, take, drop, length-append}
 use borrow.Author.Tests.{lt-ltb, le-ltb}
 use Rattle.base.specs.Choice.{when}
 use Rattle.base.specs.Over.{over}
-use Rattle.base.specs.Bytes.{Bytes}
+use Rattle.base.proofs.Parts.{rest-all}
 use Rattle.refusal.specs.Refusals.{refusal}
 use Rattle.refusal.specs.declared.Refusal.{Refusal}
 use Rattle.refusal.specs.declared.Reason.the-variants.{Room}
@@ -81,3 +81,7 @@ table-by d c t e = rw e
 -- a kind that is not vfont2
 pub no-vfont2 : {A : Type 0} (k j : Kind) → k ≡ j → k ≡ Vfont2 → (j ≡ Vfont2 → ⊥) → A
 no-vfont2 k j e q n = absurd (n (sym e ∙ q))
+
+-- the table that a part of the file is
+pub part-table : (c : Conversion) (s : List ℕ) (e : ℕ) (ys m : List ℕ) → ys ≡ over (tableIn c (take (length s - e) (drop e s))) m → ys ≡ over (tableIn c (drop e s)) m
+part-table c s e ys m q = q ∙ ap (λ (t : List ℕ). over (tableIn c t) m) (rest-all s e)

@@ -1,2 +1,3 @@
 -- Laws of the conversions.
 pub mod Cases
+pub mod Asks

@@ -11,17 +11,18 @@ use lib.Seq.{drop-cons}
 use borrow.Author.Tests.{lt-ltb, le-ltb}
 use Rattle.base.specs.Choice.{pick, when}
 use Rattle.base.proofs.Parts.{rest-all}
-use Rattle.refusal.specs.declared.Refusal.the-variants.{Ask, NoTable}
+use Rattle.refusal.specs.Refusals.{refusal}
+use Rattle.refusal.specs.declared.Reason.the-variants.{Ask, NoTable}
 use Rattle.coding.specs.declared.Coding.{Coding}
 use Rattle.table.specs.Steps.{itemsIn}
 use Rattle.lookup.specs.declared.Walked.{Walked}
 use Rattle.lookup.specs.declared.Found.{Found}
 use Rattle.lookup.specs.Lookup.{itemAt, findValue, findSequence}
 use Rattle.header.specs.declared.Font.{Font}
-use Rattle.stages.specs.Check.{codingOf}
-use Rattle.fonts.specs.declared.Walk.the-variants.{Is, NoWalk}
-use Rattle.fonts.specs.declared.Lookup.the-variants.{Glyph, NoLookup}
-use Rattle.fonts.specs.Questions.{fontItems, walked, itemOn, found, valueOn, anyHigh, askable, sequenceOn}
+use Rattle.stages.specs.Meaning.{codingOf}
+use Rattle.fonts.specs.declared.Walk.the-variants.{Is, Refused as NoWalk}
+use Rattle.fonts.specs.declared.Lookup.the-variants.{Glyph, Refused as NoLookup}
+use Rattle.fonts.specs.Reading.{fontItems, walked, itemOn, found, valueOn, anyHigh, askable, sequenceOn}
 
 module _ (s : List ℕ) (f : Font) where
   -- the items of the part that the reader is handed
@@ -33,7 +34,7 @@ module _ (s : List ℕ) (f : Font) where
         w ≡ itemAt g k (itemsIn c (take (length s - f .end) (drop (f .end) s))) → walked w ≡ itemOn s g k f
     item-told t c e w q = rw t (ap walked (q ∙ ap (itemAt g k) (part-items c e)))
 
-    pub item-bare : f .table ≡ false → NoWalk NoTable ≡ itemOn s g k f
+    pub item-bare : f .table ≡ false → NoWalk (refusal NoTable 0) ≡ itemOn s g k f
     item-bare t = rw t
 
   module _ (v : ℕ) where
@@ -42,11 +43,11 @@ module _ (s : List ℕ) (f : Font) where
     unfolding when
     value-told t h c e w q = rw (t, le-ltb 0x10FFFF v h) (ap found (q ∙ ap (findValue v 0) (part-items c e)))
 
-    pub value-high : f .table ≡ true → 0x10FFFF < v → NoLookup Ask ≡ valueOn s v f
+    pub value-high : f .table ≡ true → 0x10FFFF < v → NoLookup (refusal Ask 0) ≡ valueOn s v f
     unfolding when
     value-high t h = rw (t, lt-ltb 0x10FFFF v h)
 
-    pub value-bare : f .table ≡ false → NoLookup NoTable ≡ valueOn s v f
+    pub value-bare : f .table ≡ false → NoLookup (refusal NoTable 0) ≡ valueOn s v f
     value-bare t = rw t
 
   module _ (vs : List ℕ) where
@@ -55,11 +56,11 @@ module _ (s : List ℕ) (f : Font) where
     unfolding when
     sequence-told t m a b c e w q = rw (t, sym a ∙ b) (ap found (q ∙ ap (findSequence vs) (part-items c e)))
 
-    pub sequence-ask : f .table ≡ true → (m : Bool) → m ≡ askable vs → m ≡ false → NoLookup Ask ≡ sequenceOn s vs f
+    pub sequence-ask : f .table ≡ true → (m : Bool) → m ≡ askable vs → m ≡ false → NoLookup (refusal Ask 0) ≡ sequenceOn s vs f
     unfolding when
     sequence-ask t m a b = rw (t, sym a ∙ b)
 
-    pub sequence-bare : f .table ≡ false → NoLookup NoTable ≡ sequenceOn s vs f
+    pub sequence-bare : f .table ≡ false → NoLookup (refusal NoTable 0) ≡ sequenceOn s vs f
     sequence-bare t = rw t
 
 -- the values of a sequence, one after the other

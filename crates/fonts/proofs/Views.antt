@@ -6,11 +6,11 @@ use native.Mathlib.Nat.{add-sub-cancel-left}
 use lib.ListN.{take, drop}
 use Rattle.refusal.specs.declared.Refusal.{Refusal}
 use Rattle.bitmap.specs.declared.Part.{Part}
-use Rattle.bitmap.specs.declared.Part.the-variants.{At, Refused}
-use Rattle.bitmap.specs.Bitmaps.{viewOf}
+use Rattle.bitmap.specs.declared.Part.the-variants.{At, Refused as NoPart}
+use Rattle.bitmap.specs.Reading.{viewOf}
 
 pub view-at : (s : List ℕ) (p : Part) (start len : ℕ) → p ≡ At start len → take (start + len - start) (drop start s) ≡ viewOf s p
 view-at s p start len e = rw (e, add-sub-cancel-left start len)
 
-pub view-none : (s : List ℕ) (p : Part) (r : Refusal) → p ≡ Refused r → [] ≡ viewOf s p
+pub view-none : (s : List ℕ) (p : Part) (r : Refusal) → p ≡ NoPart r → [] ≡ viewOf s p
 view-none s p r e = rw e

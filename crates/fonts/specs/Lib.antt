@@ -1,2 +1,2 @@
 -- What the public calls answer.
-pub mod Questions
+pub mod Reading

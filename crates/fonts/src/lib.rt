@@ -1,33 +1,38 @@
-// The public face of Lavandol: every call takes any bytes and any question. Definitions: specs/.
-// A call answers, or gives one refusal of document 01; `refusal::number` and `refusal::place` tell which and where.
+// The public face of Lavandol: every call takes any bytes and any question. Definitions: specs/Reading.antt.
+// A call answers, or gives one refusal of document 01: `refusal::number` tells the number of its reason, and it holds its place.
+use bitmap::GlyphMetrics;
 use bitmap::Part;
 use bitmap::Pixel;
+use conversion::Conversion;
 use convert::Converted;
 use header::Checked;
 use header::Font;
 use lookup::Found;
 use lookup::Walked;
+use refusal::Reason;
 use refusal::Refusal;
 use table::Item;
 ghost use mathlib.Core.Path.{_≡_};
-ghost use Rattle.header.specs.Placed.{Placed};
+ghost use Rattle.header.specs.Bounds.{Placed};
 ghost use lib.ListN.{length};
-ghost use Rattle.stages.specs.Check.{checkOf};
-ghost use Rattle.convert.specs.Conversions.{psf1ToPsf2, psf1ToPsf2Into, psf2ToPsf1, psf2ToPsf1Into, psf2ToVfont2, psf2ToVfont2Into, vfont2ToPsf2, vfont2ToPsf2Into};
-ghost use Rattle.bitmap.specs.Bitmaps.{viewOf, PartInside};
-ghost use Rattle.fonts.specs.Questions.{glyphPartOf, rowPartOf, pixelAt, fontItems, itemOn, itemOf, valueOn, valueGlyph, anyHigh, askable, sequenceOn, sequenceGlyph};
+ghost use Rattle.stages.specs.Reading.{checkOf};
+ghost use Rattle.conversion.specs.declared.Conversion.the-variants.{Psf1ToPsf2, Psf2ToPsf1, Psf2ToVfont2, Vfont2ToPsf2};
+ghost use Rattle.convert.specs.Reading.{convertedOf, convertedInto};
+ghost use Rattle.bitmap.specs.Reading.{viewOf};
+ghost use Rattle.bitmap.specs.Bounds.{PartInside};
+ghost use Rattle.fonts.specs.Reading.{glyphPartOf, rowPartOf, pixelAt, glyphMetricsOf, fontItems, itemOn, itemOf, valueOn, valueGlyph, anyHigh, askable, sequenceOn, sequenceGlyph};
 ghost use Rattle.lookup.specs.Lookup.{itemAt, findValue, findSequence};
 
 // An item of a glyph's description; or the refusal.
 pub enum Walk {
     Is(Item),
-    NoWalk(Refusal),
+    Refused(Refusal),
 }
 
 // The glyph found; or the refusal.
 pub enum Lookup {
     Glyph(usize),
-    NoLookup(Refusal),
+    Refused(Refusal),
 }
 
 // The check of a font. Refusals: 1 to 12, in their order.
@@ -91,11 +96,23 @@ pub fn pixel(file: &[u8], g: usize, y: usize, x: usize) -> Pixel
     let a = stages::check(file);
     match a {
         Checked::Sound(f) => bitmap::pixel_at(file, f, g, y, x),
-        Checked::Refused(r) => Pixel::NoPixel(r),
+        Checked::Refused(r) => Pixel::Refused(r),
     }
 }
 
-// Item k of glyph g of a font whose header passed (`Placed`).
+// The metrics of glyph g: up, down, left, right and logical width; in PSF1 and PSF2 (height, 0, 0, width, width).
+// Refusals: the font's own (1 to 12), ASK, NO GLYPH.
+pub fn metrics(file: &[u8], g: usize) -> GlyphMetrics
+    ensures { λ r. ⌜ r ≡ glyphMetricsOf (now (file .entry)) g ⌝ }
+{
+    let a = stages::check(file);
+    match a {
+        Checked::Sound(f) => bitmap::metrics(file, f, g),
+        Checked::Refused(r) => GlyphMetrics::Refused(r),
+    }
+}
+
+// Item k of glyph g of a font whose parts stand in the file (`Placed`).
 fn item_on(file: &[u8], f: Font, g: usize, k: usize) -> Walk
     requires { ⌜ Placed (now file) f ⌝ }
     ensures { λ r. ⌜ r ≡ itemOn (now (file .entry)) g k f ⌝ }
@@ -106,10 +123,10 @@ fn item_on(file: &[u8], f: Font, g: usize, k: usize) -> Walk
         let w = lookup::item_at(stages::coding_of(kind), &file[end..], g, k);
         return match w {
             Walked::Found(i) => Walk::Is(i),
-            Walked::Nothing => Walk::NoWalk(Refusal::Ask),
+            Walked::Nothing => Walk::Refused(refusal::refuse(Reason::Ask, 0)),
         };
     }
-    Walk::NoWalk(Refusal::NoTable)
+    Walk::Refused(refusal::refuse(Reason::NoTable, 0))
 }
 
 // Item k of glyph g's description, counted from 0 in the order of the file: single, start mark, value in a sequence, end mark.
@@ -120,28 +137,28 @@ pub fn item(file: &[u8], g: usize, k: usize) -> Walk
     let a = stages::check(file);
     match a {
         Checked::Sound(f) => item_on(file, f, g, k),
-        Checked::Refused(r) => Walk::NoWalk(r),
+        Checked::Refused(r) => Walk::Refused(r),
     }
 }
 
-// The lowest glyph that lists v as a single, in a font whose header passed (`Placed`).
+// The lowest glyph that lists v as a single, in a font whose parts stand in the file (`Placed`).
 fn value_on(file: &[u8], f: Font, v: u32) -> Lookup
     requires { ⌜ Placed (now file) f ⌝ }
     ensures { λ r. ⌜ r ≡ valueOn (now (file .entry)) v f ⌝ }
 {
     if f.table {
         if 0x10FFFF < v {
-            return Lookup::NoLookup(Refusal::Ask);
+            return Lookup::Refused(refusal::refuse(Reason::Ask, 0));
         }
         let end = f.end;
         let kind = f.kind;
         let w = lookup::find_value(stages::coding_of(kind), &file[end..], v);
         return match w {
             Found::At(g) => Lookup::Glyph(g),
-            Found::Nothing => Lookup::NoLookup(Refusal::Unmapped),
+            Found::Nothing => Lookup::Refused(refusal::refuse(Reason::Unmapped, 0)),
         };
     }
-    Lookup::NoLookup(Refusal::NoTable)
+    Lookup::Refused(refusal::refuse(Reason::NoTable, 0))
 }
 
 // The lowest glyph that lists the value v as a single.
@@ -152,7 +169,7 @@ pub fn find_value(file: &[u8], v: u32) -> Lookup
     let a = stages::check(file);
     match a {
         Checked::Sound(f) => value_on(file, f, v),
-        Checked::Refused(r) => Lookup::NoLookup(r),
+        Checked::Refused(r) => Lookup::Refused(r),
     }
 }
 
@@ -180,7 +197,7 @@ fn may_ask(vs: &[u32]) -> bool
     !any_high(vs)
 }
 
-// The lowest glyph that lists the sequence vs, in a font whose header passed (`Placed`).
+// The lowest glyph that lists the sequence vs, in a font whose parts stand in the file (`Placed`).
 fn sequence_on(file: &[u8], f: Font, vs: &[u32]) -> Lookup
     requires { ⌜ Placed (now file) f ⌝ }
     ensures { λ r. ⌜ r ≡ sequenceOn (now (file .entry)) (now (vs .entry)) f ⌝ }
@@ -192,12 +209,12 @@ fn sequence_on(file: &[u8], f: Font, vs: &[u32]) -> Lookup
             let w = lookup::find_sequence(stages::coding_of(kind), &file[end..], vs);
             return match w {
                 Found::At(g) => Lookup::Glyph(g),
-                Found::Nothing => Lookup::NoLookup(Refusal::Unmapped),
+                Found::Nothing => Lookup::Refused(refusal::refuse(Reason::Unmapped, 0)),
             };
         }
-        return Lookup::NoLookup(Refusal::Ask);
+        return Lookup::Refused(refusal::refuse(Reason::Ask, 0));
     }
-    Lookup::NoLookup(Refusal::NoTable)
+    Lookup::Refused(refusal::refuse(Reason::NoTable, 0))
 }
 
 // The lowest glyph that lists the sequence vs: after some start mark, exactly these values up to the next mark.
@@ -208,39 +225,39 @@ pub fn find_sequence(file: &[u8], vs: &[u32]) -> Lookup
     let a = stages::check(file);
     match a {
         Checked::Sound(f) => sequence_on(file, f, vs),
-        Checked::Refused(r) => Lookup::NoLookup(r),
+        Checked::Refused(r) => Lookup::Refused(r),
     }
 }
 
 // The font as PSF2, at the front of out; its length is answered, and nothing behind it changes.
 // Refusals: the font's own (1 to 12), WRONG KIND, VALUE, SIZE, ROOM. A refused call leaves out as it was.
 pub fn psf1_to_psf2(file: &[u8], out: &mut [u8]) -> Converted
-    ensures answer { λ r. ⌜ r ≡ psf1ToPsf2 (now (file .entry)) (length (now (out .entry))) ⌝ }
-    ensures buffer { λ _. ⌜ now (out .exit) ≡ psf1ToPsf2Into (now (file .entry)) (now (out .entry)) ⌝ }
+    ensures answer { λ r. ⌜ r ≡ convertedOf Psf1ToPsf2 (now (file .entry)) (length (now (out .entry))) ⌝ }
+    ensures buffer { λ _. ⌜ now (out .exit) ≡ convertedInto Psf1ToPsf2 (now (file .entry)) (now (out .entry)) ⌝ }
 {
-    convert::psf1_to_psf2(file, out)
+    convert::convert(Conversion::Psf1ToPsf2, file, out)
 }
 
 // The font as PSF1, as above. Refusals: the font's own (1 to 12), WRONG KIND, GLYPHS, VALUE, SIZE, ROOM.
 pub fn psf2_to_psf1(file: &[u8], out: &mut [u8]) -> Converted
-    ensures answer { λ r. ⌜ r ≡ psf2ToPsf1 (now (file .entry)) (length (now (out .entry))) ⌝ }
-    ensures buffer { λ _. ⌜ now (out .exit) ≡ psf2ToPsf1Into (now (file .entry)) (now (out .entry)) ⌝ }
+    ensures answer { λ r. ⌜ r ≡ convertedOf Psf2ToPsf1 (now (file .entry)) (length (now (out .entry))) ⌝ }
+    ensures buffer { λ _. ⌜ now (out .exit) ≡ convertedInto Psf2ToPsf1 (now (file .entry)) (now (out .entry)) ⌝ }
 {
-    convert::psf2_to_psf1(file, out)
+    convert::convert(Conversion::Psf2ToPsf1, file, out)
 }
 
 // The font as vfont2, as above. Refusals: the font's own (1 to 12), WRONG KIND, SIZE, ROOM.
 pub fn psf2_to_vfont2(file: &[u8], out: &mut [u8]) -> Converted
-    ensures answer { λ r. ⌜ r ≡ psf2ToVfont2 (now (file .entry)) (length (now (out .entry))) ⌝ }
-    ensures buffer { λ _. ⌜ now (out .exit) ≡ psf2ToVfont2Into (now (file .entry)) (now (out .entry)) ⌝ }
+    ensures answer { λ r. ⌜ r ≡ convertedOf Psf2ToVfont2 (now (file .entry)) (length (now (out .entry))) ⌝ }
+    ensures buffer { λ _. ⌜ now (out .exit) ≡ convertedInto Psf2ToVfont2 (now (file .entry)) (now (out .entry)) ⌝ }
 {
-    convert::psf2_to_vfont2(file, out)
+    convert::convert(Conversion::Psf2ToVfont2, file, out)
 }
 
 // The font as PSF2, as above. Refusals: the font's own (1 to 12), WRONG KIND, GLYPHS, SIZE, ROOM.
 pub fn vfont2_to_psf2(file: &[u8], out: &mut [u8]) -> Converted
-    ensures answer { λ r. ⌜ r ≡ vfont2ToPsf2 (now (file .entry)) (length (now (out .entry))) ⌝ }
-    ensures buffer { λ _. ⌜ now (out .exit) ≡ vfont2ToPsf2Into (now (file .entry)) (now (out .entry)) ⌝ }
+    ensures answer { λ r. ⌜ r ≡ convertedOf Vfont2ToPsf2 (now (file .entry)) (length (now (out .entry))) ⌝ }
+    ensures buffer { λ _. ⌜ now (out .exit) ≡ convertedInto Vfont2ToPsf2 (now (file .entry)) (now (out .entry)) ⌝ }
 {
-    convert::vfont2_to_psf2(file, out)
+    convert::convert(Conversion::Vfont2ToPsf2, file, out)
 }

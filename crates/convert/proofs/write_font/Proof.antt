@@ -134,7 +134,7 @@ returns c =
     (behind ((headerBytes k (f .table) (f .count) v (f .height) (f .width)) ++ (dispatchBytes k z (f .height) (f .width) (evenly z 0 (f .count)))) (glyphsIn s f) xs _ _ (c .before .before .before .before .before .before .before .before .before .before .before .before .before .before .before .before .before .before .before .before .header-len .result + f .count * c .before .before .before .before .before .before .before .before .before .before .before .before .before .before .before .before .before .before .before .entry-len .result) ee
     (behind (headerBytes k (f .table) (f .count) v (f .height) (f .width)) (dispatchBytes k z (f .height) (f .width) (evenly z 0 (f .count))) xs _ _ (c .before .before .before .before .before .before .before .before .before .before .before .before .before .before .before .before .before .before .before .before .header-len .result) (header-length k (f .table) (f .count) v (f .height) (f .width) ∙ sym (c .before .before .before .before .before .before .before .before .before .before .before .before .before .before .before .before .before .before .before .before .header-len .ensures .0))
     (behind [] (headerBytes k (f .table) (f .count) v (f .height) (f .width)) xs _ _ 0 refl (over-none xs) (c .before .before .before .before .before .before .before .before .before .before .before .before .before .before .before .put-header .ensures)) (c .before .before .before .before .before .before .before .before .before .before .before .put-dispatch .ensures)) (c .before .before .before .before .before .before .before .put-glyphs .ensures))
-    (c .before .before .put-table .ensures ∙ ap (λ (t : List ℕ). over (tableIn (c .before .before .before .before .before .before .before .before .before .before .before .before .before .before .before .before .before .before .before .before .before .before .before .before .before .before .args .c) t) _) (rest-all (c .before .before .before .before .before .before .before .before .before .before .before .before .before .before .before .before .before .before .before .before .before .before .before .before .before .before .args .file .now) (c .before .before .before .before .before .before .before .before .before .before .before .before .before .before .before .before .before .before .before .before .before .before .before .before .before .before .args .f .end)))
+    (cases.part-table (c .before .before .before .before .before .before .before .before .before .before .before .before .before .before .before .before .before .before .before .before .before .before .before .before .before .before .args .c) s (f .end) _ _ (c .before .before .put-table .ensures))
     ∙ ap (λ (p : List ℕ). over p xs) (cases.output-is (c .before .before .before .before .before .before .before .before .before .before .before .before .before .before .before .before .before .before .before .before .before .before .before .before .before .before .args .c) s f k z v (c .before .before .before .before .before .before .before .before .before .before .before .before .before .before .before .before .before .before .before .before .before .before .before .target-of .ensures) (c .before .before .before .before .before .before .before .before .before .before .before .before .before .before .before .before .before .before .before .before .before .before .glyph-bytes .ensures .0) (cases.field-is k (f .count) z v (glyphsIn s f) l (c .before .before .before .before .before .before .before .before .before .before .before .before .before .before .before .before .before .before .before .before .before .field-at-20 .ensures .0 .0) (c .before .before .before .before .before .before .before .before .before .before .before .before .before .before .before .before .before .before .before .before .before .field-at-20 .ensures .0 .1)))
 
 pub write-font-spec : {M : Type 1} → statement M

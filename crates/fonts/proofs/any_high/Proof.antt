@@ -1,6 +1,6 @@
 -- `fonts::any_high` meets its contract: none of the values passed is above 10FFFF. Assumes nothing.
 use Rattle.fonts.proofs.Answers.{high-here, high-later, high-none}
-use Rattle.fonts.specs.Questions.{anyHigh}
+use Rattle.fonts.specs.Reading.{anyHigh}
 use lib.ListN.{length, drop}
 use Prim.Native.Nat.{_-_, _≤_}
 use mathlib.Core.Path.{_≡_, sym, _∙_}

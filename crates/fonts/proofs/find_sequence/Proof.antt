@@ -1,5 +1,5 @@
 -- `fonts::find_sequence` meets its contract: the font's own refusal, or the lookup's answer. Assumes nothing.
-use Rattle.fonts.specs.Questions.{sequenceGlyph}
+use Rattle.fonts.specs.Reading.{sequenceGlyph}
 use mathlib.Core.Path.{_≡_, sym, _∙_, ap}
 use borrow.Author.Needs.{needs}
 use Rattle.fonts.proofs.find_sequence.Statement.{statement}

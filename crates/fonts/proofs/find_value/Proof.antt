@@ -1,5 +1,5 @@
 -- `fonts::find_value` meets its contract: the font's own refusal, or the lookup's answer. Assumes nothing.
-use Rattle.fonts.specs.Questions.{valueGlyph}
+use Rattle.fonts.specs.Reading.{valueGlyph}
 use mathlib.Core.Path.{_≡_, sym, _∙_, ap}
 use borrow.Author.Needs.{needs}
 use Rattle.fonts.proofs.find_value.Statement.{statement}

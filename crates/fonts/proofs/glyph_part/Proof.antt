@@ -1,5 +1,5 @@
 -- `fonts::glyph_part` meets its contract: the font's own refusal, or the bitmap's answer. Assumes nothing.
-use Rattle.fonts.specs.Questions.{glyphPartOf}
+use Rattle.fonts.specs.Reading.{glyphPartOf}
 use mathlib.Core.Path.{_≡_, sym, _∙_, ap}
 use borrow.Author.Needs.{needs}
 use Rattle.fonts.proofs.glyph_part.Statement.{statement}

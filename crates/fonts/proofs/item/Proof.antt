@@ -1,5 +1,5 @@
 -- `fonts::item` meets its contract: the font's own refusal, or the walk's answer. Assumes nothing.
-use Rattle.fonts.specs.Questions.{itemOf}
+use Rattle.fonts.specs.Reading.{itemOf}
 use mathlib.Core.Path.{_≡_, sym, _∙_, ap}
 use borrow.Author.Needs.{needs}
 use Rattle.fonts.proofs.item.Statement.{statement}

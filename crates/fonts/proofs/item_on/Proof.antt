@@ -1,13 +1,16 @@
--- `fonts::item_on` meets its contract: the walk's answer on the tail. Assumes nothing.
+-- `fonts::item_on` meets its contract: NO TABLE, then what the walk found. Assumes `Placed`.
+use native.Mathlib.Omega.{arith}
+use mathlib.Core.Path.{_≡_, refl, sym, _∙_, ap}
+use Rattle.fonts.specs.declared.Walk.the-variants.{Is, Refused as NoWalk}
 use Rattle.fonts.proofs.Answers.{item-told, item-bare}
-use mathlib.Core.Path.{_≡_, sym, _∙_}
 use borrow.Author.Needs.{needs}
 use Rattle.fonts.proofs.item_on.Statement.{statement}
 use Rattle.fonts.proofs.item_on.Tie as tie
 use Rattle.fonts.proofs.item_on.Reads as reads
 use Rattle.fonts.proofs.item_on.Lts as lts
-use Rattle.stages.proofs.coding_of.Reads as coding-of-reads
 use Rattle.lookup.proofs.item_at.Reads as item-at-reads
+use Rattle.refusal.proofs.refuse.Reads as refuse-reads
+use Rattle.stages.proofs.coding_of.Reads as coding-of-reads
 
 coding-of-requires : tie.Need-coding-of-requires
 coding-of-requires c κs = search needs
@@ -30,14 +33,20 @@ enum-known-w c = search needs
 enum-told : tie.Need-enum-told
 enum-told c = search needs
 
+refuse-requires : tie.Need-refuse-requires
+refuse-requires c κs = search needs
+
 returns : tie.Need-returns
 returns c = rw (c .before .w .given .1) at (item-told (c .before .before .before .before .before .before .before .before .args .file .now) (c .before .before .before .before .before .before .before .before .args .f) (c .before .before .before .before .before .before .before .before .args .g) (c .before .before .before .before .before .before .before .before .args .k) (c .before .before .before .before .before .before .if1 .taken) _ (c .before .before .before .before .before .coding-of .ensures) _ (c .before .before .before .item-at .ensures))
 
 returns-2 : tie.Need-returns-2
-returns-2 c = rw (c .enum-told .given .1) at (item-told (c .before .before .before .before .before .before .before .args .file .now) (c .before .before .before .before .before .before .before .args .f) (c .before .before .before .before .before .before .before .args .g) (c .before .before .before .before .before .before .before .args .k) (c .before .before .before .before .before .if1 .taken) _ (c .before .before .before .before .coding-of .ensures) _ (c .before .before .item-at .ensures))
+returns-2 c = ap NoWalk (c .refuse .ensures) ∙ (rw (c .before .enum-told .given .1) at (item-told (c .before .before .before .before .before .before .before .before .args .file .now) (c .before .before .before .before .before .before .before .before .args .f) (c .before .before .before .before .before .before .before .before .args .g) (c .before .before .before .before .before .before .before .before .args .k) (c .before .before .before .before .before .before .if1 .taken) _ (c .before .before .before .before .before .coding-of .ensures) _ (c .before .before .before .item-at .ensures)))
+
+refuse-requires-2 : tie.Need-refuse-requires-2
+refuse-requires-2 c κs = search needs
 
 returns-3 : tie.Need-returns-3
-returns-3 c = item-bare (c .before .before .args .file .now) (c .before .before .args .f) (c .before .before .args .g) (c .before .before .args .k) (c .if1 .left)
+returns-3 c = ap NoWalk (c .refuse2 .ensures) ∙ item-bare (c .before .before .before .args .file .now) (c .before .before .before .args .f) (c .before .before .before .args .g) (c .before .before .before .args .k) (c .before .if1 .left)
 
 pub item-on-spec : {M : Type 1} → statement M
 item-on-spec =
@@ -50,6 +59,8 @@ item-on-spec =
     item-at-requires
     enum-known-w
     enum-told
+    refuse-requires
     returns
     returns-2
+    refuse-requires-2
     returns-3)

@@ -1,5 +1,5 @@
 -- `fonts::pixel` meets its contract: the font's own refusal, or the bitmap's answer. Assumes nothing.
-use Rattle.fonts.specs.Questions.{pixelAt}
+use Rattle.fonts.specs.Reading.{pixelAt}
 use mathlib.Core.Path.{_≡_, sym, _∙_, ap}
 use borrow.Author.Needs.{needs}
 use Rattle.fonts.proofs.pixel.Statement.{statement}

@@ -1,5 +1,5 @@
 -- `fonts::row_part` meets its contract: the font's own refusal, or the bitmap's answer. Assumes nothing.
-use Rattle.fonts.specs.Questions.{rowPartOf}
+use Rattle.fonts.specs.Reading.{rowPartOf}
 use mathlib.Core.Path.{_≡_, sym, _∙_, ap}
 use borrow.Author.Needs.{needs}
 use Rattle.fonts.proofs.row_part.Statement.{statement}

@@ -1,14 +1,17 @@
--- `fonts::sequence_on` meets its contract: the lookup's answer on the tail. Assumes nothing.
+-- `fonts::sequence_on` meets its contract: NO TABLE, then ASK, then what the lookup found. Assumes `Placed`.
+use native.Mathlib.Omega.{arith}
+use mathlib.Core.Path.{_≡_, refl, sym, _∙_, ap}
+use Rattle.fonts.specs.declared.Lookup.the-variants.{Glyph, Refused as NoLookup}
 use Rattle.fonts.proofs.Answers.{sequence-told, sequence-ask, sequence-bare}
-use mathlib.Core.Path.{_≡_, sym, _∙_}
 use borrow.Author.Needs.{needs}
 use Rattle.fonts.proofs.sequence_on.Statement.{statement}
 use Rattle.fonts.proofs.sequence_on.Tie as tie
 use Rattle.fonts.proofs.sequence_on.Reads as reads
 use Rattle.fonts.proofs.sequence_on.Lts as lts
-use Rattle.stages.proofs.coding_of.Reads as coding-of-reads
 use Rattle.fonts.proofs.may_ask.Reads as may-ask-reads
 use Rattle.lookup.proofs.find_sequence.Reads as find-sequence-reads
+use Rattle.refusal.proofs.refuse.Reads as refuse-reads
+use Rattle.stages.proofs.coding_of.Reads as coding-of-reads
 
 may-ask-requires : tie.Need-may-ask-requires
 may-ask-requires c κs = search needs
@@ -34,17 +37,26 @@ enum-known-w c = search needs
 enum-told : tie.Need-enum-told
 enum-told c = search needs
 
+refuse-requires : tie.Need-refuse-requires
+refuse-requires c κs = search needs
+
 returns : tie.Need-returns
 returns c = rw (c .before .w .given .1) at (sequence-told (c .before .before .before .before .before .before .before .before .before .before .before .args .file .now) (c .before .before .before .before .before .before .before .before .before .before .before .args .f) (c .before .before .before .before .before .before .before .before .before .before .before .args .vs .now) (c .before .before .before .before .before .before .before .before .if1 .taken) _ (c .before .before .before .before .before .before .before .may-ask .ensures) (c .before .before .before .before .before .before .if2 .taken) _ (c .before .before .before .before .before .coding-of .ensures) _ (c .before .before .before .find-sequence .ensures))
 
 returns-2 : tie.Need-returns-2
-returns-2 c = rw (c .enum-told .given .1) at (sequence-told (c .before .before .before .before .before .before .before .before .before .before .args .file .now) (c .before .before .before .before .before .before .before .before .before .before .args .f) (c .before .before .before .before .before .before .before .before .before .before .args .vs .now) (c .before .before .before .before .before .before .before .if1 .taken) _ (c .before .before .before .before .before .before .may-ask .ensures) (c .before .before .before .before .before .if2 .taken) _ (c .before .before .before .before .coding-of .ensures) _ (c .before .before .find-sequence .ensures))
+returns-2 c = ap NoLookup (c .refuse .ensures) ∙ (rw (c .before .enum-told .given .1) at (sequence-told (c .before .before .before .before .before .before .before .before .before .before .before .args .file .now) (c .before .before .before .before .before .before .before .before .before .before .before .args .f) (c .before .before .before .before .before .before .before .before .before .before .before .args .vs .now) (c .before .before .before .before .before .before .before .before .if1 .taken) _ (c .before .before .before .before .before .before .before .may-ask .ensures) (c .before .before .before .before .before .before .if2 .taken) _ (c .before .before .before .before .before .coding-of .ensures) _ (c .before .before .before .find-sequence .ensures)))
+
+refuse-requires-2 : tie.Need-refuse-requires-2
+refuse-requires-2 c κs = search needs
 
 returns-3 : tie.Need-returns-3
-returns-3 c = sequence-ask (c .before .before .before .before .before .args .file .now) (c .before .before .before .before .before .args .f) (c .before .before .before .before .before .args .vs .now) (c .before .before .if1 .taken) _ (c .before .may-ask .ensures) (c .if2 .left)
+returns-3 c = ap NoLookup (c .refuse2 .ensures) ∙ sequence-ask (c .before .before .before .before .before .before .args .file .now) (c .before .before .before .before .before .before .args .f) (c .before .before .before .before .before .before .args .vs .now) (c .before .before .before .if1 .taken) _ (c .before .before .may-ask .ensures) (c .before .if2 .left)
+
+refuse-requires-3 : tie.Need-refuse-requires-3
+refuse-requires-3 c κs = search needs
 
 returns-4 : tie.Need-returns-4
-returns-4 c = sequence-bare (c .before .before .before .args .file .now) (c .before .before .before .args .f) (c .before .before .before .args .vs .now) (c .if1 .left)
+returns-4 c = ap NoLookup (c .refuse3 .ensures) ∙ sequence-bare (c .before .before .before .before .args .file .now) (c .before .before .before .before .args .f) (c .before .before .before .before .args .vs .now) (c .before .if1 .left)
 
 pub sequence-on-spec : {M : Type 1} → statement M
 sequence-on-spec =
@@ -58,7 +70,10 @@ sequence-on-spec =
     find-sequence-requires
     enum-known-w
     enum-told
+    refuse-requires
     returns
     returns-2
+    refuse-requires-2
     returns-3
+    refuse-requires-3
     returns-4)

@@ -1,16 +1,22 @@
--- `fonts::value_on` meets its contract: the lookup's answer on the tail. Assumes nothing.
+-- `fonts::value_on` meets its contract: NO TABLE, then ASK, then what the lookup found. Assumes `Placed`.
+use native.Mathlib.Omega.{arith}
+use mathlib.Core.Path.{_≡_, refl, sym, _∙_, ap}
+use Rattle.fonts.specs.declared.Lookup.the-variants.{Glyph, Refused as NoLookup}
 use Rattle.fonts.proofs.Answers.{value-told, value-high, value-bare}
-use mathlib.Core.Path.{_≡_, sym, _∙_}
 use borrow.Author.Needs.{needs}
 use Rattle.fonts.proofs.value_on.Statement.{statement}
 use Rattle.fonts.proofs.value_on.Tie as tie
 use Rattle.fonts.proofs.value_on.Reads as reads
 use Rattle.fonts.proofs.value_on.Lts as lts
-use Rattle.stages.proofs.coding_of.Reads as coding-of-reads
 use Rattle.lookup.proofs.find_value.Reads as find-value-reads
+use Rattle.refusal.proofs.refuse.Reads as refuse-reads
+use Rattle.stages.proofs.coding_of.Reads as coding-of-reads
+
+refuse-requires : tie.Need-refuse-requires
+refuse-requires c κs = search needs
 
 returns : tie.Need-returns
-returns c = value-high (c .before .before .before .args .file .now) (c .before .before .before .args .f) (c .before .before .before .args .v) (c .before .if1 .taken) (c .if2 .taken)
+returns c = ap NoLookup (c .refuse .ensures) ∙ value-high (c .before .before .before .before .args .file .now) (c .before .before .before .before .args .f) (c .before .before .before .before .args .v) (c .before .before .if1 .taken) (c .before .if2 .taken)
 
 coding-of-requires : tie.Need-coding-of-requires
 coding-of-requires c κs = search needs
@@ -33,19 +39,26 @@ enum-known-w c = search needs
 enum-told : tie.Need-enum-told
 enum-told c = search needs
 
+refuse-requires-2 : tie.Need-refuse-requires-2
+refuse-requires-2 c κs = search needs
+
 returns-2 : tie.Need-returns-2
 returns-2 c = rw (c .before .w .given .1) at (value-told (c .before .before .before .before .before .before .before .before .before .args .file .now) (c .before .before .before .before .before .before .before .before .before .args .f) (c .before .before .before .before .before .before .before .before .before .args .v) (c .before .before .before .before .before .before .before .if1 .taken) (c .before .before .before .before .before .before .if2 .left) _ (c .before .before .before .before .before .coding-of .ensures) _ (c .before .before .before .find-value .ensures))
 
 returns-3 : tie.Need-returns-3
-returns-3 c = rw (c .enum-told .given .1) at (value-told (c .before .before .before .before .before .before .before .before .args .file .now) (c .before .before .before .before .before .before .before .before .args .f) (c .before .before .before .before .before .before .before .before .args .v) (c .before .before .before .before .before .before .if1 .taken) (c .before .before .before .before .before .if2 .left) _ (c .before .before .before .before .coding-of .ensures) _ (c .before .before .find-value .ensures))
+returns-3 c = ap NoLookup (c .refuse2 .ensures) ∙ (rw (c .before .enum-told .given .1) at (value-told (c .before .before .before .before .before .before .before .before .before .args .file .now) (c .before .before .before .before .before .before .before .before .before .args .f) (c .before .before .before .before .before .before .before .before .before .args .v) (c .before .before .before .before .before .before .before .if1 .taken) (c .before .before .before .before .before .before .if2 .left) _ (c .before .before .before .before .before .coding-of .ensures) _ (c .before .before .before .find-value .ensures)))
+
+refuse-requires-3 : tie.Need-refuse-requires-3
+refuse-requires-3 c κs = search needs
 
 returns-4 : tie.Need-returns-4
-returns-4 c = value-bare (c .before .before .args .file .now) (c .before .before .args .f) (c .before .before .args .v) (c .if1 .left)
+returns-4 c = ap NoLookup (c .refuse3 .ensures) ∙ value-bare (c .before .before .before .args .file .now) (c .before .before .before .args .f) (c .before .before .before .args .v) (c .before .if1 .left)
 
 pub value-on-spec : {M : Type 1} → statement M
 value-on-spec =
     tie.close
     (tie.spec
+    refuse-requires
     returns
     coding-of-requires
     sub-find-value
@@ -54,6 +67,8 @@ value-on-spec =
     find-value-requires
     enum-known-w
     enum-told
+    refuse-requires-2
     returns-2
     returns-3
+    refuse-requires-3
     returns-4)

@@ -5,15 +5,18 @@ use mathlib.Core.List.{List, [], _∷_}
 use lib.Dec.{ltb}
 use Rattle.base.specs.Choice.{pick, when}
 use Rattle.refusal.specs.declared.Refusal.{Refusal}
-use Rattle.refusal.specs.declared.Refusal.the-variants.{Ask, NoTable, Unmapped}
+use Rattle.refusal.specs.Refusals.{refusal}
+use Rattle.refusal.specs.declared.Reason.the-variants.{Ask, NoTable, Unmapped}
 use Rattle.header.specs.declared.Font.{Font}
 use Rattle.header.specs.declared.Checked.{Checked}
 use Rattle.header.specs.declared.Checked.the-variants.{Sound, Refused}
 use Rattle.bitmap.specs.declared.Part.{Part}
 use Rattle.bitmap.specs.declared.Part.the-variants.{At, Refused as NoPart}
 use Rattle.bitmap.specs.declared.Pixel.{Pixel}
-use Rattle.bitmap.specs.declared.Pixel.the-variants.{Bit, NoPixel}
-use Rattle.bitmap.specs.Bitmaps.{bitmapOf, wholeOf, rowOf, pixelOf, viewOf}
+use Rattle.bitmap.specs.declared.Pixel.the-variants.{Bit, Refused as NoPixel}
+use Rattle.bitmap.specs.declared.GlyphMetrics.{GlyphMetrics}
+use Rattle.bitmap.specs.declared.GlyphMetrics.the-variants.{Is as IsMetrics, Refused as NoMetrics}
+use Rattle.bitmap.specs.Reading.{bitmapOf, wholeOf, rowOf, pixelOf, metricsOf}
 use Rattle.table.specs.declared.Item as I
 use Rattle.table.specs.Steps.{itemsIn}
 use Rattle.lookup.specs.declared.Walked.{Walked}
@@ -21,11 +24,12 @@ use Rattle.lookup.specs.declared.Walked.the-variants.{Found as Got, Nothing as 
 use Rattle.lookup.specs.declared.Found as F
 use Rattle.lookup.specs.declared.Found.the-variants.{At as FoundAt, Nothing}
 use Rattle.lookup.specs.Lookup.{itemAt, findValue, findSequence}
-use Rattle.stages.specs.Check.{codingOf, tailOf, checkOf}
+use Rattle.stages.specs.Meaning.{codingOf, tailOf}
+use Rattle.stages.specs.Reading.{checkOf}
 use Rattle.fonts.specs.declared.Walk.{Walk}
-use Rattle.fonts.specs.declared.Walk.the-variants.{Is, NoWalk}
+use Rattle.fonts.specs.declared.Walk.the-variants.{Is, Refused as NoWalk}
 use Rattle.fonts.specs.declared.Lookup.{Lookup}
-use Rattle.fonts.specs.declared.Lookup.the-variants.{Glyph, NoLookup}
+use Rattle.fonts.specs.declared.Lookup.the-variants.{Glyph, Refused as NoLookup}
 
 -- an answer on a sound font, or the font's own refusal
 abbrev pub asked : {A : Type 0} → (Refusal → A) → (Font → A) → Checked → A
@@ -44,6 +48,10 @@ rowPartOf s g y = asked NoPart (λ f. rowOf (bitmapOf s f g) y) (checkOf s)
 unfoldable pub pixelAt : List ℕ → ℕ → ℕ → ℕ → Pixel
 pixelAt s g y x = asked NoPixel (λ f. pixelOf s (bitmapOf s f g) y x) (checkOf s)
 
+-- the metrics of glyph g
+unfoldable pub glyphMetricsOf : List ℕ → ℕ → GlyphMetrics
+glyphMetricsOf s g = asked NoMetrics (λ f. metricsOf s f g (bitmapOf s f g)) (checkOf s)
+
 -- the items of a font's table, in the order of the file
 abbrev pub fontItems : List ℕ → Font → List I.Item
 fontItems s f = itemsIn (codingOf (f .kind)) (tailOf s f)
@@ -51,22 +59,22 @@ fontItems s f = itemsIn (codingOf (f .kind)) (tailOf s f)
 -- "Lookups and walks: NO TABLE, then ASK, then UNMAPPED."
 abbrev pub walked : Walked → Walk
 walked (Got i) = Is i
-walked NoItem = NoWalk Ask
+walked NoItem = NoWalk (refusal Ask 0)
 
 -- item k of glyph g
 abbrev pub itemOn : List ℕ → ℕ → ℕ → Font → Walk
-itemOn s g k f = pick (f .table) (walked (itemAt g k (fontItems s f))) (NoWalk NoTable)
+itemOn s g k f = pick (f .table) (walked (itemAt g k (fontItems s f))) (NoWalk (refusal NoTable 0))
 
 unfoldable pub itemOf : List ℕ → ℕ → ℕ → Walk
 itemOf s g k = asked NoWalk (itemOn s g k) (checkOf s)
 
 abbrev pub found : F.Found → Lookup
 found (FoundAt g) = Glyph g
-found Nothing = NoLookup Unmapped
+found Nothing = NoLookup (refusal Unmapped 0)
 
 -- the lowest glyph that lists v as a single
 abbrev pub valueOn : List ℕ → ℕ → Font → Lookup
-valueOn s v f = pick (f .table) (when (ltb 0x10FFFF v) (NoLookup Ask) (found (findValue v 0 (fontItems s f)))) (NoLookup NoTable)
+valueOn s v f = pick (f .table) (when (ltb 0x10FFFF v) (NoLookup (refusal Ask 0)) (found (findValue v 0 (fontItems s f)))) (NoLookup (refusal NoTable 0))
 
 unfoldable pub valueGlyph : List ℕ → ℕ → Lookup
 valueGlyph s v = asked NoLookup (valueOn s v) (checkOf s)
@@ -82,7 +90,7 @@ askable (v ∷ vs) = pick (anyHigh (v ∷ vs)) false true
 
 -- the lowest glyph that lists the sequence vs
 abbrev pub sequenceOn : List ℕ → List ℕ → Font → Lookup
-sequenceOn s vs f = pick (f .table) (when (askable vs) (found (findSequence vs (fontItems s f))) (NoLookup Ask)) (NoLookup NoTable)
+sequenceOn s vs f = pick (f .table) (when (askable vs) (found (findSequence vs (fontItems s f))) (NoLookup (refusal Ask 0))) (NoLookup (refusal NoTable 0))
 
 unfoldable pub sequenceGlyph : List ℕ → List ℕ → Lookup
 sequenceGlyph s vs = asked NoLookup (sequenceOn s vs) (checkOf s)
