@@ -9,8 +9,7 @@ use lib.ListN.{length, take, length-drop}
 use lib.Seq.{take-all}
 use Rattle.base.specs.Bytes.{Bytes}
 use Rattle.base.proofs.Parts.{bytes-drop, byte-at}
-use Rattle.refusal.specs.Refusals.{refusal, numberOf}
-use Rattle.refusal.specs.declared.Reason.{Reason}
+use Rattle.refusal.specs.Refusals.{refusal}
 use Rattle.refusal.specs.declared.Reason.the-variants.{TableCut, TableBad, Trailing}
 use Rattle.refusal.specs.declared.Refusal.{Refusal}
 use Rattle.table.specs.declared.TableAnswer.{TableAnswer}
@@ -19,48 +18,45 @@ use Rattle.table.specs.Check.{tableOf}
 use Rattle.table.specs.Table.{IsTable, Completable, LongestStart}
 use Rattle.table.proofs.Meaning as meaning
 use Rattle.header.specs.declared.Font.{Font}
+use Rattle.header.specs.declared.Checked.{Checked}
 use Rattle.header.specs.declared.Checked.the-variants.{Sound, Refused}
 use Rattle.header.proofs.Known.{never}
 use Rattle.stages.specs.Meaning.{codingOf, tailOf}
 use Rattle.stages.specs.Reading.{answered, throughEntries, checkOf}
 use Rattle.stages.proofs.Cases.{with-table, bare-trailing, bare-sound, tail-after, placed}
 use Rattle.laws.specs.Rows.{given, skipped, given-at, skipped-at, TableRows, BareRows, TailRows}
+use Rattle.laws.proofs.Answers.{clash, checkNumber}
 use Rattle.laws.proofs.Deciding.{decide, less}
 
--- one refusal has one reason and one place
-pub same-refusal : (u v : Reason) (p q : ℕ) → Refused (refusal u p) ≡ Refused (refusal v q) → (numberOf u ≡ numberOf v) × (p ≡ q)
-same-refusal u v p q e =
-    let h : refusal u p ≡ refusal v q = cc in
-    (ap (λ (r : Refusal). numberOf (r .reason)) h, ap (λ (r : Refusal). r .place) h)
-
-apart : {A : Type 0} (u v : Reason) (p q : ℕ) → Refused (refusal u p) ≡ Refused (refusal v q) → (numberOf u ≡ numberOf v → ⊥) → A
-apart u v p q e n = absurd (n (same-refusal u v p q e .0))
+abbrev placeIn : Checked → ℕ
+placeIn (Sound f) = 0
+placeIn (Refused r) = r .place
 
 -- each answer of a whole check comes from one answer of the table
 is-complete : (f : Font) (a : TableAnswer) → answered f a ≡ Sound f → a ≡ Complete
 is-complete f Complete e = refl
-is-complete f (Cut k g) e = absurd (never _ f e)
-is-complete f (Bad k g) e = absurd (never _ f e)
-is-complete f (Over k) e = absurd (never _ f e)
+is-complete f (Cut k g) e = clash checkNumber e (λ z. omega arith)
+is-complete f (Bad k g) e = clash checkNumber e (λ z. omega arith)
+is-complete f (Over k) e = clash checkNumber e (λ z. omega arith)
 
 module _ (f : Font) (p : ℕ) where
   is-cut : (a : TableAnswer) → answered f a ≡ Refused (refusal TableCut p) → (k : ℕ) × ((g : ℕ) × (a ≡ Cut k g)) × (p ≡ f .end + k)
-  is-cut Complete e = absurd (never _ f (sym e))
-  is-cut (Cut k g) e = (k, (g, refl), sym (same-refusal _ _ _ _ e .1))
-  is-cut (Bad k g) e = apart TableBad TableCut _ _ e (λ z. omega arith)
-  is-cut (Over k) e = apart Trailing TableCut _ _ e (λ z. omega arith)
+  is-cut Complete e = clash checkNumber e (λ z. omega arith)
+  is-cut (Cut k g) e = (k, (g, refl), sym (ap placeIn e))
+  is-cut (Bad k g) e = clash checkNumber e (λ z. omega arith)
+  is-cut (Over k) e = clash checkNumber e (λ z. omega arith)
 
   is-bad : (a : TableAnswer) → answered f a ≡ Refused (refusal TableBad p) → (k : ℕ) × ((g : ℕ) × (a ≡ Bad k g)) × (p ≡ f .end + k)
-  is-bad Complete e = absurd (never _ f (sym e))
-  is-bad (Cut k g) e = apart TableCut TableBad _ _ e (λ z. omega arith)
-  is-bad (Bad k g) e = (k, (g, refl), sym (same-refusal _ _ _ _ e .1))
-  is-bad (Over k) e = apart Trailing TableBad _ _ e (λ z. omega arith)
+  is-bad Complete e = clash checkNumber e (λ z. omega arith)
+  is-bad (Cut k g) e = clash checkNumber e (λ z. omega arith)
+  is-bad (Bad k g) e = (k, (g, refl), sym (ap placeIn e))
+  is-bad (Over k) e = clash checkNumber e (λ z. omega arith)
 
   is-over : (a : TableAnswer) → answered f a ≡ Refused (refusal Trailing p) → (k : ℕ) × (a ≡ Over k) × (p ≡ f .end + k)
-  is-over Complete e = absurd (never _ f (sym e))
-  is-over (Cut k g) e = apart TableCut Trailing _ _ e (λ z. omega arith)
-  is-over (Bad k g) e = apart TableBad Trailing _ _ e (λ z. omega arith)
-  is-over (Over k) e = (k, refl, sym (same-refusal _ _ _ _ e .1))
+  is-over Complete e = clash checkNumber e (λ z. omega arith)
+  is-over (Cut k g) e = clash checkNumber e (λ z. omega arith)
+  is-over (Bad k g) e = clash checkNumber e (λ z. omega arith)
+  is-over (Over k) e = (k, refl, sym (ap placeIn e))
 
 module _ (s : List ℕ) (y : Bytes s) (f : Font) (passed : throughEntries s ≡ Sound f) (marked : f .table ≡ true) where
   t-bytes : Bytes (tailOf s f)
@@ -162,7 +158,7 @@ module _ (s : List ℕ) (y : Bytes s) (f : Font) (passed : throughEntries s ≡ 
   refused-place r e = go (tableOf (codingOf (f .kind)) (f .count) (tailOf s f)) refl (sym checked ∙ e)
     where
       moved : (x : Refusal) → Refused x ≡ Refused r → r .place ≡ x .place
-      moved x q = let h : x ≡ r = cc in ap (λ (z : Refusal). z .place) (sym h)
+      moved x q = ap placeIn (sym q)
 
       go : (a : TableAnswer) → tableOf (codingOf (f .kind)) (f .count) (tailOf s f) ≡ a → answered f a ≡ Refused r →
           (k : ℕ) × (r .place ≡ f .end + k) × LongestStart (codingOf (f .kind)) (f .count) (tailOf s f) k
@@ -191,18 +187,18 @@ module _ (s : List ℕ) (y : Bytes s) (f : Font) (passed : throughEntries s ≡ 
       go : (a : TableAnswer) → tableOf (codingOf (f .kind)) (f .count) (tailOf s f) ≡ a → TableRows s f (checkOf s)
       go Complete e =
           let q = complete-sound e in
-          skipped (λ h. never _ f (sym (cut h) ∙ q)) (skipped-at (λ k h. never _ f (sym (bad k h) ∙ q)) (skipped-at (λ k h. never _ f (sym (over k h) ∙ q)) q))
+          skipped (λ h. clash checkNumber (sym (cut h) ∙ q) (λ z. omega arith)) (skipped-at (λ k h. clash checkNumber (sym (bad k h) ∙ q) (λ z. omega arith)) (skipped-at (λ k h. clash checkNumber (sym (over k h) ∙ q) (λ z. omega arith)) q))
       go (Cut k g) e =
           let h = meaning.cut-place (codingOf (f .kind)) (f .count) (tailOf s f) k t-bytes .0 (g, e) in
           given (h .1, h .2) (cut-given k g e)
       go (Bad k g) e =
           let q = bad-given k g e in
-          skipped (λ h. apart TableCut TableBad _ _ (sym (cut h) ∙ q) (λ z. omega arith))
+          skipped (λ h. clash checkNumber (sym (cut h) ∙ q) (λ z. omega arith))
           (given-at k (meaning.bad-place (codingOf (f .kind)) (f .count) (tailOf s f) k t-bytes .0 (g, e)) q)
       go (Over k) e =
           let q = over-given k e in
-          skipped (λ h. apart TableCut Trailing _ _ (sym (cut h) ∙ q) (λ z. omega arith))
-          (skipped-at (λ j h. apart TableBad Trailing _ _ (sym (bad j h) ∙ q) (λ z. omega arith))
+          skipped (λ h. clash checkNumber (sym (cut h) ∙ q) (λ z. omega arith))
+          (skipped-at (λ j h. clash checkNumber (sym (bad j h) ∙ q) (λ z. omega arith))
           (given-at k (meaning.trailing-exactly (codingOf (f .kind)) (f .count) (tailOf s f) k t-bytes .0 e) q))
 
 module _ (s : List ℕ) (y : Bytes s) (f : Font) (passed : throughEntries s ≡ Sound f) where
