@@ -2,8 +2,10 @@
 pub mod Rows
 pub mod Tables
 pub mod Questions
+pub mod Bitmaps
 pub mod Answers
 pub mod Magic
 pub mod Deciding
 pub mod Tails
 pub mod Reading
+pub mod Located
