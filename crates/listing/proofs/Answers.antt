@@ -1,5 +1,5 @@
 -- What a listing answers and leaves: there is no room, or the text stands in front; and the text of each answer of the check.
-use mathlib.Core.Path.{_≡_, refl, sym, _∙_, ap}
+use mathlib.Core.Path.{_≡_, refl, sym, _∙_, ap, subst}
 use mathlib.Core.Bool.{Bool, true, false}
 use mathlib.Core.List.{List, [], _∷_, _++_}
 use Prim.Native.Nat.{ℕ, _+_, _-_, _≤_, _<_}
@@ -11,11 +11,14 @@ use borrow.Author.Tests.{lt-ltb, le-ltb, ltb-false}
 use Rattle.base.specs.Choice.{pick, when}
 use Rattle.base.specs.Over.{over}
 use Rattle.base.proofs.Parts.{rest-all}
-use Rattle.refusal.specs.declared.Refusal.the-variants.{Room}
+use Rattle.refusal.specs.Refusals.{refusal}
+use Rattle.refusal.specs.declared.Refusal.{Refusal}
+use Rattle.refusal.specs.declared.Reason.the-variants.{Room}
 use Rattle.coding.specs.declared.Coding.{Coding}
 use Rattle.header.specs.declared.Font.{Font}
 use Rattle.header.specs.declared.Checked.{Checked}
-use Rattle.stages.specs.Check.{codingOf, checkOf}
+use Rattle.stages.specs.Meaning.{codingOf}
+use Rattle.stages.specs.Reading.{checkOf}
 use Rattle.listing.specs.declared.Listed.{Listed}
 use Rattle.listing.specs.declared.Listed.the-variants.{Wrote, Refused as Unlisted}
 use Rattle.listing.specs.Text.{firstLine, tableText, linesText, fontText, bigText, answerText, listingOf, listedOf, leftOf}
@@ -25,9 +28,12 @@ abbrev pub Lists : List ℕ → List ℕ → Listed → List ℕ → Type 0
 Lists text xs r w = (r ≡ listedOf text (length xs)) × (w ≡ leftOf text xs)
 
 module _ (text xs : List ℕ) (m : ℕ) (e : m ≡ length text) where
-  pub no-room : length xs < m → Lists text xs (Unlisted (Room m)) xs
+  pub no-room : length xs < m → Lists text xs (Unlisted (refusal Room m)) xs
   unfolding listedOf leftOf when
   no-room h = let k : length xs < length text = omega arith in (rw (lt-ltb (length xs) (length text) k, e), rw (lt-ltb (length xs) (length text) k))
+
+  pub no-room-as : (r : Refusal) → length xs < m → r ≡ refusal Room m → Lists text xs (Unlisted r) xs
+  no-room-as r h q = subst (λ (x : Refusal). Lists text xs (Unlisted x) xs) (sym q) (no-room h)
 
   pub wrote : m ≤ length xs → (w : List ℕ) → w ≡ over text xs → Lists text xs (Wrote m) w
   unfolding listedOf leftOf when
@@ -70,7 +76,7 @@ pub wrote-inside : (text : List ℕ) (room n : ℕ) → listedOf text room ≡ W
 unfolding listedOf when
 wrote-inside text room n e = go (ltb room (length text)) refl e
   where
-    go : (t : Bool) → ltb room (length text) ≡ t → when t (Unlisted (Room (length text))) (Wrote (length text)) ≡ Wrote n → n ≤ room
+    go : (t : Bool) → ltb room (length text) ≡ t → when t (Unlisted (refusal Room (length text))) (Wrote (length text)) ≡ Wrote n → n ≤ room
     go true p q = let z : _≡_ {A = ℕ} 0 1 = cc in absurd (omega arith)
     go false p q = let h : length text ≡ n = cc in let k = ltb-false room (length text) p in omega arith
 

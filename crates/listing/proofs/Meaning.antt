@@ -11,7 +11,8 @@ use Rattle.table.specs.Table.{IsTable}
 use Rattle.table.proofs.Meaning.{items-read}
 use Rattle.header.specs.declared.Font.{Font}
 use Rattle.header.specs.declared.Checked.the-variants.{Sound, Refused}
-use Rattle.stages.specs.Check.{codingOf, tailOf, checkOf}
+use Rattle.stages.specs.Meaning.{codingOf, tailOf}
+use Rattle.stages.specs.Reading.{checkOf}
 use Rattle.base.specs.Over.{over}
 use Rattle.listing.specs.declared.Listed.the-variants.{Wrote}
 use Rattle.listing.specs.Text.{numeral, firstLine, linesOf, tableText, linesText, refusedText, bigText, listingOf, listedOf, leftOf}

@@ -16,7 +16,7 @@ use borrow.Rule.Slice.PartMut.{midOf, putMid}
 use Rattle.base.specs.Over.{over}
 use Rattle.listing.proofs.Putting.{Written, written-within, written-room, written-next}
 use Rattle.refusal.specs.declared.Refusal.{Refusal}
-use Rattle.refusal.specs.Refusals.{numberOf, placeOf}
+use Rattle.refusal.specs.Refusals.{numberOf, refusal}
 use Rattle.header.specs.declared.Kind.{Kind}
 use Rattle.header.specs.declared.Kind.the-variants.{Psf1, Psf2, Vfont2}
 use Rattle.header.specs.declared.Font.{Font}
@@ -51,7 +51,7 @@ pub first-line : (f : Font) → firstLine f ≡ kindText (f .kind) ++ numberText
 unfolding firstLine
 first-line f = refl
 
-pub refused-text : (r : Refusal) (n p : ℕ) → n ≡ numberOf r → p ≡ placeOf r → (114 ∷ 101 ∷ 102 ∷ 117 ∷ 115 ∷ 101 ∷ 100 ∷ 32 ∷ []) ++ numberText n 32 ++ numberText p 10 ≡ refusedText r
+pub refused-text : (r : Refusal) (n p : ℕ) → n ≡ numberOf (r .reason) → p ≡ r .place → (114 ∷ 101 ∷ 102 ∷ 117 ∷ 115 ∷ 101 ∷ 100 ∷ 32 ∷ []) ++ numberText n 32 ++ numberText p 10 ≡ refusedText r
 unfolding refusedText
 refused-text r n p e q = rw (e, q)
 

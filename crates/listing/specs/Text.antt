@@ -7,8 +7,8 @@ use lib.ListN.{length}
 use Rattle.base.specs.Choice.{pick, when}
 use Rattle.base.specs.Over.{over}
 use Rattle.refusal.specs.declared.Refusal.{Refusal}
-use Rattle.refusal.specs.declared.Refusal.the-variants.{Room}
-use Rattle.refusal.specs.Refusals.{numberOf, placeOf}
+use Rattle.refusal.specs.declared.Reason.the-variants.{Room}
+use Rattle.refusal.specs.Refusals.{numberOf, refusal}
 use Rattle.coding.specs.declared.Coding.{Coding}
 use Rattle.table.specs.declared.Item.{Item}
 use Rattle.table.specs.declared.Item.the-variants.{Single, Start, Value, End}
@@ -18,7 +18,8 @@ use Rattle.header.specs.declared.Kind.the-variants.{Psf1, Psf2, Vfont2}
 use Rattle.header.specs.declared.Font.{Font}
 use Rattle.header.specs.declared.Checked.{Checked}
 use Rattle.header.specs.declared.Checked.the-variants.{Sound, Refused}
-use Rattle.stages.specs.Check.{codingOf, tailOf, checkOf}
+use Rattle.stages.specs.Meaning.{codingOf, tailOf}
+use Rattle.stages.specs.Reading.{checkOf}
 use Rattle.listing.specs.declared.Listed.{Listed}
 use Rattle.listing.specs.declared.Listed.the-variants.{Wrote, Refused as Unlisted}
 
@@ -98,7 +99,7 @@ fontText s f = firstLine f ++ linesText s f
 
 -- "A refusal writes `refused 2 0` (number, place)."
 unfoldable pub refusedText : Refusal → List ℕ
-refusedText r = (114 ∷ 101 ∷ 102 ∷ 117 ∷ 115 ∷ 101 ∷ 100 ∷ 32 ∷ []) ++ numberText (numberOf r) 32 ++ numberText (placeOf r) 10
+refusedText r = (114 ∷ 101 ∷ 102 ∷ 117 ∷ 115 ∷ 101 ∷ 100 ∷ 32 ∷ []) ++ numberText (numberOf (r .reason)) 32 ++ numberText (r .place) 10
 
 -- `too big`
 abbrev pub bigText : List ℕ
@@ -115,7 +116,7 @@ listingOf s = when (ltb 65536 (length s)) bigText (answerText s (checkOf s))
 
 -- what a call that lists a text into a buffer of so many bytes answers
 unfoldable pub listedOf : List ℕ → ℕ → Listed
-listedOf text room = when (ltb room (length text)) (Unlisted (Room (length text))) (Wrote (length text))
+listedOf text room = when (ltb room (length text)) (Unlisted (refusal Room (length text))) (Wrote (length text))
 
 -- and what it leaves in the buffer
 unfoldable pub leftOf : List ℕ → List ℕ → List ℕ

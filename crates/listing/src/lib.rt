@@ -3,6 +3,7 @@ use coding::Coding;
 use header::Checked;
 use header::Font;
 use header::Kind;
+use refusal::Reason;
 use refusal::Refusal;
 use table::Item;
 use table::Step;
@@ -11,7 +12,7 @@ ghost use mathlib.Core.List.{[], _∷_};
 ghost use Prim.Native.Nat.{ℕ, _+_, _*_, _≤_, _<_};
 ghost use lib.ListN.{length};
 ghost use Rattle.base.specs.Over.{over};
-ghost use Rattle.header.specs.Placed.{Placed};
+ghost use Rattle.header.specs.Bounds.{Placed};
 ghost use Rattle.listing.specs.Text.{digitOf, numeral, numberText, kindText, tableWord, firstLine, itemText, pieceOf, tableText, linesText, fontText, refusedText, bigText, listingOf, listedOf, leftOf};
 
 // How many bytes of text stand in front of the buffer; or ROOM with the bytes needed, and the buffer is untouched.
@@ -267,9 +268,10 @@ fn put_refused(r: Refusal, out: &mut [u8]) -> usize
     requires { ⌜ 96 ≤ length (now out) ⌝ }
     ensures { λ n. ⌜ (n ≡ length (refusedText r)) × (now (out .exit) ≡ over (refusedText r) (now (out .entry))) × (n ≤ 96) ⌝ }
 {
+    let reason = r.reason;
     let a = put_text(b"refused ", out);
-    let b = a + put_number(base::size(refusal::number(r)), 32, &mut out[a..]);
-    b + put_number(refusal::place(r), 10, &mut out[b..])
+    let b = a + put_number(base::size(refusal::number(reason)), 32, &mut out[a..]);
+    b + put_number(r.place, 10, &mut out[b..])
 }
 
 // How many bytes the lines of a font's table are, none for a bare one. Asks that the header passed and the file is one that is listed.
@@ -303,7 +305,7 @@ fn list_text(text: &[u8], out: &mut [u8]) -> Listed
 {
     let n = text.len();
     if out.len() < n {
-        return Listed::Refused(Refusal::Room(n));
+        return Listed::Refused(refusal::refuse(Reason::Room, n));
     }
     base::copy(text, out);
     Listed::Wrote(n)
@@ -330,7 +332,7 @@ fn list_font(file: &[u8], f: Font, out: &mut [u8]) -> Listed
     let m = lines_len(file, f);
     let total = n + m;
     if out.len() < total {
-        return Listed::Refused(Refusal::Room(total));
+        return Listed::Refused(refusal::refuse(Reason::Room, total));
     }
     base::copy(&line[..n], out);
     put_lines(file, f, &mut out[n..]);

@@ -5,7 +5,7 @@ use mathlib.Core.List.{List}
 use Prim.Native.Nat.{ℕ}
 use lib.ListN.{length}
 use Rattle.listing.proofs.Putting.{first-stands, behind-room, behind-stands}
-use Rattle.listing.proofs.Answers.{no-room, wrote, in-front, font-text, font-length}
+use Rattle.listing.proofs.Answers.{no-room-as, wrote, in-front, font-text, font-length}
 use Rattle.listing.specs.Text.{firstLine, linesText, fontText}
 use Rattle.base.specs.Over.{over}
 use borrow.Author.Needs.{needs}
@@ -17,6 +17,7 @@ use Rattle.base.proofs.copy.Reads as copy-reads
 use Rattle.listing.proofs.lines_len.Reads as lines-len-reads
 use Rattle.listing.proofs.put_first.Reads as put-first-reads
 use Rattle.listing.proofs.put_lines.Reads as put-lines-reads
+use Rattle.refusal.proofs.refuse.Reads as refuse-reads
 
 slice-aggregate-put-first : tie.Need-slice-aggregate-put-first
 slice-aggregate-put-first c = search needs
@@ -30,8 +31,11 @@ lines-len-requires c κs = search needs
 add-total : tie.Need-add-total
 add-total c = search needs
 
+refuse-requires : tie.Need-refuse-requires
+refuse-requires c κs = search needs
+
 returns : tie.Need-returns
-returns c = let e = font-length (c .before .before .before .before .before .before .before .args .file .now) (c .before .before .before .before .before .before .before .args .f) (c .before .before .before .put-first .result) (c .before .lines-len .result) (c .before .before .before .put-first .ensures .0) (c .before .lines-len .ensures .0) in (no-room _ _ _ e (c .if1 .taken), omega (arith, e, c .before .before .before .put-first .ensures .2, c .before .lines-len .ensures .1))
+returns c = let e = font-length (c .before .before .before .before .before .before .before .before .args .file .now) (c .before .before .before .before .before .before .before .before .args .f) (c .before .before .before .before .put-first .result) (c .before .before .lines-len .result) (c .before .before .before .before .put-first .ensures .0) (c .before .before .lines-len .ensures .0) in (no-room-as _ _ _ e _ (c .before .if1 .taken) (c .refuse .ensures), omega (arith, e, c .before .before .before .before .put-first .ensures .2, c .before .before .lines-len .ensures .1))
 
 array-share-prefix-line : tie.Need-array-share-prefix-line
 array-share-prefix-line c = search needs
@@ -72,6 +76,7 @@ list-font-spec =
     put-first-requires
     lines-len-requires
     add-total
+    refuse-requires
     returns
     array-share-prefix-line
     slice-aggregate-copy

@@ -17,7 +17,6 @@ use Rattle.base.proofs.size.Reads as size-reads
 use Rattle.listing.proofs.put_number.Reads as put-number-reads
 use Rattle.listing.proofs.put_text.Reads as put-text-reads
 use Rattle.refusal.proofs.number.Reads as number-reads
-use Rattle.refusal.proofs.place.Reads as place-reads
 
 slice-aggregate-put-text : tie.Need-slice-aggregate-put-text
 slice-aggregate-put-text c = search needs
@@ -49,44 +48,41 @@ add-b : tie.Need-add-b
 add-b c = let n1 = number-21 (c .before .before .before .before .size .result) 32 (omega arith) in
     omega (arith, n1, c .before .before .before .before .before .before .before .before .put-text .ensures .0, c .before .before .put-number .ensures .0)
 
-place-requires : tie.Need-place-requires
-place-requires c κs = search needs
-
 sub-put-number-2 : tie.Need-sub-put-number-2
-sub-put-number-2 c = let n1 = number-21 (c .before .before .before .before .before .size .result) 32 (omega arith) in
-    let s1 = first-stands (114 ∷ 101 ∷ 102 ∷ 117 ∷ 115 ∷ 101 ∷ 100 ∷ 32 ∷ []) (c .before .before .before .before .before .before .before .before .before .before .before .before .before .args .out .now) (c .before .before .before .before .before .before .before .before .before .put-text .last .1 .0) (c .before .before .before .before .before .before .before .before .before .put-text .result) (omega (arith, (c .before .before .before .before .before .before .before .before .before .before .before .before .before .pre))) (c .before .before .before .before .before .before .before .before .before .put-text .ensures) in
-    let s2 = behind-stands (114 ∷ 101 ∷ 102 ∷ 117 ∷ 115 ∷ 101 ∷ 100 ∷ 32 ∷ []) (numberText (c .before .before .before .before .before .size .result) 32) (c .before .before .before .before .before .before .before .before .before .before .before .before .before .args .out .now) _ _ s1 (omega (arith, (c .before .before .before .before .before .before .before .before .before .before .before .before .before .pre), n1, c .before .before .before .before .before .before .before .before .before .put-text .ensures .0)) _ _ (c .before .before .before .put-number .ensures) in
-    omega (arith, (c .before .before .before .before .before .before .before .before .before .before .before .before .before .pre), n1, c .before .before .before .before .before .before .before .before .before .put-text .ensures .0, c .before .before .before .put-number .ensures .0, s2 .0, s2 .1)
+sub-put-number-2 c = let n1 = number-21 (c .before .before .before .before .size .result) 32 (omega arith) in
+    let s1 = first-stands (114 ∷ 101 ∷ 102 ∷ 117 ∷ 115 ∷ 101 ∷ 100 ∷ 32 ∷ []) (c .before .before .before .before .before .before .before .before .before .before .before .before .args .out .now) (c .before .before .before .before .before .before .before .before .put-text .last .1 .0) (c .before .before .before .before .before .before .before .before .put-text .result) (omega (arith, (c .before .before .before .before .before .before .before .before .before .before .before .before .pre))) (c .before .before .before .before .before .before .before .before .put-text .ensures) in
+    let s2 = behind-stands (114 ∷ 101 ∷ 102 ∷ 117 ∷ 115 ∷ 101 ∷ 100 ∷ 32 ∷ []) (numberText (c .before .before .before .before .size .result) 32) (c .before .before .before .before .before .before .before .before .before .before .before .before .args .out .now) _ _ s1 (omega (arith, (c .before .before .before .before .before .before .before .before .before .before .before .before .pre), n1, c .before .before .before .before .before .before .before .before .put-text .ensures .0)) _ _ (c .before .before .put-number .ensures) in
+    omega (arith, (c .before .before .before .before .before .before .before .before .before .before .before .before .pre), n1, c .before .before .before .before .before .before .before .before .put-text .ensures .0, c .before .before .put-number .ensures .0, s2 .0, s2 .1)
 
 part-put-number-start-2 : tie.Need-part-put-number-start-2
-part-put-number-start-2 c = let n1 = number-21 (c .before .before .before .before .before .size .result) 32 (omega arith) in
-    let s1 = first-stands (114 ∷ 101 ∷ 102 ∷ 117 ∷ 115 ∷ 101 ∷ 100 ∷ 32 ∷ []) (c .before .before .before .before .before .before .before .before .before .before .before .before .before .args .out .now) (c .before .before .before .before .before .before .before .before .before .put-text .last .1 .0) (c .before .before .before .before .before .before .before .before .before .put-text .result) (omega (arith, (c .before .before .before .before .before .before .before .before .before .before .before .before .before .pre))) (c .before .before .before .before .before .before .before .before .before .put-text .ensures) in
-    let s2 = behind-stands (114 ∷ 101 ∷ 102 ∷ 117 ∷ 115 ∷ 101 ∷ 100 ∷ 32 ∷ []) (numberText (c .before .before .before .before .before .size .result) 32) (c .before .before .before .before .before .before .before .before .before .before .before .before .before .args .out .now) _ _ s1 (omega (arith, (c .before .before .before .before .before .before .before .before .before .before .before .before .before .pre), n1, c .before .before .before .before .before .before .before .before .before .put-text .ensures .0)) _ _ (c .before .before .before .put-number .ensures) in
-    omega (arith, (c .before .before .before .before .before .before .before .before .before .before .before .before .before .pre), n1, c .before .before .before .before .before .before .before .before .before .put-text .ensures .0, c .before .before .before .put-number .ensures .0, s2 .0, s2 .1)
+part-put-number-start-2 c = let n1 = number-21 (c .before .before .before .before .size .result) 32 (omega arith) in
+    let s1 = first-stands (114 ∷ 101 ∷ 102 ∷ 117 ∷ 115 ∷ 101 ∷ 100 ∷ 32 ∷ []) (c .before .before .before .before .before .before .before .before .before .before .before .before .args .out .now) (c .before .before .before .before .before .before .before .before .put-text .last .1 .0) (c .before .before .before .before .before .before .before .before .put-text .result) (omega (arith, (c .before .before .before .before .before .before .before .before .before .before .before .before .pre))) (c .before .before .before .before .before .before .before .before .put-text .ensures) in
+    let s2 = behind-stands (114 ∷ 101 ∷ 102 ∷ 117 ∷ 115 ∷ 101 ∷ 100 ∷ 32 ∷ []) (numberText (c .before .before .before .before .size .result) 32) (c .before .before .before .before .before .before .before .before .before .before .before .before .args .out .now) _ _ s1 (omega (arith, (c .before .before .before .before .before .before .before .before .before .before .before .before .pre), n1, c .before .before .before .before .before .before .before .before .put-text .ensures .0)) _ _ (c .before .before .put-number .ensures) in
+    omega (arith, (c .before .before .before .before .before .before .before .before .before .before .before .before .pre), n1, c .before .before .before .before .before .before .before .before .put-text .ensures .0, c .before .before .put-number .ensures .0, s2 .0, s2 .1)
 
 part-put-number-end-2 : tie.Need-part-put-number-end-2
 part-put-number-end-2 c = search needs
 
 put-number-requires-2 : tie.Need-put-number-requires-2
-put-number-requires-2 c κs = let n1 = number-21 (c .before .before .before .before .before .before .size .result) 32 (omega arith) in let n2 = number-21 (c .before .place .result) 10 (omega arith) in
-    let s1 = first-stands (114 ∷ 101 ∷ 102 ∷ 117 ∷ 115 ∷ 101 ∷ 100 ∷ 32 ∷ []) (c .before .before .before .before .before .before .before .before .before .before .before .before .before .before .args .out .now) (c .before .before .before .before .before .before .before .before .before .before .put-text .last .1 .0) (c .before .before .before .before .before .before .before .before .before .before .put-text .result) (omega (arith, (c .before .before .before .before .before .before .before .before .before .before .before .before .before .before .pre))) (c .before .before .before .before .before .before .before .before .before .before .put-text .ensures) in
-    let s2 = behind-stands (114 ∷ 101 ∷ 102 ∷ 117 ∷ 115 ∷ 101 ∷ 100 ∷ 32 ∷ []) (numberText (c .before .before .before .before .before .before .size .result) 32) (c .before .before .before .before .before .before .before .before .before .before .before .before .before .before .args .out .now) _ _ s1 (omega (arith, (c .before .before .before .before .before .before .before .before .before .before .before .before .before .before .pre), n1, c .before .before .before .before .before .before .before .before .before .before .put-text .ensures .0)) _ _ (c .before .before .before .before .put-number .ensures) in
-    behind-room ((114 ∷ 101 ∷ 102 ∷ 117 ∷ 115 ∷ 101 ∷ 100 ∷ 32 ∷ []) ++ (numberText (c .before .before .before .before .before .before .size .result) 32)) (numberText (c .before .place .result) 10) (c .before .before .before .before .before .before .before .before .before .before .before .before .before .before .args .out .now) _ _ s2 (omega (arith, (c .before .before .before .before .before .before .before .before .before .before .before .before .before .before .pre), n1, n2, c .before .before .before .before .before .before .before .before .before .before .put-text .ensures .0, c .before .before .before .before .put-number .ensures .0))
+put-number-requires-2 c κs = let n1 = number-21 (c .before .before .before .before .before .size .result) 32 (omega arith) in let n2 = number-21 (c .before .before .before .before .before .before .before .before .before .before .before .before .before .args .r .place) 10 (omega arith) in
+    let s1 = first-stands (114 ∷ 101 ∷ 102 ∷ 117 ∷ 115 ∷ 101 ∷ 100 ∷ 32 ∷ []) (c .before .before .before .before .before .before .before .before .before .before .before .before .before .args .out .now) (c .before .before .before .before .before .before .before .before .before .put-text .last .1 .0) (c .before .before .before .before .before .before .before .before .before .put-text .result) (omega (arith, (c .before .before .before .before .before .before .before .before .before .before .before .before .before .pre))) (c .before .before .before .before .before .before .before .before .before .put-text .ensures) in
+    let s2 = behind-stands (114 ∷ 101 ∷ 102 ∷ 117 ∷ 115 ∷ 101 ∷ 100 ∷ 32 ∷ []) (numberText (c .before .before .before .before .before .size .result) 32) (c .before .before .before .before .before .before .before .before .before .before .before .before .before .args .out .now) _ _ s1 (omega (arith, (c .before .before .before .before .before .before .before .before .before .before .before .before .before .pre), n1, c .before .before .before .before .before .before .before .before .before .put-text .ensures .0)) _ _ (c .before .before .before .put-number .ensures) in
+    behind-room ((114 ∷ 101 ∷ 102 ∷ 117 ∷ 115 ∷ 101 ∷ 100 ∷ 32 ∷ []) ++ (numberText (c .before .before .before .before .before .size .result) 32)) (numberText (c .before .before .before .before .before .before .before .before .before .before .before .before .before .args .r .place) 10) (c .before .before .before .before .before .before .before .before .before .before .before .before .before .args .out .now) _ _ s2 (omega (arith, (c .before .before .before .before .before .before .before .before .before .before .before .before .before .pre), n1, n2, c .before .before .before .before .before .before .before .before .before .put-text .ensures .0, c .before .before .before .put-number .ensures .0))
 
 add-result : tie.Need-add-result
-add-result c = let n1 = number-21 (c .before .before .before .before .before .before .before .before .before .size .result) 32 (omega arith) in let n2 = number-21 (c .before .before .before .before .place .result) 10 (omega arith) in
-    omega (arith, n1, n2, c .before .before .before .before .before .before .before .before .before .before .before .before .before .put-text .ensures .0, c .before .before .before .before .before .before .before .put-number .ensures .0, c .before .before .put-number2 .ensures .0)
+add-result c = let n1 = number-21 (c .before .before .before .before .before .before .before .before .size .result) 32 (omega arith) in let n2 = number-21 (c .before .before .before .before .before .before .before .before .before .before .before .before .before .before .before .before .args .r .place) 10 (omega arith) in
+    omega (arith, n1, n2, c .before .before .before .before .before .before .before .before .before .before .before .before .put-text .ensures .0, c .before .before .before .before .before .before .put-number .ensures .0, c .before .before .put-number2 .ensures .0)
 
 same-length : tie.Need-same-length
 same-length c = search needs
 
 returns : tie.Need-returns
-returns c = let n1 = number-21 (c .before .before .before .before .before .before .before .before .before .size .result) 32 (omega arith) in let n2 = number-21 (c .before .before .before .before .place .result) 10 (omega arith) in
-    let s1 = first-stands (114 ∷ 101 ∷ 102 ∷ 117 ∷ 115 ∷ 101 ∷ 100 ∷ 32 ∷ []) (c .before .before .before .before .before .before .before .before .before .before .before .before .before .before .before .before .before .args .out .now) (c .before .before .before .before .before .before .before .before .before .before .before .before .before .put-text .last .1 .0) (c .before .before .before .before .before .before .before .before .before .before .before .before .before .put-text .result) (omega (arith, (c .before .before .before .before .before .before .before .before .before .before .before .before .before .before .before .before .before .pre))) (c .before .before .before .before .before .before .before .before .before .before .before .before .before .put-text .ensures) in
-    let s2 = behind-stands (114 ∷ 101 ∷ 102 ∷ 117 ∷ 115 ∷ 101 ∷ 100 ∷ 32 ∷ []) (numberText (c .before .before .before .before .before .before .before .before .before .size .result) 32) (c .before .before .before .before .before .before .before .before .before .before .before .before .before .before .before .before .before .args .out .now) _ _ s1 (omega (arith, (c .before .before .before .before .before .before .before .before .before .before .before .before .before .before .before .before .before .pre), n1, c .before .before .before .before .before .before .before .before .before .before .before .before .before .put-text .ensures .0)) _ _ (c .before .before .before .before .before .before .before .put-number .ensures) in
-    let s3 = behind-stands ((114 ∷ 101 ∷ 102 ∷ 117 ∷ 115 ∷ 101 ∷ 100 ∷ 32 ∷ []) ++ (numberText (c .before .before .before .before .before .before .before .before .before .size .result) 32)) (numberText (c .before .before .before .before .place .result) 10) (c .before .before .before .before .before .before .before .before .before .before .before .before .before .before .before .before .before .args .out .now) _ _ s2 (omega (arith, (c .before .before .before .before .before .before .before .before .before .before .before .before .before .before .before .before .before .pre), n1, n2, c .before .before .before .before .before .before .before .before .before .before .before .before .before .put-text .ensures .0, c .before .before .before .before .before .before .before .put-number .ensures .0)) _ _ (c .before .before .put-number2 .ensures) in
-    let l = refused-text (c .before .before .before .before .before .before .before .before .before .before .before .before .before .before .before .before .before .args .r) (c .before .before .before .before .before .before .before .before .before .size .result) (c .before .before .before .before .place .result) (c .before .before .before .before .before .before .before .before .before .size .ensures ∙ c .before .before .before .before .before .before .before .before .before .before .number .ensures) (c .before .before .before .before .place .ensures) in
-    (s3 .0 ∙ ap length l, s3 .2 ∙ ap (λ (z : List ℕ). over z (c .before .before .before .before .before .before .before .before .before .before .before .before .before .before .before .before .before .args .out .now)) l, omega (arith, n1, n2, c .before .before .before .before .before .before .before .before .before .before .before .before .before .put-text .ensures .0, c .before .before .before .before .before .before .before .put-number .ensures .0, c .before .before .put-number2 .ensures .0))
+returns c = let n1 = number-21 (c .before .before .before .before .before .before .before .before .size .result) 32 (omega arith) in let n2 = number-21 (c .before .before .before .before .before .before .before .before .before .before .before .before .before .before .before .before .args .r .place) 10 (omega arith) in
+    let s1 = first-stands (114 ∷ 101 ∷ 102 ∷ 117 ∷ 115 ∷ 101 ∷ 100 ∷ 32 ∷ []) (c .before .before .before .before .before .before .before .before .before .before .before .before .before .before .before .before .args .out .now) (c .before .before .before .before .before .before .before .before .before .before .before .before .put-text .last .1 .0) (c .before .before .before .before .before .before .before .before .before .before .before .before .put-text .result) (omega (arith, (c .before .before .before .before .before .before .before .before .before .before .before .before .before .before .before .before .pre))) (c .before .before .before .before .before .before .before .before .before .before .before .before .put-text .ensures) in
+    let s2 = behind-stands (114 ∷ 101 ∷ 102 ∷ 117 ∷ 115 ∷ 101 ∷ 100 ∷ 32 ∷ []) (numberText (c .before .before .before .before .before .before .before .before .size .result) 32) (c .before .before .before .before .before .before .before .before .before .before .before .before .before .before .before .before .args .out .now) _ _ s1 (omega (arith, (c .before .before .before .before .before .before .before .before .before .before .before .before .before .before .before .before .pre), n1, c .before .before .before .before .before .before .before .before .before .before .before .before .put-text .ensures .0)) _ _ (c .before .before .before .before .before .before .put-number .ensures) in
+    let s3 = behind-stands ((114 ∷ 101 ∷ 102 ∷ 117 ∷ 115 ∷ 101 ∷ 100 ∷ 32 ∷ []) ++ (numberText (c .before .before .before .before .before .before .before .before .size .result) 32)) (numberText (c .before .before .before .before .before .before .before .before .before .before .before .before .before .before .before .before .args .r .place) 10) (c .before .before .before .before .before .before .before .before .before .before .before .before .before .before .before .before .args .out .now) _ _ s2 (omega (arith, (c .before .before .before .before .before .before .before .before .before .before .before .before .before .before .before .before .pre), n1, n2, c .before .before .before .before .before .before .before .before .before .before .before .before .put-text .ensures .0, c .before .before .before .before .before .before .put-number .ensures .0)) _ _ (c .before .before .put-number2 .ensures) in
+    let l = refused-text (c .before .before .before .before .before .before .before .before .before .before .before .before .before .before .before .before .args .r) (c .before .before .before .before .before .before .before .before .size .result) (c .before .before .before .before .before .before .before .before .before .before .before .before .before .before .before .before .args .r .place) (c .before .before .before .before .before .before .before .before .size .ensures ∙ c .before .before .before .before .before .before .before .before .before .number .ensures) refl in
+    (s3 .0 ∙ ap length l, s3 .2 ∙ ap (λ (z : List ℕ). over z (c .before .before .before .before .before .before .before .before .before .before .before .before .before .before .before .before .args .out .now)) l, omega (arith, n1, n2, c .before .before .before .before .before .before .before .before .before .before .before .before .put-text .ensures .0, c .before .before .before .before .before .before .put-number .ensures .0, c .before .before .put-number2 .ensures .0))
 
 pub put-refused-spec : {M : Type 1} → statement M
 put-refused-spec =
@@ -101,7 +97,6 @@ put-refused-spec =
     part-put-number-end
     put-number-requires
     add-b
-    place-requires
     sub-put-number-2
     part-put-number-start-2
     part-put-number-end-2
