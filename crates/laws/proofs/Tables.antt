@@ -1,6 +1,6 @@
--- Demand 3 about the public calls on a whole file. Of any bytes s that none of refusals 1 to 9 applies to (`throughEntries s ≡ Sound f`: `entries-rows`, Rows), marked as
--- having a table: `check` answers `checkOf s`, `item` answers `itemOf s`, `find_value` answers `valueGlyph s`, `find_sequence` answers
--- `sequenceGlyph s`. n is the font's count, c its coding, t its tail: all bytes after the bitmaps.
+-- Demand 3 about the public calls on a whole file. Of any bytes s that none of refusals 1 to 9 applies to (`throughEntries s ≡ Sound f`;
+-- `entries-rows` in Rows says when), marked as having a table: `check` answers `checkOf s`, `item` answers `itemOf s`, `find_value` answers
+-- `valueGlyph s`, `find_sequence` answers `sequenceGlyph s`. n is the font's count, c its coding, t its tail: all bytes after the bitmaps.
 use mathlib.Core.Path.{_≡_, _∙_}
 use mathlib.Core.Logic.{_↔_}
 use mathlib.Core.Bool.{true}
