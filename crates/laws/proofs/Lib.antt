@@ -1,7 +1,11 @@
--- What the public calls mean. To read first: Rows (refusals 1 to 12), Tables (demand 3) and Questions (the other refusals of walks and lookups).
+-- What the public calls mean. To read first: Rows (refusals 1 to 12), Tables (demand 3), Questions and Bitmaps (the other refusals of a question).
 pub mod Rows
 pub mod Tables
 pub mod Questions
 pub mod Bitmaps
+pub mod Answers
 pub mod Magic
+pub mod Deciding
+pub mod Tails
 pub mod Reading
+pub mod Located

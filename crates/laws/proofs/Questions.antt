@@ -10,24 +10,26 @@ use native.Mathlib.Omega.{arith}
 use lib.Dec.{ltb}
 use borrow.Author.Tests.{ltb-true, lt-ltb, not-true}
 use Rattle.base.specs.Choice.{pick, when}
+use Rattle.refusal.specs.Refusals.{refusal}
+use Rattle.refusal.specs.declared.Reason.the-variants.{Ask, NoTable}
 use Rattle.refusal.specs.declared.Refusal.{Refusal}
-use Rattle.refusal.specs.declared.Refusal.the-variants.{Ask, NoTable}
 use Rattle.header.specs.declared.Font.{Font}
 use Rattle.header.specs.declared.Checked.the-variants.{Sound, Refused}
 use Rattle.bitmap.specs.declared.Part.the-variants.{Refused as NoPart}
-use Rattle.bitmap.specs.declared.Pixel.the-variants.{NoPixel}
+use Rattle.bitmap.specs.declared.Pixel.the-variants.{Refused as NoPixel}
+use Rattle.bitmap.specs.declared.GlyphMetrics.the-variants.{Refused as NoMetrics}
 use Rattle.lookup.specs.declared.Walked.{Walked}
 use Rattle.lookup.specs.declared.Walked.the-variants.{Found as Got, Nothing as NoItem}
 use Rattle.lookup.specs.declared.Found.{Found}
 use Rattle.lookup.specs.declared.Found.the-variants.{At as FoundAt, Nothing}
 use Rattle.lookup.specs.Lookup.{itemAt, findValue, findSequence}
 use Rattle.lookup.specs.Listing.{Any}
-use Rattle.stages.specs.Check.{checkOf}
-use Rattle.fonts.specs.declared.Walk.{Walk}
-use Rattle.fonts.specs.declared.Walk.the-variants.{Is, NoWalk}
+use Rattle.stages.specs.Reading.{checkOf}
+use Rattle.fonts.specs.declared.Walk.the-variants.{Refused as NoWalk}
 use Rattle.fonts.specs.declared.Lookup.{Lookup}
-use Rattle.fonts.specs.declared.Lookup.the-variants.{Glyph, NoLookup}
-use Rattle.fonts.specs.Questions.{glyphPartOf, rowPartOf, pixelAt, fontItems, walked, itemOn, itemOf, found, valueOn, valueGlyph, anyHigh, askable, sequenceGlyph}
+use Rattle.fonts.specs.declared.Lookup.the-variants.{Refused as NoLookup}
+use Rattle.fonts.specs.Reading.{glyphPartOf, rowPartOf, pixelAt, glyphMetricsOf, fontItems, walked, itemOn, itemOf, found, valueOn, valueGlyph, anyHigh, askable, sequenceGlyph}
+use Rattle.laws.proofs.Answers.{clash, walkNumber, lookupNumber}
 
 -- "Every question … gives the font's own refusal (1 to 12) first."
 module _ (s : List ℕ) (r : Refusal) (refused : checkOf s ≡ Refused r) where
@@ -43,6 +45,10 @@ module _ (s : List ℕ) (r : Refusal) (refused : checkOf s ≡ Refused r) where
   unfolding pixelAt
   pixel-own g y x = rw refused
 
+  pub metrics-own : (g : ℕ) → glyphMetricsOf s g ≡ NoMetrics r
+  unfolding glyphMetricsOf
+  metrics-own g = rw refused
+
   pub item-own : (g k : ℕ) → itemOf s g k ≡ NoWalk r
   unfolding itemOf
   item-own g k = rw refused
@@ -55,37 +61,29 @@ module _ (s : List ℕ) (r : Refusal) (refused : checkOf s ≡ Refused r) where
   unfolding sequenceGlyph
   sequence-own vs = rw refused
 
--- an answer that is no refusal, or another one
-different : {A : Type 0} (x : Lookup) (a b : Refusal) → a ≡ NoTable → b ≡ Ask → x ≡ NoLookup a → x ≡ NoLookup b → A
-different x a b p q e f = let z : _≡_ {A = ℕ} 0 1 = cc in absurd (omega arith)
-
-found-some : {A : Type 0} (w : Found) (r : Refusal) → (r ≡ NoTable) ⊎ (r ≡ Ask) → found w ≡ NoLookup r → A
-found-some (FoundAt g) r (inl p) e = let z : _≡_ {A = ℕ} 0 1 = cc in absurd (omega arith)
-found-some (FoundAt g) r (inr p) e = let z : _≡_ {A = ℕ} 0 1 = cc in absurd (omega arith)
-found-some Nothing r (inl p) e = let z : _≡_ {A = ℕ} 0 1 = cc in absurd (omega arith)
-found-some Nothing r (inr p) e = let z : _≡_ {A = ℕ} 0 1 = cc in absurd (omega arith)
-
 -- a walk's answer by whether there is a table
-walk-bare : (t : Bool) (w : Walked) → pick t (walked w) (NoWalk NoTable) ≡ NoWalk NoTable → t ≡ false
+walk-bare : (t : Bool) (w : Walked) → pick t (walked w) (NoWalk (refusal NoTable 0)) ≡ NoWalk (refusal NoTable 0) → t ≡ false
 walk-bare false w e = refl
-walk-bare true (Got i) e = let z : _≡_ {A = ℕ} 0 1 = cc in absurd (omega arith)
-walk-bare true NoItem e = let z : _≡_ {A = ℕ} 0 1 = cc in absurd (omega arith)
+walk-bare true (Got i) e = clash walkNumber e (λ z. omega arith)
+walk-bare true NoItem e = clash walkNumber e (λ z. omega arith)
 
 -- a lookup's answer by whether there is a table, and whether ASK applies
 abbrev answer : Bool → Bool → Found → Lookup
-answer t a w = pick t (when a (NoLookup Ask) (found w)) (NoLookup NoTable)
+answer t a w = pick t (when a (NoLookup (refusal Ask 0)) (found w)) (NoLookup (refusal NoTable 0))
 
-lookup-bare : (t a : Bool) (w : Found) → answer t a w ≡ NoLookup NoTable → t ≡ false
+lookup-bare : (t a : Bool) (w : Found) → answer t a w ≡ NoLookup (refusal NoTable 0) → t ≡ false
 unfolding when
 lookup-bare false a w e = refl
-lookup-bare true true w e = different (NoLookup Ask) NoTable Ask refl refl e refl
-lookup-bare true false w e = found-some w NoTable (inl refl) e
+lookup-bare true true w e = clash lookupNumber e (λ z. omega arith)
+lookup-bare true false (FoundAt g) e = clash lookupNumber e (λ z. omega arith)
+lookup-bare true false Nothing e = clash lookupNumber e (λ z. omega arith)
 
-lookup-ask : (t a : Bool) (w : Found) → answer t a w ≡ NoLookup Ask → (t ≡ true) × (a ≡ true)
+lookup-ask : (t a : Bool) (w : Found) → answer t a w ≡ NoLookup (refusal Ask 0) → (t ≡ true) × (a ≡ true)
 unfolding when
-lookup-ask false a w e = different (NoLookup NoTable) NoTable Ask refl refl refl e
+lookup-ask false a w e = clash lookupNumber e (λ z. omega arith)
 lookup-ask true true w e = (refl, refl)
-lookup-ask true false w e = found-some w Ask (inr refl) e
+lookup-ask true false (FoundAt g) e = clash lookupNumber e (λ z. omega arith)
+lookup-ask true false Nothing e = clash lookupNumber e (λ z. omega arith)
 
 -- a test the other way round
 flip : (a : Bool) (x y : Lookup) → when a x y ≡ when (not a) y x
@@ -145,36 +143,36 @@ module _ (s : List ℕ) (f : Font) (sound : checkOf s ≡ Sound f) where
 
   sequence-asks : (vs : List ℕ) → sequenceGlyph s vs ≡ answer (f .table) (not (askable vs)) (findSequence vs (fontItems s f))
   unfolding sequenceGlyph
-  sequence-asks vs = rw sound (ap (λ (x : Lookup). pick (f .table) x (NoLookup NoTable)) (flip (askable vs) (found (findSequence vs (fontItems s f))) (NoLookup Ask)))
+  sequence-asks vs = rw sound (ap (λ (x : Lookup). pick (f .table) x (NoLookup (refusal NoTable 0))) (flip (askable vs) (found (findSequence vs (fontItems s f))) (NoLookup (refusal Ask 0))))
 
   -- NO TABLE exactly on a font without a table, whatever is asked
-  pub item-no-table-exactly : (g k : ℕ) → (itemOf s g k ≡ NoWalk NoTable) ↔ (f .table ≡ false)
+  pub item-no-table-exactly : (g k : ℕ) → (itemOf s g k ≡ NoWalk (refusal NoTable 0)) ↔ (f .table ≡ false)
   item-no-table-exactly g k = (λ e. walk-bare (f .table) (itemAt g k (fontItems s f)) (sym (item-asks g k) ∙ e), λ t. item-asks g k ∙ rw t)
 
-  pub value-no-table-exactly : (v : ℕ) → (valueGlyph s v ≡ NoLookup NoTable) ↔ (f .table ≡ false)
+  pub value-no-table-exactly : (v : ℕ) → (valueGlyph s v ≡ NoLookup (refusal NoTable 0)) ↔ (f .table ≡ false)
   value-no-table-exactly v = (λ e. lookup-bare (f .table) (ltb 0x10FFFF v) (findValue v 0 (fontItems s f)) (sym (value-asks v) ∙ e), λ t. value-asks v ∙ rw t)
 
-  pub sequence-no-table-exactly : (vs : List ℕ) → (sequenceGlyph s vs ≡ NoLookup NoTable) ↔ (f .table ≡ false)
+  pub sequence-no-table-exactly : (vs : List ℕ) → (sequenceGlyph s vs ≡ NoLookup (refusal NoTable 0)) ↔ (f .table ≡ false)
   sequence-no-table-exactly vs = (λ e. lookup-bare (f .table) (not (askable vs)) (findSequence vs (fontItems s f)) (sym (sequence-asks vs) ∙ e), λ t. sequence-asks vs ∙ rw t)
 
   -- then ASK exactly for a value above 10FFFF
-  pub value-ask-exactly : (v : ℕ) → (valueGlyph s v ≡ NoLookup Ask) ↔ ((f .table ≡ true) × High v)
+  pub value-ask-exactly : (v : ℕ) → (valueGlyph s v ≡ NoLookup (refusal Ask 0)) ↔ ((f .table ≡ true) × High v)
   unfolding when
   value-ask-exactly v = (there, back)
     where
-      there : valueGlyph s v ≡ NoLookup Ask → (f .table ≡ true) × High v
+      there : valueGlyph s v ≡ NoLookup (refusal Ask 0) → (f .table ≡ true) × High v
       there e = let p = lookup-ask (f .table) (ltb 0x10FFFF v) (findValue v 0 (fontItems s f)) (sym (value-asks v) ∙ e) in (p .0, ltb-true 0x10FFFF v (p .1))
 
-      back : (f .table ≡ true) × High v → valueGlyph s v ≡ NoLookup Ask
+      back : (f .table ≡ true) × High v → valueGlyph s v ≡ NoLookup (refusal Ask 0)
       back p = value-asks v ∙ rw (p .0, lt-ltb 0x10FFFF v (p .1))
 
   -- and for a sequence that is empty or has a value above 10FFFF
-  pub sequence-ask-exactly : (vs : List ℕ) → (sequenceGlyph s vs ≡ NoLookup Ask) ↔ ((f .table ≡ true) × ((vs ≡ []) ⊎ Any High vs))
+  pub sequence-ask-exactly : (vs : List ℕ) → (sequenceGlyph s vs ≡ NoLookup (refusal Ask 0)) ↔ ((f .table ≡ true) × ((vs ≡ []) ⊎ Any High vs))
   unfolding when
   sequence-ask-exactly vs = (there, back)
     where
-      there : sequenceGlyph s vs ≡ NoLookup Ask → (f .table ≡ true) × ((vs ≡ []) ⊎ Any High vs)
+      there : sequenceGlyph s vs ≡ NoLookup (refusal Ask 0) → (f .table ≡ true) × ((vs ≡ []) ⊎ Any High vs)
       there e = let p = lookup-ask (f .table) (not (askable vs)) (findSequence vs (fontItems s f)) (sym (sequence-asks vs) ∙ e) in (p .0, askable-exactly vs .0 (not-true (askable vs) (p .1)))
 
-      back : (f .table ≡ true) × ((vs ≡ []) ⊎ Any High vs) → sequenceGlyph s vs ≡ NoLookup Ask
+      back : (f .table ≡ true) × ((vs ≡ []) ⊎ Any High vs) → sequenceGlyph s vs ≡ NoLookup (refusal Ask 0)
       back p = sequence-asks vs ∙ rw (p .0, askable-exactly vs .1 (p .1))

@@ -1,17 +1,16 @@
--- Demand 3 about the public calls on a whole file. Of any bytes s that none of refusals 1 to 9 applies to (`headerOf s ≡ Sound f`), marked as
--- having a table: `check` answers `checkOf s`, `item` answers `itemOf s`, `find_value` answers `valueGlyph s`, `find_sequence` answers
--- `sequenceGlyph s`. n is the font's count, c its coding, t its tail: all bytes after the bitmaps.
-use mathlib.Core.Path.{_≡_, sym, _∙_, ap}
+-- Demand 3 about the public calls on a whole file. Of any bytes s that none of refusals 1 to 9 applies to (`throughEntries s ≡ Sound f`;
+-- `entries-rows` in Rows says when), marked as having a table: `check` answers `checkOf s`, `item` answers `itemOf s`, `find_value` answers
+-- `valueGlyph s`, `find_sequence` answers `sequenceGlyph s`. n is the font's count, c its coding, t its tail: all bytes after the bitmaps.
+use mathlib.Core.Path.{_≡_, _∙_}
 use mathlib.Core.Logic.{_↔_}
-use mathlib.Core.Bool.{Bool, true, false}
+use mathlib.Core.Bool.{true}
 use mathlib.Core.List.{List}
 use Prim.Native.Nat.{ℕ, _+_, _≤_, _<_}
 use lib.ListN.{length, take}
 use Rattle.base.specs.Bytes.{Bytes}
 use Rattle.refusal.specs.declared.Refusal.{Refusal}
-use Rattle.refusal.specs.declared.Refusal.the-variants.{TableCut, TableBad, Trailing, Ask, Unmapped}
-use Rattle.refusal.specs.Refusals.{placeOf}
-use Rattle.coding.specs.declared.Coding.{Coding}
+use Rattle.refusal.specs.Refusals.{refusal}
+use Rattle.refusal.specs.declared.Reason.the-variants.{TableCut, TableBad, Trailing, Ask, Unmapped}
 use Rattle.table.specs.declared.Item.{Item}
 use Rattle.table.specs.Grammar.{Desc, encode, Readable}
 use Rattle.table.specs.Table.{IsTable, Completable, LongestStart}
@@ -19,41 +18,42 @@ use Rattle.table.proofs.Meaning as meaning
 use Rattle.lookup.specs.Listing.{ListsValue, ListsSequence, Lowest, Nowhere, ItemIs}
 use Rattle.header.specs.declared.Font.{Font}
 use Rattle.header.specs.declared.Checked.the-variants.{Sound, Refused}
-use Rattle.header.specs.Headers.{headerOf}
-use Rattle.stages.specs.Check.{codingOf, tailOf, checkOf}
-use Rattle.fonts.specs.declared.Walk.the-variants.{Is, NoWalk}
-use Rattle.fonts.specs.declared.Lookup.the-variants.{Glyph, NoLookup}
-use Rattle.fonts.specs.Questions.{itemOf, valueGlyph, askable, sequenceGlyph}
+use Rattle.stages.specs.Meaning.{codingOf, tailOf}
+use Rattle.stages.specs.Reading.{throughEntries, checkOf}
+use Rattle.fonts.specs.declared.Walk.the-variants.{Is, Refused as NoWalk}
+use Rattle.fonts.specs.declared.Lookup.the-variants.{Glyph, Refused as NoLookup}
+use Rattle.fonts.specs.Reading.{itemOf, valueGlyph, askable, sequenceGlyph}
+use Rattle.laws.proofs.Tails as tail
 use Rattle.laws.proofs.Reading as inner
 
-module _ (s : List ℕ) (y : Bytes s) (f : Font) (passed : headerOf s ≡ Sound f) (marked : f .table ≡ true) where
+module _ (s : List ℕ) (y : Bytes s) (f : Font) (passed : throughEntries s ≡ Sound f) (marked : f .table ≡ true) where
   -- (a) accepted exactly when the tail is n descriptions end to end, nothing over
   pub accepted-exactly : (checkOf s ≡ Sound f) ↔ IsTable (codingOf (f .kind)) (f .count) (tailOf s f)
-  accepted-exactly = inner.accepted-exactly s y f passed marked
+  accepted-exactly = tail.accepted-exactly s y f passed marked
 
   -- (e) a refused table's place is where the table begins plus the length of its longest start that could still be completed
-  pub refused-place : (r : Refusal) → checkOf s ≡ Refused r → (k : ℕ) × (placeOf r ≡ f .end + k) × LongestStart (codingOf (f .kind)) (f .count) (tailOf s f) k
-  refused-place = inner.refused-place s y f passed marked
+  pub refused-place : (r : Refusal) → checkOf s ≡ Refused r → (k : ℕ) × (r .place ≡ f .end + k) × LongestStart (codingOf (f .kind)) (f .count) (tailOf s f) k
+  refused-place = tail.refused-place s y f passed marked
 
   -- TABLE CUT exactly when the whole tail could still be completed, but isn't complete; its place is the file's length
   pub cut-exactly : (p : ℕ) →
-      (checkOf s ≡ Refused (TableCut p)) ↔
+      (checkOf s ≡ Refused (refusal TableCut p)) ↔
       ((p ≡ length s) × Completable (codingOf (f .kind)) (f .count) (tailOf s f) × (IsTable (codingOf (f .kind)) (f .count) (tailOf s f) → ⊥))
-  cut-exactly = inner.cut-exactly s y f passed marked
+  cut-exactly = tail.cut-exactly s y f passed marked
 
   -- TABLE BAD exactly when the longest completable start is shorter than the tail and not a complete table; its place is that start's end
   pub bad-exactly : (p : ℕ) →
-      (checkOf s ≡ Refused (TableBad p)) ↔
+      (checkOf s ≡ Refused (refusal TableBad p)) ↔
       ((k : ℕ) × (p ≡ f .end + k) × LongestStart (codingOf (f .kind)) (f .count) (tailOf s f) k × (k < length (tailOf s f))
       × (IsTable (codingOf (f .kind)) (f .count) (take k (tailOf s f)) → ⊥))
-  bad-exactly = inner.bad-exactly s y f passed marked
+  bad-exactly = tail.bad-exactly s y f passed marked
 
   -- TRAILING exactly when bytes stand after a complete table; its place is the first such byte
   pub trailing-exactly : (p : ℕ) →
-      (checkOf s ≡ Refused (Trailing p)) ↔
+      (checkOf s ≡ Refused (refusal Trailing p)) ↔
       ((k : ℕ) × (p ≡ f .end + k) × LongestStart (codingOf (f .kind)) (f .count) (tailOf s f) k × (k < length (tailOf s f))
       × IsTable (codingOf (f .kind)) (f .count) (take k (tailOf s f)))
-  trailing-exactly = inner.trailing-exactly s y f passed marked
+  trailing-exactly = tail.trailing-exactly s y f passed marked
 
   -- of an accepted font, with its reading
   module _ (r : IsTable (codingOf (f .kind)) (f .count) (tailOf s f)) where
@@ -66,7 +66,7 @@ module _ (s : List ℕ) (y : Bytes s) (f : Font) (passed : headerOf s ≡ Sound 
     walk-exactly = inner.walk-exactly s y f passed marked r
 
     -- and else refuses with ASK
-    pub walk-ask-exactly : (g k : ℕ) → (itemOf s g k ≡ NoWalk Ask) ↔ ((i : Item) → ItemIs (r .reading) g k i → ⊥)
+    pub walk-ask-exactly : (g k : ℕ) → (itemOf s g k ≡ NoWalk (refusal Ask 0)) ↔ ((i : Item) → ItemIs (r .reading) g k i → ⊥)
     walk-ask-exactly = inner.walk-ask-exactly s y f passed marked r
 
     -- (d) a lookup gives the lowest glyph that the reading lists for the value
@@ -74,12 +74,12 @@ module _ (s : List ℕ) (y : Bytes s) (f : Font) (passed : headerOf s ≡ Sound 
     value-exactly = inner.value-exactly s y f passed marked r
 
     -- and says unmapped exactly when it lists none
-    pub value-unmapped-exactly : (v : ℕ) → v ≤ 0x10FFFF → (valueGlyph s v ≡ NoLookup Unmapped) ↔ Nowhere (ListsValue v) 0 (r .reading)
+    pub value-unmapped-exactly : (v : ℕ) → v ≤ 0x10FFFF → (valueGlyph s v ≡ NoLookup (refusal Unmapped 0)) ↔ Nowhere (ListsValue v) 0 (r .reading)
     value-unmapped-exactly = inner.value-unmapped-exactly s y f passed marked r
 
     -- the same for a sequence that is not empty and has no value above 10FFFF
     pub sequence-exactly : (vs : List ℕ) (g : ℕ) → askable vs ≡ true → (sequenceGlyph s vs ≡ Glyph g) ↔ Lowest (ListsSequence vs) 0 (r .reading) g
     sequence-exactly = inner.sequence-exactly s y f passed marked r
 
-    pub sequence-unmapped-exactly : (vs : List ℕ) → askable vs ≡ true → (sequenceGlyph s vs ≡ NoLookup Unmapped) ↔ Nowhere (ListsSequence vs) 0 (r .reading)
+    pub sequence-unmapped-exactly : (vs : List ℕ) → askable vs ≡ true → (sequenceGlyph s vs ≡ NoLookup (refusal Unmapped 0)) ↔ Nowhere (ListsSequence vs) 0 (r .reading)
     sequence-unmapped-exactly = inner.sequence-unmapped-exactly s y f passed marked r

@@ -1,0 +1,200 @@
+-- Rows 1 to 9 of document 01's table decided one after the other, whatever stands after them (Rows says what is shown).
+use mathlib.Core.Path.{_≡_, refl, sym, _∙_, ap}
+use mathlib.Core.Logic.{_⊎_, inl, inr, ⊎-elim}
+use mathlib.Core.List.{List}
+use Prim.Native.Nat.{ℕ, _+_, _*_, _≤_, _<_}
+use native.Mathlib.Omega.{arith}
+use lib.ListN.{length, getD}
+use Rattle.base.specs.Begins.{Begins}
+use Rattle.base.specs.Numbers.{le32}
+use Rattle.base.proofs.Tests.{below, same}
+use Rattle.refusal.specs.Refusals.{refusal}
+use Rattle.refusal.specs.declared.Reason.{Reason}
+use Rattle.refusal.specs.declared.Reason.the-variants.{Kind, BodyCut}
+use Rattle.refusal.specs.declared.Refusal.{Refusal}
+use Rattle.header.specs.declared.Kind.the-variants.{Psf1, Psf2, Vfont2}
+use Rattle.header.specs.declared.Named.{Named}
+use Rattle.header.specs.declared.Named.the-variants.{Is, Unknown}
+use Rattle.header.specs.declared.Font.{Font}
+use Rattle.header.specs.declared.Fields.{Fields}
+use Rattle.header.specs.declared.Head.the-variants.{Refused as NoHead}
+use Rattle.header.specs.declared.Checked.{Checked}
+use Rattle.header.specs.declared.Checked.the-variants.{Sound, Refused}
+use Rattle.header.specs.Meaning.{limit, magicOf, rowBytes, glyphBytes, psf1Count, psf1Table, psf1Font, fieldsOf, psf2Font, vfont2Font}
+use Rattle.header.specs.Reading.{kindOf, headOf, psf2Shaped, vfont2Shaped, onFields, saysOf}
+use Rattle.header.proofs.Cases as header
+use Rattle.entries.specs.Meaning.{rowsAt, colsAt, IsGreatest}
+use Rattle.entries.specs.Reading.{scanOf}
+use Rattle.entries.specs.declared.Scan.{Scan}
+use Rattle.entries.specs.declared.Scan.the-variants.{BrokenAt, Greatest}
+use Rattle.entries.proofs.Meaning.{scan-broken, scan-greatest, one-greatest}
+use Rattle.stages.specs.Reading.{scanned, entriesOf, throughBody, throughEntries}
+use Rattle.stages.proofs.Cases as stages
+use Rattle.laws.specs.Rows.{Row, given, skipped, given-at, skipped-at, Psf1Rows, HeadRows, Psf2Rows, EntryRows, Vfont2Rows, KindRows, RowsThen}
+use Rattle.laws.proofs.Magic.{kind-says}
+
+-- a row that can be decided
+pub decide : {P : Type 0} {why : Reason} {place : ℕ} {rest : Checked → Type 0} {a : Checked} →
+    P ⊎ (P → ⊥) → (P → a ≡ Refused (refusal why place)) → ((P → ⊥) → rest a) → Row P why place rest a
+decide (inl p) f g = given p (f p)
+decide (inr n) f g = skipped n (g n)
+
+-- what a row asks
+pub less : (a b : ℕ) → (a < b) ⊎ ((a < b) → ⊥)
+less a b = go (below a b)
+  where
+    go : (a < b) ⊎ (b ≤ a) → (a < b) ⊎ ((a < b) → ⊥)
+    go (inl h) = inl h
+    go (inr h) = inr (λ l. absurd (omega arith))
+
+pub equal : (u v : ℕ) → ((u ≡ v → ⊥) → ⊥) → u ≡ v
+equal u v n = go (same u v)
+  where
+    go : (u ≡ v) ⊎ ((u ≡ v) → ⊥) → u ≡ v
+    go (inl e) = e
+    go (inr m) = absurd (n m)
+
+other : (a b : ℕ) → (a ≡ b → ⊥) ⊎ ((a ≡ b → ⊥) → ⊥)
+other a b = go (same a b)
+  where
+    go : (a ≡ b) ⊎ ((a ≡ b) → ⊥) → (a ≡ b → ⊥) ⊎ ((a ≡ b → ⊥) → ⊥)
+    go (inl e) = inr (λ n. n e)
+    go (inr n) = inl n
+
+either : {P Q : Type 0} → P ⊎ (P → ⊥) → Q ⊎ (Q → ⊥) → (P ⊎ Q) ⊎ ((P ⊎ Q) → ⊥)
+either (inl p) q = inl (inl p)
+either (inr p) (inl q) = inl (inr q)
+either {P} {Q} (inr p) (inr q) = inr both
+  where
+    both : P ⊎ Q → ⊥
+    both (inl x) = p x
+    both (inr x) = q x
+
+-- whether a number is the greatest, where the greatest is known
+module _ (s : List ℕ) (n start : ℕ) (m : ℕ → ℕ) (a p : ℕ) (g : IsGreatest s n start m p) where
+  differs : (IsGreatest s n start m a → ⊥) → a ≡ p → ⊥
+  differs k e = k (rw e g)
+
+  agrees : ((IsGreatest s n start m a → ⊥) → ⊥) → a ≡ p
+  agrees k = equal a p (λ d. k (λ x. d (one-greatest s n start m a p x g)))
+
+  greatest-or : (IsGreatest s n start m a → ⊥) ⊎ ((IsGreatest s n start m a → ⊥) → ⊥)
+  greatest-or = go (same a p)
+    where
+      go : (a ≡ p) ⊎ ((a ≡ p) → ⊥) → (IsGreatest s n start m a → ⊥) ⊎ ((IsGreatest s n start m a → ⊥) → ⊥)
+      go (inl e) = inr (λ k. differs k e)
+      go (inr k) = inl (λ x. k (one-greatest s n start m a p x g))
+
+-- an answer a of the check: a refusal of stages 1 to 9 is its own, and for a font that passed them the rows after them hold
+module _ (s : List ℕ) (after : Font → Checked → Type 0) (a : Checked) (stop : (r : Refusal) → Refused r ≡ throughEntries s → a ≡ Refused r)
+    (on : (f : Font) → Sound f ≡ throughEntries s → after f a) where
+  stop-body : (r : Refusal) → Refused r ≡ throughBody s → a ≡ Refused r
+  stop-body r e = stop r (stages.entries-after s (Refused r) (sym e))
+
+  module _ (short : length s ≤ limit) where
+    stop-header : (r : Refusal) → Refused r ≡ saysOf s → a ≡ Refused r
+    stop-header r e = stop-body r (stages.body-after s (Refused r) (sym e) short)
+
+    -- a font that the header describes
+    module _ (f : Font) (says : Sound f ≡ saysOf s) where
+      cut : length s < f .end → a ≡ Refused (refusal BodyCut (length s))
+      cut h = stop-body _ (stages.body-cut (length s) f h ∙ stages.body-after s (Sound f) (sym says) short)
+
+      scan : f .end ≤ length s → entriesOf s f ≡ throughEntries s
+      scan h = stages.entries-after s (Sound f) (sym (stages.body-whole (length s) f h ∙ stages.body-after s (Sound f) (sym says) short))
+
+    psf1-rows : kindOf s ≡ Is Psf1 → Psf1Rows s after a
+    psf1-rows k =
+        let there = header.named-as s (Is Psf1) k in
+        decide (less (length s) 4) (λ h. stop-header _ (header.psf1-cut s h ∙ there)) (λ c.
+        decide (less 5 (getD s 2 0)) (λ h. stop-header _ (header.psf1-mode s (omega arith, h) ∙ there)) (λ m.
+        decide (same (getD s 3 0) 0) (λ h. stop-header _ (header.psf1-shape s ((omega arith, omega arith), h) ∙ there)) (λ z.
+        let f = psf1Font (psf1Count (getD s 2 0)) (getD s 3 0) (psf1Table (getD s 2 0)) in
+        let says = header.psf1-sound s ((omega arith, omega arith), z) ∙ there in
+        decide (less (length s) (4 + psf1Count (getD s 2 0) * getD s 3 0)) (cut f says) (λ b.
+        on f (stages.entries-of s f Psf1 refl ∙ scan f says (omega arith))))))
+
+    -- rows 3 to 6, whatever rows follow on the fields
+    module _ (shaped : Fields → Checked) (there : onFields shaped (headOf s) ≡ saysOf s) where
+      stop-head : (r : Refusal) → NoHead r ≡ headOf s → a ≡ Refused r
+      stop-head r e = stop-header r (ap (onFields shaped) e ∙ there)
+
+      head-rows : (rest : Checked → Type 0) → (shaped (fieldsOf s) ≡ saysOf s → rest a) → HeadRows s rest a
+      head-rows rest next =
+          decide (less (length s) 32) (λ h. stop-head _ (header.head-cut s h)) (λ c.
+          decide (other (le32 s 4) 0) (λ h. stop-head _ (header.head-version s (omega arith, h))) (λ v'.
+          let v : le32 s 4 ≡ 0 = equal (le32 s 4) 0 v' in
+          let long : header.Long s = (omega arith, v) in
+          decide (less 1 (le32 s 12)) (λ h. stop-head _ (header.head-flags s (long, h))) (λ b.
+          let flags : header.Flags s = (long, omega arith) in
+          decide (either (less (le32 s 8) 32) (less 4096 (le32 s 8)))
+          (⊎-elim (λ h. stop-head _ (header.head-low s (flags, h)))
+          (λ h. stop-head _ (header.head-high s (flags, omega arith, h)))) (λ z.
+          let low : le32 s 8 < 32 → ⊥ = λ h. z (inl h) in
+          let high : 4096 < le32 s 8 → ⊥ = λ h. z (inr h) in
+          let start : header.Start s = (flags, omega arith, omega arith) in
+          decide (either (same (le32 s 16) 0) (less 4096 (le32 s 16)))
+          (⊎-elim (λ h. stop-head _ (header.head-none s (start, h)))
+          (λ h. stop-head _ (header.head-many s (start, (λ e. absurd (omega arith)), h)))) (λ n.
+          let some : le32 s 16 ≡ 0 → ⊥ = λ h. n (inl h) in
+          let few : 4096 < le32 s 16 → ⊥ = λ h. n (inr h) in
+          next (ap (onFields shaped) (header.head-sound s (start, some, omega arith)) ∙ there))))))
+
+    psf2-rows : kindOf s ≡ Is Psf2 → Psf2Rows s after a
+    unfolding glyphBytes
+    psf2-rows k =
+        head-rows psf2Shaped (header.named-as s (Is Psf2) k) _ (λ there.
+        let f = fieldsOf s in
+        decide (either (less (le32 s 24) 1) (less 255 (le32 s 24)))
+        (⊎-elim (λ h. stop-header _ (header.height-low f h ∙ there)) (λ h. stop-header _ (header.height-high f (omega arith, h) ∙ there))) (λ t.
+        let t1 : le32 s 24 < 1 → ⊥ = λ h. t (inl h) in
+        let t2 : 255 < le32 s 24 → ⊥ = λ h. t (inr h) in
+        let tall : header.Height f = (omega arith, omega arith) in
+        decide (either (less (le32 s 28) 1) (less 255 (le32 s 28)))
+        (⊎-elim (λ h. stop-header _ (header.width-low f (tall, h) ∙ there))
+        (λ h. stop-header _ (header.width-high f (tall, omega arith, h) ∙ there))) (λ w.
+        let w1 : le32 s 28 < 1 → ⊥ = λ h. w (inl h) in
+        let w2 : 255 < le32 s 28 → ⊥ = λ h. w (inr h) in
+        let broad : header.Width f = (tall, omega arith, omega arith) in
+        decide (other (le32 s 20) (le32 s 24 * rowBytes (le32 s 28)))
+        (λ h. stop-header _ (header.size-wrong f (broad, h) ∙ there)) (λ z.
+        let e : le32 s 20 ≡ le32 s 24 * rowBytes (le32 s 28) = equal (le32 s 20) (le32 s 24 * rowBytes (le32 s 28)) z in
+        let says = header.psf2-sound f (broad, e) ∙ there in
+        decide (less (length s) (le32 s 8 + le32 s 16 * le32 s 20)) (cut (psf2Font f) says) (λ b.
+        on (psf2Font f) (stages.entries-of s (psf2Font f) Psf2 refl ∙ scan (psf2Font f) says (omega arith)))))))
+
+    -- row 9
+    entry-rows : (x : Scan) → scanOf s (le32 s 20) (le32 s 8) (le32 s 16) 0 0 0 ≡ x → scanned (vfont2Font (fieldsOf s)) x ≡ throughEntries s →
+        EntryRows s (after (vfont2Font (fieldsOf s))) a
+    entry-rows (BrokenAt i) e there = given-at i (scan-broken s (le32 s 20) (le32 s 16) (le32 s 8) i e) (stop _ there)
+    entry-rows (Greatest p q) e there =
+        let f = vfont2Font (fieldsOf s) in
+        let g = scan-greatest s (le32 s 20) (le32 s 16) (le32 s 8) p q e in
+        skipped-at (λ i b. g .0 i (b .within) (b .breaks))
+        (decide (greatest-or s (le32 s 16) (le32 s 8) (rowsAt s) (le32 s 24) p (g .1))
+        (λ n. stop _ (stages.height-wrong f p q (differs s (le32 s 16) (le32 s 8) (rowsAt s) (le32 s 24) p (g .1) n) ∙ there)) (λ m.
+        let h = agrees s (le32 s 16) (le32 s 8) (rowsAt s) (le32 s 24) p (g .1) m in
+        decide (greatest-or s (le32 s 16) (le32 s 8) (colsAt s) (le32 s 28) q (g .2))
+        (λ n. stop _ (stages.width-wrong f p q (h, differs s (le32 s 16) (le32 s 8) (colsAt s) (le32 s 28) q (g .2) n) ∙ there)) (λ r.
+        let w = agrees s (le32 s 16) (le32 s 8) (colsAt s) (le32 s 28) q (g .2) r in
+        on f (stages.greatest-right f p q (h, w) ∙ there))))
+
+    vfont2-rows : kindOf s ≡ Is Vfont2 → Vfont2Rows s after a
+    vfont2-rows k =
+        head-rows vfont2Shaped (header.named-as s (Is Vfont2) k) _ (λ there.
+        let f = fieldsOf s in
+        decide (less 255 (le32 s 24)) (λ h. stop-header _ (header.tall f h ∙ there)) (λ t.
+        decide (less 255 (le32 s 28)) (λ h. stop-header _ (header.broad f (omega arith, h) ∙ there)) (λ w.
+        let says = header.vfont2-sound f (omega arith, omega arith) ∙ there in
+        decide (less (length s) (le32 s 8 + le32 s 16 * 18 + le32 s 20)) (cut (vfont2Font f) says) (λ b.
+        entry-rows _ refl (stages.entries-of s (vfont2Font f) Vfont2 refl ∙ scan (vfont2Font f) says (omega arith))))))
+
+    kind-rows : (x : Named) → kindOf s ≡ x →
+        Row ((Begins (magicOf Psf1) s → ⊥) × (Begins (magicOf Psf2) s → ⊥) × (Begins (magicOf Vfont2) s → ⊥)) Kind 0 (KindRows s after) a
+    kind-rows (Is Psf1) k = let b = rw k at (kind-says s) in skipped (λ n. n .0 b) (inl (b, psf1-rows k))
+    kind-rows (Is Psf2) k = let b = rw k at (kind-says s) in skipped (λ n. n .1 b) (inr (inl (b, psf2-rows k)))
+    kind-rows (Is Vfont2) k = let b = rw k at (kind-says s) in skipped (λ n. n .2 b) (inr (inr (b, vfont2-rows k)))
+    kind-rows Unknown k = given (rw k at (kind-says s)) (stop-header _ (header.named-as s Unknown k))
+
+  pub rows-then : RowsThen s after a
+  rows-then = decide (less limit (length s)) (λ h. stop-body _ (stages.too-long s h)) (λ n. kind-rows (omega arith) (kindOf s) refl)
