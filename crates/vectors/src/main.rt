@@ -1,9 +1,11 @@
 // Answers a script of questions on fonts, read from standard input, by the public calls, and writes a line for each answer.
 // `rt ci` compares the lines with those of the independent second implementation in rust/second, which also wrote the script
 // (rust/vectors/src/script.rs lists the records). Nothing here is trusted: a script that is cut or wrong is read as zeros.
+use bitmap::GlyphMetrics;
 use bitmap::Part;
 use bitmap::Pixel;
 use convert::Converted;
+use entries::Metrics;
 use fonts::Lookup;
 use fonts::Walk;
 use header::Checked;
@@ -168,10 +170,11 @@ fn bytes(p: &[u8]) {
 }
 
 fn refused(r: Refusal) {
+    let reason = r.reason;
     say(b"refused ");
-    decimal(base::size(refusal::number(r)));
+    decimal(base::size(refusal::number(reason)));
     say(b" ");
-    decimal(refusal::place(r));
+    decimal(r.place);
 }
 
 fn kind_name(k: Kind) {
@@ -246,7 +249,72 @@ fn ask_pixel(file: &[u8], g: usize, y: usize, x: usize) {
     let p = fonts::pixel(file, g, y, x);
     match p {
         Pixel::Bit(b) => decimal(base::size(base::wide(b))),
-        Pixel::NoPixel(r) => refused(r),
+        Pixel::Refused(r) => refused(r),
+    }
+}
+
+// A number of two bytes as a signed one.
+fn signed(v: u32) -> i32
+    requires { ⌜ v < 65536 ⌝ }
+{
+    if v < 32768 { v as i32 } else { v as i32 - 65536 }
+}
+
+fn is_same(m: Metrics, up: i32, down: i32, left: i32, right: i32, logical: i32) -> bool {
+    if m.up != up {
+        return false;
+    }
+    if m.down != down {
+        return false;
+    }
+    if m.left != left {
+        return false;
+    }
+    if m.right != right {
+        return false;
+    }
+    m.logical == logical
+}
+
+fn told(is: bool) {
+    if is {
+        say(b"is");
+    } else {
+        say(b"is not");
+    }
+}
+
+fn asked(v: u32) {
+    decimal(base::size(v));
+    say(b" ");
+}
+
+// Whether glyph g has these metrics, each a number of two bytes.
+fn ask_metrics(file: &[u8], g: usize, a: &[u8]) {
+    say(b"metrics ");
+    decimal(g);
+    say(b" ");
+    let up = short_at(a, 9);
+    let down = short_at(a, 11);
+    let left = short_at(a, 13);
+    let right = short_at(a, 15);
+    let logical = short_at(a, 17);
+    asked(up);
+    asked(down);
+    asked(left);
+    asked(right);
+    asked(logical);
+    let r = fonts::metrics(file, g);
+    match r {
+        GlyphMetrics::Is(m) => told(is_same(
+            m,
+            signed(up),
+            signed(down),
+            signed(left),
+            signed(right),
+            signed(logical),
+        )),
+        GlyphMetrics::Refused(r) => refused(r),
     }
 }
 
@@ -274,7 +342,7 @@ fn ask_item(file: &[u8], g: usize, k: usize) {
     let w = fonts::item(file, g, k);
     match w {
         Walk::Is(i) => item_text(i),
-        Walk::NoWalk(r) => refused(r),
+        Walk::Refused(r) => refused(r),
     }
 }
 
@@ -284,7 +352,7 @@ fn looked_up(l: Lookup) {
             say(b"glyph ");
             decimal(g);
         }
-        Lookup::NoLookup(r) => refused(r),
+        Lookup::Refused(r) => refused(r),
     }
 }
 
@@ -372,6 +440,11 @@ fn ask(script: &[u8], at: usize, op: u8, file: &[u8]) -> usize {
             }
             say(b"\n");
             2 + 4 * n
+        }
+        0x17 => {
+            ask_metrics(file, index_at(a, 1), a);
+            say(b"\n");
+            19
         }
         _ => 1,
     }

@@ -24,6 +24,7 @@ use Rattle.vectors.proofs.part.Reads as part-reads
 use Rattle.vectors.proofs.say.Reads as say-reads
 use Rattle.vectors.proofs.sequence_at.Reads as sequence-at-reads
 use Rattle.vectors.proofs.word_at.Reads as word-at-reads
+use Rattle.vectors.proofs.ask_metrics.Reads as ask-metrics-reads
 
 part-requires : tie.Need-part-requires
 part-requires c κs = search needs
@@ -142,6 +143,18 @@ mul-result c = search needs
 add-result : tie.Need-add-result
 add-result c = search needs
 
+index-at-requires-9 : tie.Need-index-at-requires-9
+index-at-requires-9 c κs = search needs
+
+ask-metrics-requires : tie.Need-ask-metrics-requires
+ask-metrics-requires c κs = search needs
+
+slice-aggregate-say-8 : tie.Need-slice-aggregate-say-8
+slice-aggregate-say-8 c = search needs
+
+say-requires-8 : tie.Need-say-requires-8
+say-requires-8 c κs = search needs
+
 returns : tie.Need-returns
 returns c = search needs
 
@@ -165,6 +178,9 @@ returns-7 c = search needs
 
 returns-8 : tie.Need-returns-8
 returns-8 c = search needs
+
+returns-9 : tie.Need-returns-9
+returns-9 c = search needs
 
 pub ask-spec : {M : Type 1} → statement M
 ask-spec =
@@ -209,6 +225,10 @@ ask-spec =
     say-requires-7
     mul-result
     add-result
+    index-at-requires-9
+    ask-metrics-requires
+    slice-aggregate-say-8
+    say-requires-8
     returns
     returns-2
     returns-3
@@ -216,4 +236,5 @@ ask-spec =
     returns-5
     returns-6
     returns-7
-    returns-8)
+    returns-8
+    returns-9)
