@@ -1,7 +1,3 @@
--- What the public calls mean. To read first: Rows (refusals 1 to 12), Tables (demand 3) and Questions (the other refusals of walks and lookups).
-pub mod Rows
-pub mod Tables
-pub mod Questions
-pub mod Bitmaps
-pub mod Magic
-pub mod Reading
+-- What the public calls mean. To read first: Conversions.
+pub mod Converting
+pub mod Conversions

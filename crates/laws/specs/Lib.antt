@@ -1,2 +1,2 @@
 -- Document 01's table of refusals as statements.
-pub mod Rows
+pub mod Conversions
