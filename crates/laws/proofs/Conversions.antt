@@ -1,7 +1,7 @@
 -- What the conversions mean. The calls answer `convertedOf c s (length xs)` and leave `convertedInto c s xs` in the buffer xs; Bytes s holds
 -- of any slice.
 use mathlib.Core.Path.{_≡_, refl, sym, _∙_, ap, subst}
-use mathlib.Core.Logic.{_⊎_, inl, inr}
+use mathlib.Core.Logic.{_↔_, _⊎_, inl, inr}
 use mathlib.Core.List.{List}
 use Prim.Native.Nat.{ℕ, _≤_, _<_}
 use native.Mathlib.Omega.{arith}
@@ -10,9 +10,13 @@ use lib.Seq.{take-at, drop-at}
 use Rattle.base.specs.Bytes.{Bytes}
 use Rattle.base.specs.Over.{over}
 use Rattle.base.proofs.Tests.{below}
+use Rattle.refusal.specs.Refusals.{numberOf, refusal}
 use Rattle.refusal.specs.declared.Refusal.{Refusal}
+use Rattle.refusal.specs.declared.Reason.the-variants.{WrongKind, Glyphs, Value, Size, Room}
+use Rattle.table.specs.Grammar.{Desc}
 use Rattle.header.specs.declared.Font.{Font}
-use Rattle.header.specs.declared.Checked.the-variants.{Sound}
+use Rattle.header.specs.declared.Checked.the-variants.{Sound, Refused as Unsound}
+use Rattle.header.specs.Meaning.{limit}
 use Rattle.stages.specs.Reading.{checkOf}
 use Rattle.content.specs.Meaning.{Content, HasContent}
 use Rattle.content.proofs.Headers.{Plain}
@@ -26,8 +30,9 @@ use Rattle.convert.specs.declared.Converted.{Converted}
 use Rattle.convert.specs.declared.Converted.the-variants.{Wrote as Written, Refused}
 use Rattle.convert.specs.Reading.{convertedOf, convertedInto}
 use Rattle.convert.proofs.Cases.{unprepared, no-room, wrote}
-use Rattle.laws.specs.Conversions.{Keeps, Wrote}
-use Rattle.laws.proofs.Converting.{is-sound, is-source, output-length, output-bytes, output-keeps, output-back, keeps-twice}
+use Rattle.laws.specs.Conversions.{Reads, Keeps, Wrote, GlyphsAt, NoGlyphs, ValueAt, NoValue, needed}
+use Rattle.laws.proofs.Converting.{has-reading, is-sound, is-source, output-length, output-bytes, output-keeps, output-back, keeps-twice}
+use Rattle.laws.proofs.Deciding.{own-given, own-only, kind-given, kind-only, glyphs-given, glyphs-only, value-given, value-only, size-given, size-only, room-given, room-only, wrote-given, wrote-only, later}
 
 not-both : {A : Type 0} (x : Converted) (n : ℕ) (r : Refusal) → x ≡ Written n → x ≡ Refused r → A
 not-both x n r e q = let z : _≡_ {A = ℕ} 0 1 = cc in absurd (omega arith)
@@ -118,3 +123,58 @@ module _ (c d : Conversion) (s xs ys : List ℕ) (n k : ℕ) (y : Bytes s) (e : 
       let v = readied d o ys k q' in
       ap (λ (x : List ℕ). take k (convertedInto d x ys)) z ∙ output-is d o ys k (output-bytes c s f n y (w .1)) q'
       ∙ output-back c d s f n y (w .1) (v .0) k (v .1) same b p
+
+-- each refusal is given exactly when it should be: "Conversions: 17 to 21 in order", behind "the font's own refusal (1 to 12) first"
+module _ (c : Conversion) (s : List ℕ) (m : ℕ) (y : Bytes s) where
+  -- the font's own
+  pub own : (r : Refusal) → checkOf s ≡ Unsound r → convertedOf c s m ≡ Refused r
+  own = own-given c s m
+
+  -- and no refusal of 1 to 16 is given but for it
+  pub own-exactly : (r : Refusal) → numberOf (r .reason) ≤ 16 → (convertedOf c s m ≡ Refused r) ↔ (checkOf s ≡ Unsound r)
+  own-exactly r h = (own-only c s m y r h, own r)
+
+  module _ (f : Font) (sound : checkOf s ≡ Sound f) where
+    -- 17: "the call wants another kind"
+    pub wrong-kind-exactly : (convertedOf c s m ≡ Refused (refusal WrongKind 0)) ↔ (f .kind ≡ sourceKind c → ⊥)
+    wrong-kind-exactly = (kind-only c s m y f sound, kind-given c s m f sound)
+
+    -- every sound font has its descriptions
+    pub reading-exists : (ds : List Desc) × Reads s f ds
+    reading-exists = has-reading s f y sound
+
+    module _ (kind : f .kind ≡ sourceKind c) (ds : List Desc) (reads : Reads s f ds) where
+      -- 18
+      pub glyphs-exactly : (p : ℕ) → (convertedOf c s m ≡ Refused (refusal Glyphs p)) ↔ GlyphsAt c s f p
+      glyphs-exactly p = (glyphs-only c s f m y sound kind ds reads p, glyphs-given c s f m y sound kind ds reads p)
+
+      -- 19
+      pub value-exactly : (p : ℕ) → (convertedOf c s m ≡ Refused (refusal Value p)) ↔ (NoGlyphs c s f × ValueAt c f ds p)
+      value-exactly p = (value-only c s f m y sound kind ds reads p, λ (n, v). value-given c s f m y sound kind ds reads n p v)
+
+      -- 20: "the output is over 1,048,576 bytes"
+      pub size-exactly : (p : ℕ) → (convertedOf c s m ≡ Refused (refusal Size p)) ↔ ((p ≡ 0) × NoGlyphs c s f × NoValue c f ds × (limit < needed c f ds))
+      size-exactly p = (
+        size-only c s f m y sound kind ds reads p,
+        λ (z, n, v, h). size-given c s f m y sound kind ds reads n v h ∙ ap (λ (x : ℕ). Refused (refusal Size x)) (sym z),
+      )
+
+      -- 21: "the lent buffer is shorter than the output", place "size needed"
+      pub room-exactly : (p : ℕ) →
+          (convertedOf c s m ≡ Refused (refusal Room p)) ↔ ((p ≡ needed c f ds) × NoGlyphs c s f × NoValue c f ds × (needed c f ds ≤ limit) × (m < needed c f ds))
+      room-exactly p = (
+        room-only c s f m y sound kind ds reads p,
+        λ (z, n, v, h, l). room-given c s f m y sound kind ds reads n v h l ∙ ap (λ (x : ℕ). Refused (refusal Room x)) (sym z),
+      )
+
+      -- and else the output is written, and its length answered
+      pub wrote-exactly : (n : ℕ) →
+          (convertedOf c s m ≡ Written n) ↔ ((n ≡ needed c f ds) × NoGlyphs c s f × NoValue c f ds × (needed c f ds ≤ limit) × (needed c f ds ≤ m))
+      wrote-exactly n = (
+        wrote-only c s f m y sound kind ds reads n,
+        λ (z, g, v, h, l). wrote-given c s f m y sound kind ds reads g v h l ∙ ap Written (sym z),
+      )
+
+      -- no other refusal is given
+      pub no-other : (r : Refusal) → convertedOf c s m ≡ Refused r → 18 ≤ numberOf (r .reason)
+      no-other = later c s f m y sound kind ds reads
