@@ -1,101 +1,57 @@
 -- What the conversions mean. The calls answer `convertedOf c s (length xs)` and leave `convertedInto c s xs` in the buffer xs; Bytes s holds
 -- of any slice.
-use mathlib.Core.Path.{_≡_, refl, sym, _∙_, ap, subst}
-use mathlib.Core.Logic.{_↔_, _⊎_, inl, inr}
+use mathlib.Core.Path.{_≡_, sym, _∙_, ap, subst}
+use mathlib.Core.Logic.{_↔_}
 use mathlib.Core.List.{List}
-use Prim.Native.Nat.{ℕ, _≤_, _<_}
+use Prim.Native.Nat.{ℕ, _+_, _*_, _≤_, _<_}
 use native.Mathlib.Omega.{arith}
 use lib.ListN.{length, take, drop}
-use lib.Seq.{take-at, drop-at}
 use Rattle.base.specs.Bytes.{Bytes}
-use Rattle.base.specs.Over.{over}
-use Rattle.base.proofs.Tests.{below}
 use Rattle.refusal.specs.Refusals.{numberOf, refusal}
 use Rattle.refusal.specs.declared.Refusal.{Refusal}
 use Rattle.refusal.specs.declared.Reason.the-variants.{WrongKind, Glyphs, Value, Size, Room}
-use Rattle.table.specs.Grammar.{Desc}
+use Rattle.table.specs.Grammar.{Desc, items, encode, Readable}
+use Rattle.transcode.specs.Carrying.{FirstUncarried}
+use Rattle.coding.specs.declared.Coding.the-variants.{Utf8, Ucs2}
+use Rattle.header.specs.declared.Kind.{Kind}
 use Rattle.header.specs.declared.Font.{Font}
 use Rattle.header.specs.declared.Checked.the-variants.{Sound, Refused as Unsound}
 use Rattle.header.specs.Meaning.{limit}
+use Rattle.layout.specs.Meaning.{charSize}
+use Rattle.stages.specs.Meaning.{codingOf, tailOf}
 use Rattle.stages.specs.Reading.{checkOf}
 use Rattle.content.specs.Meaning.{Content, HasContent}
 use Rattle.content.proofs.Headers.{Plain}
 use Rattle.content.proofs.Self.{Bare}
 use Rattle.conversion.specs.declared.Conversion.{Conversion}
-use Rattle.conversion.specs.declared.Prepared.{Prepared}
-use Rattle.conversion.specs.declared.Prepared.the-variants.{Ready, Refused as Unprepared}
-use Rattle.conversion.specs.Meaning.{sourceKind, targetKind, outputOf}
-use Rattle.conversion.specs.Reading.{preparedOf}
-use Rattle.convert.specs.declared.Converted.{Converted}
+use Rattle.conversion.specs.declared.Conversion.the-variants.{Psf1ToPsf2, Psf2ToPsf1, Psf2ToVfont2, Vfont2ToPsf2}
+use Rattle.conversion.specs.Meaning.{sourceKind, targetKind, tableIn, outputOf, frontLen}
 use Rattle.convert.specs.declared.Converted.the-variants.{Wrote as Written, Refused}
 use Rattle.convert.specs.Reading.{convertedOf, convertedInto}
-use Rattle.convert.proofs.Cases.{unprepared, no-room, wrote}
-use Rattle.laws.specs.Conversions.{Reads, Keeps, Wrote, GlyphsAt, NoGlyphs, ValueAt, NoValue, needed}
-use Rattle.laws.proofs.Converting.{has-reading, is-sound, is-source, output-length, output-bytes, output-keeps, output-back, keeps-twice}
-use Rattle.laws.proofs.Deciding.{own-given, own-only, kind-given, kind-only, glyphs-given, glyphs-only, value-given, value-only, size-given, size-only, room-given, room-only, wrote-given, wrote-only, later}
-
-not-both : {A : Type 0} (x : Converted) (n : ℕ) (r : Refusal) → x ≡ Written n → x ≡ Refused r → A
-not-both x n r e q = let z : _≡_ {A = ℕ} 0 1 = cc in absurd (omega arith)
-
--- the front and the rest of a buffer over which something was laid
-front-is : (p xs : List ℕ) (n : ℕ) → length p ≡ n → take n (over p xs) ≡ p
-unfolding over
-front-is p xs n e = take-at p (drop (length p) xs) n e
-
-rest-is : (p xs : List ℕ) (n : ℕ) → length p ≡ n → drop n (over p xs) ≡ drop n xs
-unfolding over
-rest-is p xs n e = drop-at p (drop (length p) xs) n e ∙ ap (λ (m : ℕ). drop m xs) e
+use Rattle.laws.specs.Conversions.{Reads, Keeps, Wrote, GlyphsAt, NoGlyphs, ValueAt, NoValue, needed, Holds}
+use Rattle.laws.proofs.Converting.{has-reading, table-encodes, is-sound, is-source, output-length, output-bytes, output-keeps, output-back, keeps-twice, rest-is, stays, readied, output-is}
+use Rattle.laws.proofs.Deciding.{own-given, own-only, kind-given, kind-only, glyphs-given, glyphs-only, value-given, value-only, size-given, size-only, room-given, room-only, wrote-given, wrote-only, later, one-coding, first-value, is-surrogate, is-above}
 
 module _ (c : Conversion) (s xs : List ℕ) where
   -- "A refused conversion leaves the buffer untouched"
   pub untouched : (r : Refusal) → convertedOf c s (length xs) ≡ Refused r → convertedInto c s xs ≡ xs
-  untouched r e = go (preparedOf c s) refl
-    where
-      by-room : (f : Font) (n : ℕ) → preparedOf c s ≡ Ready f n → (length xs < n) ⊎ (n ≤ length xs) → convertedInto c s xs ≡ xs
-      by-room f n q (inl l) = sym (no-room c s xs f n q l .1)
-      by-room f n q (inr l) = not-both _ n r (sym (wrote c s xs f n q l .0)) e
-
-      go : (p : Prepared) → preparedOf c s ≡ p → convertedInto c s xs ≡ xs
-      go (Ready f n) q = by-room f n q (below (length xs) n)
-      go (Unprepared u) q = sym (unprepared c s xs u q .1)
-
-  -- an answer that something was written comes from a font that the conversion was ready for
-  readied : (n : ℕ) → convertedOf c s (length xs) ≡ Written n → (f : Font) × (preparedOf c s ≡ Ready f n) × (convertedInto c s xs ≡ over (outputOf c s f) xs)
-  readied n e = go (preparedOf c s) refl
-    where
-      same-length : (k : ℕ) → Written k ≡ Written n → k ≡ n
-      same-length k z = cc
-
-      by-room : (f : Font) (k : ℕ) → preparedOf c s ≡ Ready f k → (length xs < k) ⊎ (k ≤ length xs) →
-          (f : Font) × (preparedOf c s ≡ Ready f n) × (convertedInto c s xs ≡ over (outputOf c s f) xs)
-      by-room f k q (inl l) = not-both _ n _ e (sym (no-room c s xs f k q l .0))
-      by-room f k q (inr l) = let w = wrote c s xs f k q l in (f, q ∙ ap (Ready f) (same-length k (w .0 ∙ e)), sym (w .1))
-
-      go : (p : Prepared) → preparedOf c s ≡ p → (f : Font) × (preparedOf c s ≡ Ready f n) × (convertedInto c s xs ≡ over (outputOf c s f) xs)
-      go (Ready f k) q = by-room f k q (below (length xs) k)
-      go (Unprepared u) q = not-both _ n u e (sym (unprepared c s xs u q .0))
+  untouched r e = stays c s xs r e
 
   module _ (n : ℕ) (y : Bytes s) (e : convertedOf c s (length xs) ≡ Written n) where
-    -- the first n bytes are the output
-    output-is : take n (convertedInto c s xs) ≡ outputOf c s (readied n e .0)
-    output-is =
-        let w = readied n e in
-        ap (take n) (w .2) ∙ front-is (outputOf c s (w .0)) xs n (output-length c s (w .0) n y (w .1))
-
     -- where a conversion answers that it wrote n bytes, the first n bytes of the buffer are a sound font of the target's kind that keeps
     -- every glyph, pixel, metric and description, and the rest of the buffer is as it was
     pub means : Wrote c s n xs (convertedInto c s xs)
     means =
-        let w = readied n e in
+        let w = readied c s xs n e in
         let f = w .0 in
         record {
           font = f;
           sound = is-sound c s f n y (w .1);
           kind = is-source c s f n y (w .1);
-          long = ap length output-is ∙ output-length c s f n y (w .1);
+          long = ap length (output-is c s xs n y e) ∙ output-length c s f n y (w .1);
           behind = ap (drop n) (w .2) ∙ rest-is (outputOf c s f) xs n (output-length c s f n y (w .1));
-          octets = subst Bytes (sym output-is) (output-bytes c s f n y (w .1));
-          keeps = subst (λ (x : List ℕ). Keeps s f x (targetKind c)) (sym output-is) (output-keeps c s f n y (w .1));
+          octets = subst Bytes (sym (output-is c s xs n y e)) (output-bytes c s f n y (w .1));
+          keeps = subst (λ (x : List ℕ). Keeps s f x (targetKind c)) (sym (output-is c s xs n y e)) (output-keeps c s f n y (w .1));
         }
 
 -- there and back, where both steps are accepted: xs and ys are the two buffers
@@ -136,8 +92,8 @@ module _ (c : Conversion) (s : List ℕ) (m : ℕ) (y : Bytes s) where
 
   module _ (f : Font) (sound : checkOf s ≡ Sound f) where
     -- 17: "the call wants another kind"
-    pub wrong-kind-exactly : (convertedOf c s m ≡ Refused (refusal WrongKind 0)) ↔ (f .kind ≡ sourceKind c → ⊥)
-    wrong-kind-exactly = (kind-only c s m y f sound, kind-given c s m f sound)
+    pub wrong-kind-exactly : (p : ℕ) → (convertedOf c s m ≡ Refused (refusal WrongKind p)) ↔ ((p ≡ 0) × (f .kind ≡ sourceKind c → ⊥))
+    wrong-kind-exactly p = (kind-only c s m y f sound p, λ (z, n). kind-given c s m f sound n ∙ ap (λ (x : ℕ). Refused (refusal WrongKind x)) (sym z))
 
     -- every sound font has its descriptions
     pub reading-exists : (ds : List Desc) × Reads s f ds
@@ -178,3 +134,30 @@ module _ (c : Conversion) (s : List ℕ) (m : ℕ) (y : Bytes s) where
       -- no other refusal is given
       pub no-other : (r : Refusal) → convertedOf c s m ≡ Refused r → 18 ≤ numberOf (r .reason)
       no-other = later c s f m y sound kind ds reads
+
+      -- the output's length, by the table that is written
+      pub needed-is : needed c f ds ≡ frontLen c f + length (tableIn c (tailOf s f))
+      needed-is =
+          let r = subst (λ (k : Kind). Readable (codingOf k) ds × (tailOf s f ≡ encode (codingOf k) ds)) kind reads in
+          ap (λ (x : List ℕ). frontLen c f + length x) (sym (table-encodes c (tailOf s f) ds (r .0) (r .1)))
+
+      -- between PSF2 and vfont2 VALUE never applies
+      pub value-never : codingOf (sourceKind c) ≡ codingOf (targetKind c) → NoValue c f ds
+      value-never z = one-coding c f ds (subst (λ (k : Kind). Readable (codingOf k) ds) kind (reads .0)) z
+
+-- the bytes before the table, n glyphs of charSize f bytes each: "32 + nc", "4 + nc", "32 + 18n + nc", "32 + nc"
+pub front-lengths : (f : Font) →
+    (frontLen Psf1ToPsf2 f ≡ 32 + f .count * charSize f) × (frontLen Psf2ToPsf1 f ≡ 4 + f .count * charSize f)
+    × (frontLen Psf2ToVfont2 f ≡ 32 + f .count * 18 + f .count * charSize f) × (frontLen Vfont2ToPsf2 f ≡ 32 + f .count * charSize f)
+unfolding frontLen
+front-lengths f = (omega arith, omega arith, omega arith, omega arith)
+
+-- what VALUE is given for
+module _ (ds : List Desc) (k : ℕ) where
+  -- "VALUE at the first surrogate, D800 to DFFF": every value before it is one of UTF-8 (`carried`), and it is a surrogate
+  pub surrogate : Readable Ucs2 ds → (u : FirstUncarried Ucs2 Utf8 (items ds) 0 k) → (v : ℕ) × Holds v (u .item) × (0xD800 ≤ v) × (v ≤ 0xDFFF)
+  surrogate o u = let r = first-value Ucs2 Utf8 ds k o u in let z = is-surrogate (r .0) (r .2) (r .3) in (r .0, r .1, z .0, z .1)
+
+  -- "VALUE at the first value above FFFD"
+  pub above : Readable Utf8 ds → (u : FirstUncarried Utf8 Ucs2 (items ds) 0 k) → (v : ℕ) × Holds v (u .item) × (0xFFFD < v)
+  above o u = let r = first-value Utf8 Ucs2 ds k o u in (r .0, r .1, is-above (r .0) (r .3))

@@ -3,7 +3,7 @@ use mathlib.Core.Path.{_≡_, refl, sym, _∙_, ap, subst}
 use mathlib.Core.Logic.{_⊎_, inl, inr}
 use mathlib.Core.Bool.{Bool, true, false}
 use mathlib.Core.List.{List, []}
-use Prim.Native.Nat.{ℕ, _+_, _*_, _≤_, _<_}
+use Prim.Native.Nat.{ℕ, _*_, _≤_, _<_}
 use native.Mathlib.Omega.{arith}
 use lib.ListN.{length, take, drop}
 use lib.Seq.{take-at, drop-at}
@@ -11,13 +11,12 @@ use Rattle.base.specs.Bytes.{Bytes}
 use Rattle.base.specs.Over.{over}
 use Rattle.base.proofs.Parts.{bytes-drop}
 use Rattle.base.proofs.Tests.{below}
-use Rattle.coding.specs.declared.Coding.{Coding}
+use Rattle.refusal.specs.declared.Refusal.{Refusal}
 use Rattle.coding.specs.declared.Coding.the-variants.{Utf8, Ucs2}
 use Rattle.table.specs.Grammar.{Desc, encode, Readable}
 use Rattle.transcode.specs.declared.Measured.the-variants.{Length}
 use Rattle.transcode.proofs.Meaning.{recoded-table}
 use Rattle.header.specs.declared.Kind.{Kind}
-use Rattle.header.specs.declared.Kind.the-variants.{Psf1, Psf2, Vfont2}
 use Rattle.header.specs.declared.Font.{Font}
 use Rattle.header.specs.declared.Checked.the-variants.{Sound}
 use Rattle.header.specs.Meaning.{limit, glyphBytes}
@@ -26,6 +25,7 @@ use Rattle.bitmap.specs.declared.Located.{Located}
 use Rattle.bitmap.specs.declared.Located.the-variants.{Found}
 use Rattle.bitmap.specs.declared.GlyphMetrics.the-variants.{Is}
 use Rattle.bitmap.specs.declared.Pixel.the-variants.{Bit}
+use Rattle.bitmap.specs.Meaning.{evenMetrics}
 use Rattle.bitmap.specs.Reading.{bitmapOf, wholeOf, pixelOf, metricsOf, viewOf}
 use Rattle.bitmap.proofs.Places.{too-high, pixel-in, pixel-past, pixel-below}
 use Rattle.layout.specs.Meaning.{charSize, evenly, fieldAt20, glyphsIn}
@@ -44,11 +44,16 @@ use Rattle.content.proofs.Self.{Bare}
 use Rattle.content.proofs.Kept.{rewritten, rewrittenFont, rewritten-length, rewritten-bytes, rewritten-as, rewritten-sound, rewritten-tail, rewritten-content, rewritten-back}
 use Rattle.conversion.specs.declared.Conversion.{Conversion}
 use Rattle.conversion.specs.declared.Conversion.the-variants.{Psf1ToPsf2, Psf2ToPsf1, Psf2ToVfont2, Vfont2ToPsf2}
-use Rattle.conversion.specs.declared.Prepared.the-variants.{Ready}
+use Rattle.conversion.specs.declared.Prepared.{Prepared}
+use Rattle.conversion.specs.declared.Prepared.the-variants.{Ready, Refused as Unprepared}
 use Rattle.conversion.specs.Meaning.{sourceKind, targetKind, tableIn, outputOf, frontLen}
 use Rattle.conversion.specs.Reading.{measuredOf, preparedOf}
 use Rattle.conversion.proofs.Cases.{measured-is, suits-is}
 use Rattle.conversion.proofs.Ready.{psf1-suits}
+use Rattle.convert.specs.declared.Converted.{Converted}
+use Rattle.convert.specs.declared.Converted.the-variants.{Wrote as Written, Refused}
+use Rattle.convert.specs.Reading.{convertedOf, convertedInto}
+use Rattle.convert.proofs.Cases.{unprepared, no-room, wrote}
 use Rattle.convert.proofs.Asks.{ready, ready-even, ready-long}
 use Rattle.laws.specs.Conversions.{Reads, Keeps}
 
@@ -83,7 +88,7 @@ module _ (s : List ℕ) (f : Font) (y : Bytes s) (e : checkOf s ≡ Sound f) (g 
   viewed : viewOf s (wholeOf (bitmapOf s f g)) ≡ p
   viewed = ap (λ (b : Located). viewOf s (wholeOf b)) located ∙ ap (λ (k : ℕ). take k (drop (bitmapIn s f g (f .kind) .start) s)) (a .0 .4) ∙ a .2
 
-  measures : metricsOf s f g (bitmapOf s f g) ≡ Is (Rattle.bitmap.specs.Meaning.evenMetrics h w)
+  measures : metricsOf s f g (bitmapOf s f g) ≡ Is (evenMetrics h w)
   measures = ap (metricsOf s f g) located ∙ ap Is (a .0 .1)
 
 -- two bitmaps of one height and width, with the same bytes
@@ -269,7 +274,7 @@ module _ (c d : Conversion) (s : List ℕ) (f : Font) (n : ℕ) (y : Bytes s) (e
       let f1 = rewrittenFont s f (targetKind c) in
       output-rewritten d out g k (output-bytes c s f n y e) q
       ∙ (λ i. rewritten (output-rewritten c s f n y e i) (the-font i) ((same ∙ sym src) i) (tableIn d (tailOf (output-rewritten c s f n y e i) (the-font i))))
-      ∙ rewritten-back s f y (is-sound c s f n y e) (Rattle.convert.proofs.Asks.ready-even c s f n y e) (targetKind c) (tableIn c (tailOf s f)) (shape c s f n y e) (carried c s f n y e) (short c s f n y e)
+      ∙ rewritten-back s f y (is-sound c s f n y e) (ready-even c s f n y e) (targetKind c) (tableIn c (tailOf s f)) (shape c s f n y e) (carried c s f n y e) (short c s f n y e)
       (subst Bare (sym src) b) (subst (Plain s) (sym src) p) (tableIn d (tailOf o1 f1)) (ap (tableIn d) (out-tail c s f n y e) ∙ table-back)
 
 -- what is kept twice is kept
@@ -296,3 +301,52 @@ keeps-twice s o p f g j k a e b =
       reading = λ ds r. b .reading ds (a .reading ds r);
       content = λ m h. b .content m (a .content m h);
     }
+
+not-both : {A : Type 0} (x : Converted) (n : ℕ) (r : Refusal) → x ≡ Written n → x ≡ Refused r → A
+not-both x n r e q = let z : _≡_ {A = ℕ} 0 1 = cc in absurd (omega arith)
+
+-- the front and the rest of a buffer over which something was laid
+front-is : (p xs : List ℕ) (n : ℕ) → length p ≡ n → take n (over p xs) ≡ p
+unfolding over
+front-is p xs n e = take-at p (drop (length p) xs) n e
+
+pub rest-is : (p xs : List ℕ) (n : ℕ) → length p ≡ n → drop n (over p xs) ≡ drop n xs
+unfolding over
+rest-is p xs n e = drop-at p (drop (length p) xs) n e ∙ ap (λ (m : ℕ). drop m xs) e
+
+-- the answer and the buffer
+module _ (c : Conversion) (s xs : List ℕ) where
+  -- a refused conversion leaves the buffer as it was
+  pub stays : (r : Refusal) → convertedOf c s (length xs) ≡ Refused r → convertedInto c s xs ≡ xs
+  stays r e = go (preparedOf c s) refl
+    where
+      by-room : (f : Font) (n : ℕ) → preparedOf c s ≡ Ready f n → (length xs < n) ⊎ (n ≤ length xs) → convertedInto c s xs ≡ xs
+      by-room f n q (inl l) = sym (no-room c s xs f n q l .1)
+      by-room f n q (inr l) = not-both _ n r (sym (wrote c s xs f n q l .0)) e
+
+      go : (p : Prepared) → preparedOf c s ≡ p → convertedInto c s xs ≡ xs
+      go (Ready f n) q = by-room f n q (below (length xs) n)
+      go (Unprepared u) q = sym (unprepared c s xs u q .1)
+
+  -- an answer that something was written comes from a font that the conversion was ready for
+  pub readied : (n : ℕ) → convertedOf c s (length xs) ≡ Written n → (f : Font) × (preparedOf c s ≡ Ready f n) × (convertedInto c s xs ≡ over (outputOf c s f) xs)
+  readied n e = go (preparedOf c s) refl
+    where
+      same-length : (k : ℕ) → Written k ≡ Written n → k ≡ n
+      same-length k z = cc
+
+      by-room : (f : Font) (k : ℕ) → preparedOf c s ≡ Ready f k → (length xs < k) ⊎ (k ≤ length xs) →
+          (f : Font) × (preparedOf c s ≡ Ready f n) × (convertedInto c s xs ≡ over (outputOf c s f) xs)
+      by-room f k q (inl l) = not-both _ n _ e (sym (no-room c s xs f k q l .0))
+      by-room f k q (inr l) = let w = wrote c s xs f k q l in (f, q ∙ ap (Ready f) (same-length k (w .0 ∙ e)), sym (w .1))
+
+      go : (p : Prepared) → preparedOf c s ≡ p → (f : Font) × (preparedOf c s ≡ Ready f n) × (convertedInto c s xs ≡ over (outputOf c s f) xs)
+      go (Ready f k) q = by-room f k q (below (length xs) k)
+      go (Unprepared u) q = not-both _ n u e (sym (unprepared c s xs u q .0))
+
+  module _ (n : ℕ) (y : Bytes s) (e : convertedOf c s (length xs) ≡ Written n) where
+    -- the first n bytes are the output
+    pub output-is : take n (convertedInto c s xs) ≡ outputOf c s (readied n e .0)
+    output-is =
+        let w = readied n e in
+        ap (take n) (w .2) ∙ front-is (outputOf c s (w .0)) xs n (output-length c s (w .0) n y (w .1))

@@ -2,10 +2,9 @@
 use mathlib.Core.Path.{_≡_, refl, sym, _∙_, ap, subst}
 use mathlib.Core.Logic.{_↔_, _⊎_, inl, inr}
 use mathlib.Core.Bool.{Bool, true, false}
-use mathlib.Core.List.{List}
-use Prim.Native.Nat.{ℕ, zero, suc, _+_, _-_, _≤_, _<_}
+use mathlib.Core.List.{List, [], _∷_, _++_}
+use Prim.Native.Nat.{ℕ, zero, suc, _+_, _≤_, _<_}
 use native.Mathlib.Omega.{arith}
-use lib.Dec.{ltb, eqb}
 use lib.ListN.{length}
 use borrow.Author.Tests.{lt-ltb, le-ltb, eq-eqb, ne-eqb}
 use Rattle.base.specs.Choice.{when}
@@ -15,8 +14,11 @@ use Rattle.refusal.specs.Refusals.{numberOf, refusal}
 use Rattle.refusal.specs.declared.Refusal.{Refusal}
 use Rattle.refusal.specs.declared.Reason.the-variants.{WrongKind, Glyphs, Value, Size, Room}
 use Rattle.coding.specs.declared.Coding.{Coding}
-use Rattle.coding.specs.declared.Coding.the-variants.{Utf8}
-use Rattle.table.specs.Grammar.{Desc, items, encode, Readable}
+use Rattle.coding.specs.declared.Coding.the-variants.{Utf8, Ucs2}
+use Rattle.coding.specs.Coding.{valueOf}
+use Rattle.table.specs.declared.Item.{Item}
+use Rattle.table.specs.declared.Item.the-variants.{Single, Start, Value as InSequence, End}
+use Rattle.table.specs.Grammar.{Desc, items, OfCoding, encode, Readable}
 use Rattle.transcode.specs.declared.Measured.{Measured}
 use Rattle.transcode.specs.declared.Measured.the-variants.{Length, Uncarried}
 use Rattle.transcode.specs.Transcode.{tableLen}
@@ -40,16 +42,16 @@ use Rattle.conversion.specs.declared.Evenness.the-variants.{Even, UnevenAt}
 use Rattle.conversion.specs.declared.Suits.{Suits}
 use Rattle.conversion.specs.declared.Suits.the-variants.{Yes, Refused as Unsuited}
 use Rattle.conversion.specs.declared.Prepared.{Prepared}
-use Rattle.conversion.specs.declared.Prepared.the-variants.{Ready, Refused as Unprepared}
-use Rattle.conversion.specs.Meaning.{sourceKind, targetKind, frontLen, EvenGlyph, FirstUneven}
-use Rattle.conversion.specs.Reading.{sameKind, openedOf, isPsf1Count, suitsPsf1, isEven, evenness, evenSuits, suitsOf, measuredOf, fitting, measuredThen, suitsThen, preparedOn, preparedOf}
-use Rattle.conversion.proofs.Cases.{kind-same, right-kind, wrong-kind, not-opened, count-256, count-512, count-wrong, width-other, width-eight, last-logical, even-next, at-uneven, uneven-within, measured-is, suits-is, too-large, fits, suited, unsuited, opened-as}
+use Rattle.conversion.specs.declared.Prepared.the-variants.{Refused as Unprepared}
+use Rattle.conversion.specs.Meaning.{sourceKind, targetKind, EvenGlyph, FirstUneven}
+use Rattle.conversion.specs.Reading.{sameKind, isPsf1Count, suitsPsf1, isEven, evenness, evenSuits, suitsOf, measuredOf, fitting, measuredThen, preparedOn, preparedOf}
+use Rattle.conversion.proofs.Cases.{kind-same, right-kind, wrong-kind, not-opened, count-256, count-512, count-wrong, width-other, width-eight, last-logical, uneven-within, measured-is, suits-is, too-large, fits, suited, unsuited, opened-as}
 use Rattle.conversion.proofs.Ready.{even-fields}
 use Rattle.convert.specs.declared.Converted.{Converted}
 use Rattle.convert.specs.declared.Converted.the-variants.{Wrote, Refused}
 use Rattle.convert.specs.Reading.{converted, convertedOf}
 use Rattle.laws.proofs.Converting.{has-reading}
-use Rattle.laws.specs.Conversions.{Reads, GlyphsAt, NoGlyphs, ValueAt, NoValue, needed}
+use Rattle.laws.specs.Conversions.{Reads, GlyphsAt, NoGlyphs, ValueAt, NoValue, needed, Holds}
 
 -- the number of an answer, 0 where there is no refusal
 abbrev pub numbered : Converted → ℕ
@@ -234,6 +236,54 @@ module _ (c : Conversion) (tl : List ℕ) (ds : List Desc) (o : Readable (coding
   not-carried : {A : Type 0} (x : Measured) (n k g : ℕ) → x ≡ Length n → x ≡ Uncarried k g → A
   not-carried x n k g a b = let z : _≡_ {A = ℕ} 0 1 = cc in absurd (omega arith)
 
+-- where the codings are one, every value is carried
+pub one-coding : (c : Conversion) (f : Font) (ds : List Desc) → Readable (codingOf (sourceKind c)) ds → codingOf (sourceKind c) ≡ codingOf (targetKind c) → NoValue c f ds
+one-coding c f ds o z p (k, q, u) =
+    let r = value-by c (encode (codingOf (sourceKind c)) ds) ds o refl k u in
+    let w = length-exactly (codingOf (sourceKind c)) (codingOf (targetKind c)) ds (encode (codingOf (sourceKind c)) ds) o refl (length (encode (codingOf (targetKind c)) ds)) .1
+    (subst (λ (x : Coding). Readable x ds) z o, refl) in
+    not-carried c (encode (codingOf (sourceKind c)) ds) ds o refl _ _ _ _ (measured-as c (encode (codingOf (sourceKind c)) ds) ds o refl ∙ w) (r .1)
+
+-- an item that one coding has and another hasn't has a value that the other hasn't
+uncarried-value : (from to : Coding) (i : Item) → OfCoding from (i ∷ []) → (OfCoding to (i ∷ []) → ⊥) → (v : ℕ) × Holds v i × valueOf from v × (valueOf to v → ⊥)
+uncarried-value from to (Single v) o u = (v, inl refl, o .0, λ x. u (x, tt))
+uncarried-value from to (InSequence v) o u = (v, inr refl, o .0, λ x. u (x, tt))
+uncarried-value from to Start o u = absurd (u tt)
+uncarried-value from to End o u = absurd (u tt)
+
+item-of : (c : Coding) (before : List Item) (i : Item) (after : List Item) → OfCoding c (before ++ (i ∷ after)) → OfCoding c (i ∷ [])
+item-of c [] (Single v) after o = (o .0, tt)
+item-of c [] (InSequence v) after o = (o .0, tt)
+item-of c [] Start after o = tt
+item-of c [] End after o = tt
+item-of c (Single v ∷ is) i after o = item-of c is i after (o .1)
+item-of c (InSequence v ∷ is) i after o = item-of c is i after (o .1)
+item-of c (Start ∷ is) i after o = item-of c is i after o
+item-of c (End ∷ is) i after o = item-of c is i after o
+
+pub first-value : (from to : Coding) (ds : List Desc) (k : ℕ) → Readable from ds → (u : FirstUncarried from to (items ds) 0 k) → (v : ℕ) × Holds v (u .item) × valueOf from v × (valueOf to v → ⊥)
+first-value from to ds k o u =
+    uncarried-value from to (u .item) (item-of from (u .before) (u .item) (u .after) (subst (OfCoding from) (u .same) o)) (u .uncarried)
+
+-- "the first surrogate, D800 to DFFF"
+pub is-surrogate : (v : ℕ) → valueOf Ucs2 v → (valueOf Utf8 v → ⊥) → (0xD800 ≤ v) × (v ≤ 0xDFFF)
+unfolding valueOf
+is-surrogate v a n = go (below v 0xD800) (below v 0xE000)
+  where
+    go : (v < 0xD800) ⊎ (0xD800 ≤ v) → (v < 0xE000) ⊎ (0xE000 ≤ v) → (0xD800 ≤ v) × (v ≤ 0xDFFF)
+    go (inl l) y = absurd (n (inl l))
+    go (inr l) (inl h) = (l, omega arith)
+    go (inr l) (inr h) = absurd (n (inr (h, omega (arith, a))))
+
+-- "the first value above FFFD"
+pub is-above : (v : ℕ) → (valueOf Ucs2 v → ⊥) → 0xFFFD < v
+unfolding valueOf
+is-above v n = go (below v 0xFFFE)
+  where
+    go : (v < 0xFFFE) ⊎ (0xFFFE ≤ v) → 0xFFFD < v
+    go (inl l) = absurd (n l)
+    go (inr l) = omega arith
+
 -- 20 and 21, by the output's length and the buffer's
 module _ (f : Font) (need m : ℕ) where
   over-limit : limit < need → converted (fitting f need) m ≡ Refused (refusal Size 0)
@@ -387,8 +437,10 @@ module _ (c : Conversion) (s : List ℕ) (m : ℕ) (y : Bytes s) where
     after-kind : f .kind ≡ sourceKind c → (r : Refusal) → convertedOf c s m ≡ Refused r → 18 ≤ numberOf (r .reason)
     after-kind q r z = let d = has-reading s f y e in later c s f m y e q (d .0) (d .1) r z
 
-    pub kind-only : convertedOf c s m ≡ Refused (refusal WrongKind 0) → f .kind ≡ sourceKind c → ⊥
-    kind-only z q = omega (arith, after-kind q (refusal WrongKind 0) z)
+    pub kind-only : (p : ℕ) → convertedOf c s m ≡ Refused (refusal WrongKind p) → (p ≡ 0) × (f .kind ≡ sourceKind c → ⊥)
+    kind-only p z =
+        let n : f .kind ≡ sourceKind c → ⊥ = λ q. omega (arith, after-kind q (refusal WrongKind p) z) in
+        (ap placed-at (sym z ∙ kind-given c s m f e n), n)
 
     after-sound : (r : Refusal) → convertedOf c s m ≡ Refused r → 17 ≤ numberOf (r .reason)
     after-sound r z = go (sameKind (sourceKind c) (f .kind)) refl

@@ -5,6 +5,8 @@ use mathlib.Core.Logic.{_⊎_}
 use mathlib.Core.List.{List}
 use lib.ListN.{length, take, drop}
 use Rattle.base.specs.Bytes.{Bytes}
+use Rattle.table.specs.declared.Item.{Item}
+use Rattle.table.specs.declared.Item.the-variants.{Single, Value}
 use Rattle.table.specs.Grammar.{Desc, items, encode, Readable}
 use Rattle.transcode.specs.Carrying.{FirstUncarried}
 use Rattle.header.specs.declared.Kind.{Kind}
@@ -76,3 +78,7 @@ NoValue c f ds = (p : ℕ) → ValueAt c f ds p → ⊥
 -- "32 + 18n + nc + t", "32 + nc + t", "4 + nc + t", with "t the bytes of the table in the target's coding"
 abbrev pub needed : Conversion → Font → List Desc → ℕ
 needed c f ds = frontLen c f + length (encode (codingOf (targetKind c)) ds)
+
+-- an item that has a value, single or in a sequence
+abbrev pub Holds : ℕ → Item → Type 0
+Holds v i = (i ≡ Single v) ⊎ (i ≡ Value v)
