@@ -30,7 +30,7 @@ use Rattle.convert.specs.declared.Converted.the-variants.{Wrote as Written, Ref
 use Rattle.convert.specs.Reading.{convertedOf, convertedInto}
 use Rattle.laws.specs.Conversions.{Reads, Keeps, Wrote, GlyphsAt, NoGlyphs, ValueAt, NoValue, needed, Holds}
 use Rattle.laws.proofs.Converting.{has-reading, table-encodes, is-sound, is-source, output-length, output-bytes, output-keeps, output-back, keeps-twice, rest-is, stays, readied, output-is}
-use Rattle.laws.proofs.Deciding.{own-given, own-only, kind-given, kind-only, glyphs-given, glyphs-only, value-given, value-only, size-given, size-only, room-given, room-only, wrote-given, wrote-only, later, one-coding, first-value, is-surrogate, is-above}
+use Rattle.laws.proofs.Refusing.{own-given, own-only, kind-given, kind-only, glyphs-given, glyphs-only, value-given, value-only, size-given, size-only, room-given, room-only, wrote-given, wrote-only, later, one-coding, first-value, is-surrogate, is-above}
 
 module _ (c : Conversion) (s xs : List ℕ) where
   -- "A refused conversion leaves the buffer untouched"

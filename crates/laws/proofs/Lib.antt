@@ -1,4 +1,4 @@
 -- What the public calls mean. To read first: Conversions.
 pub mod Converting
-pub mod Deciding
+pub mod Refusing
 pub mod Conversions
