@@ -1,3 +1,4 @@
--- Document 01's table of refusals as statements, and which glyphs have a bitmap.
+-- Document 01's table of refusals as statements, which glyphs have a bitmap, and what a conversion keeps.
 pub mod Rows
 pub mod Glyphs
+pub mod Conversions

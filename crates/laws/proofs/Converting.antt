@@ -1,0 +1,352 @@
+-- What a conversion that is ready writes: the font, written anew as a file of the target's kind.
+use mathlib.Core.Path.{_≡_, refl, sym, _∙_, ap, subst}
+use mathlib.Core.Logic.{_⊎_, inl, inr}
+use mathlib.Core.Bool.{Bool, true, false}
+use mathlib.Core.List.{List, []}
+use Prim.Native.Nat.{ℕ, _*_, _≤_, _<_}
+use native.Mathlib.Omega.{arith}
+use lib.ListN.{length, take, drop}
+use lib.Seq.{take-at, drop-at}
+use Rattle.base.specs.Bytes.{Bytes}
+use Rattle.base.specs.Over.{over}
+use Rattle.base.proofs.Parts.{bytes-drop}
+use Rattle.base.proofs.Tests.{below}
+use Rattle.refusal.specs.declared.Refusal.{Refusal}
+use Rattle.coding.specs.declared.Coding.the-variants.{Utf8, Ucs2}
+use Rattle.table.specs.Grammar.{Desc, encode, Readable}
+use Rattle.transcode.specs.declared.Measured.the-variants.{Length}
+use Rattle.transcode.proofs.Meaning.{recoded-table}
+use Rattle.header.specs.declared.Kind.{Kind}
+use Rattle.header.specs.declared.Font.{Font}
+use Rattle.header.specs.declared.Checked.the-variants.{Sound}
+use Rattle.header.specs.Meaning.{limit, glyphBytes}
+use Rattle.bitmap.specs.declared.Bitmap.{Bitmap}
+use Rattle.bitmap.specs.declared.Located.{Located}
+use Rattle.bitmap.specs.declared.Located.the-variants.{Found}
+use Rattle.bitmap.specs.declared.GlyphMetrics.the-variants.{Is}
+use Rattle.bitmap.specs.declared.Pixel.the-variants.{Bit}
+use Rattle.bitmap.specs.Meaning.{evenMetrics}
+use Rattle.bitmap.specs.Reading.{bitmapOf, wholeOf, pixelOf, metricsOf, viewOf}
+use Rattle.bitmap.proofs.Places.{too-high, pixel-in, pixel-past, pixel-below}
+use Rattle.layout.specs.Meaning.{charSize, evenly, fieldAt20, glyphsIn}
+use Rattle.stages.specs.Meaning.{codingOf, tailOf}
+use Rattle.stages.specs.Reading.{checkOf}
+use Rattle.content.specs.Meaning.{bitmapIn}
+use Rattle.content.proofs.Tails.{Tail, tail-known}
+use Rattle.content.proofs.Tables.{Carries, recoded-carries, same-carries}
+use Rattle.content.proofs.Headers.{Plain, written-is}
+use Rattle.content.proofs.Shapes.{KindShape, GlyphIs}
+use Rattle.content.proofs.Source.{source-glyph}
+use Rattle.content.proofs.Found.{glyph-found}
+use Rattle.content.proofs.Written.{evenly-place, written-width, written-glyph}
+use Rattle.content.proofs.Same.{same-pixels}
+use Rattle.content.proofs.Self.{Bare}
+use Rattle.content.proofs.Kept.{rewritten, rewrittenFont, rewritten-length, rewritten-bytes, rewritten-as, rewritten-sound, rewritten-tail, rewritten-content, rewritten-back}
+use Rattle.conversion.specs.declared.Conversion.{Conversion}
+use Rattle.conversion.specs.declared.Conversion.the-variants.{Psf1ToPsf2, Psf2ToPsf1, Psf2ToVfont2, Vfont2ToPsf2}
+use Rattle.conversion.specs.declared.Prepared.{Prepared}
+use Rattle.conversion.specs.declared.Prepared.the-variants.{Ready, Refused as Unprepared}
+use Rattle.conversion.specs.Meaning.{sourceKind, targetKind, tableIn, outputOf, frontLen}
+use Rattle.conversion.specs.Reading.{measuredOf, preparedOf}
+use Rattle.conversion.proofs.Cases.{measured-is, suits-is}
+use Rattle.conversion.proofs.Ready.{psf1-suits}
+use Rattle.convert.specs.declared.Converted.{Converted}
+use Rattle.convert.specs.declared.Converted.the-variants.{Wrote as Written, Refused}
+use Rattle.convert.specs.Reading.{convertedOf, convertedInto}
+use Rattle.convert.proofs.Cases.{unprepared, no-room, wrote}
+use Rattle.convert.proofs.Asks.{ready, ready-even, ready-long}
+use Rattle.laws.specs.Conversions.{Reads, Keeps}
+
+-- the descriptions of a sound font
+tail-reads : (s : List ℕ) (f : Font) (t : Bool) → Tail t (codingOf (f .kind)) (f .count) (tailOf s f) → (ds : List Desc) × Reads s f ds
+tail-reads s f true v = (v .reading, (v .values, v .same))
+tail-reads s f false v = ([], (tt, v))
+
+pub has-reading : (s : List ℕ) (f : Font) → Bytes s → checkOf s ≡ Sound f → (ds : List Desc) × Reads s f ds
+has-reading s f y e = tail-reads s f (f .table) (tail-known s f y e)
+
+-- a table of descriptions is written as the same descriptions in the target's coding
+pub table-encodes : (c : Conversion) (tl : List ℕ) (ds : List Desc) → Readable (codingOf (sourceKind c)) ds → tl ≡ encode (codingOf (sourceKind c)) ds →
+    tableIn c tl ≡ encode (codingOf (targetKind c)) ds
+table-encodes Psf1ToPsf2 tl ds o e = recoded-table Ucs2 Utf8 ds tl o e
+table-encodes Psf2ToPsf1 tl ds o e = recoded-table Utf8 Ucs2 ds tl o e
+table-encodes Psf2ToVfont2 tl ds o e = e
+table-encodes Vfont2ToPsf2 tl ds o e = e
+
+-- a table that was measured is carried
+carries : (c : Conversion) (tl : List ℕ) (t : ℕ) → Bytes tl → measuredOf c tl ≡ Length t → Carries (codingOf (sourceKind c)) (codingOf (targetKind c)) tl (tableIn c tl)
+carries Psf1ToPsf2 tl t y e = recoded-carries Ucs2 Utf8 tl t (measured-is Psf1ToPsf2 Psf1ToPsf2 tl refl ∙ e)
+carries Psf2ToPsf1 tl t y e = recoded-carries Utf8 Ucs2 tl t (measured-is Psf2ToPsf1 Psf2ToPsf1 tl refl ∙ e)
+carries Psf2ToVfont2 tl t y e = same-carries Utf8 Utf8 tl refl y
+carries Vfont2ToPsf2 tl t y e = same-carries Utf8 Utf8 tl refl y
+
+-- glyph g of two fonts, which fills one height and width with the same bytes, is answered alike
+module _ (s : List ℕ) (f : Font) (y : Bytes s) (e : checkOf s ≡ Sound f) (g : ℕ) (l : g < f .count) (h w : ℕ) (p : List ℕ) (a : GlyphIs s f g (f .kind) h w p) where
+  located : bitmapOf s f g ≡ Found (bitmapIn s f g (f .kind))
+  located = glyph-found s f y e g l (a .0 .0)
+
+  viewed : viewOf s (wholeOf (bitmapOf s f g)) ≡ p
+  viewed = ap (λ (b : Located). viewOf s (wholeOf b)) located ∙ ap (λ (k : ℕ). take k (drop (bitmapIn s f g (f .kind) .start) s)) (a .0 .4) ∙ a .2
+
+  measures : metricsOf s f g (bitmapOf s f g) ≡ Is (evenMetrics h w)
+  measures = ap (metricsOf s f g) located ∙ ap Is (a .0 .1)
+
+-- two bitmaps of one height and width, with the same bytes
+pixels-alike : (s o : List ℕ) (p q : Bitmap) (h w : ℕ) → p .height ≡ h → q .height ≡ h → p .width ≡ w → q .width ≡ w →
+    take (glyphBytes h w) (drop (p .start) s) ≡ take (glyphBytes h w) (drop (q .start) o) → (y x : ℕ) → pixelOf s (Found p) y x ≡ pixelOf o (Found q) y x
+pixels-alike s o p q h w hp hq wp wq e y x = go (below y h) (below x w)
+  where
+    go : (y < h) ⊎ (h ≤ y) → (x < w) ⊎ (w ≤ x) → pixelOf s (Found p) y x ≡ pixelOf o (Found q) y x
+    go (inl a) (inl b) =
+        pixel-in s p y x (omega (arith, a, hp)) (omega (arith, b, wp)) ∙ ap Bit (same-pixels s o p q h w wp wq e y x a b)
+        ∙ sym (pixel-in o q y x (omega (arith, a, hq)) (omega (arith, b, wq)))
+    go (inl a) (inr b) = pixel-past s p y x (omega (arith, a, hp)) (omega (arith, b, wp)) ∙ sym (pixel-past o q y x (omega (arith, a, hq)) (omega (arith, b, wq)))
+    go (inr a) b = sym (pixel-below s p y x (omega (arith, a, hp))) ∙ pixel-below o q y x (omega (arith, a, hq))
+
+module _ (c : Conversion) (s : List ℕ) (f : Font) (n : ℕ) (y : Bytes s) (e : preparedOf c s ≡ Ready f n) where
+  abbrev tl : List ℕ
+  tl = tableIn c (tailOf s f)
+
+  abbrev o : List ℕ
+  o = rewritten s f (targetKind c) (tableIn c (tailOf s f))
+
+  abbrev f' : Font
+  f' = rewrittenFont s f (targetKind c)
+
+  pub is-sound : checkOf s ≡ Sound f
+  is-sound = ready c s f n y e .sound
+
+  pub is-source : f .kind ≡ sourceKind c
+  is-source = ready c s f n y e .kind
+
+  -- the output is the font written anew
+  pub output-rewritten : outputOf c s f ≡ rewritten s f (targetKind c) (tableIn c (tailOf s f))
+  unfolding outputOf
+  output-rewritten = refl
+
+  shape-by : (d : Conversion) → c ≡ d → KindShape (targetKind d) (f .count) (f .width)
+  shape-by Psf1ToPsf2 q = tt
+  shape-by Psf2ToPsf1 q = psf1-suits f (suits-is Psf2ToPsf1 c s f q ∙ ready c s f n y e .suits)
+  shape-by Psf2ToVfont2 q = tt
+  shape-by Vfont2ToPsf2 q = tt
+
+  shape : KindShape (targetKind c) (f .count) (f .width)
+  shape = shape-by c refl
+
+  carried : Carries (codingOf (f .kind)) (codingOf (targetKind c)) (tailOf s f) tl
+  carried =
+      subst (λ (k : Kind). Carries (codingOf k) (codingOf (targetKind c)) (tailOf s f) tl) (sym is-source)
+      (carries c (tailOf s f) (ready c s f n y e .table) (bytes-drop (f .end) s y) (ready c s f n y e .measured))
+
+  out-length : length o ≡ n
+  unfolding frontLen
+  out-length = rewritten-length s f y is-sound (targetKind c) tl (ready-even c s f n y e) ∙ sym (ready-long c s f n y e)
+
+  short : length o ≤ limit
+  short = omega (arith, out-length, ready c s f n y e .short)
+
+  out-bytes : Bytes o
+  out-bytes = rewritten-bytes s f y is-sound (targetKind c) tl (carried .tail (f .table) (f .count) (tail-known s f y is-sound) .1)
+
+  out-sound : checkOf o ≡ Sound f'
+  out-sound = rewritten-sound s f y is-sound (ready-even c s f n y e) (targetKind c) tl shape carried short
+
+  out-is : (f' .kind ≡ targetKind c) × (f' .count ≡ f .count) × (f' .height ≡ f .height) × (f' .table ≡ f .table)
+  out-is = written-is (targetKind c) (f .table) (f .count) (fieldAt20 (targetKind c) (charSize f) (glyphsIn s f)) (f .height) (f .width)
+
+  out-width : f' .width ≡ f .width
+  out-width =
+      written-width (targetKind c) (f .table) (f .count) (fieldAt20 (targetKind c) (charSize f) (glyphsIn s f)) (f .height) (f .width)
+      (rewritten-as s f y is-sound (ready-even c s f n y e) (targetKind c) tl shape carried short .shape)
+
+  out-tail : tailOf o f' ≡ tl
+  out-tail = rewritten-tail s f y is-sound (ready-even c s f n y e) (targetKind c) tl shape carried short
+
+  -- its glyphs
+  module _ (g : ℕ) (l : g < f .count) where
+    abbrev part : List ℕ
+    part = take (charSize f) (drop (g * charSize f) (glyphsIn s f))
+
+    was : GlyphIs s f g (f .kind) (f .height) (f .width) part
+    was = source-glyph s f y is-sound (ready-even c s f n y e) g l
+
+    is : GlyphIs o f' g (f' .kind) (f .height) (f .width) part
+    is =
+        subst (λ (x : ℕ). GlyphIs o f' g (f' .kind) (f .height) (f .width) (take (charSize f) (drop x (glyphsIn s f)))) (evenly-place (targetKind c) (charSize f) (f .count) g l)
+        (written-glyph (targetKind c) (f .table) (f .count) (charSize f) (f .height) (f .width) (evenly (charSize f) 0 (f .count)) (glyphsIn s f) tl o
+        (rewritten-as s f y is-sound (ready-even c s f n y e) (targetKind c) tl shape carried short) g l)
+
+    below-out : g < f' .count
+    below-out = omega (arith, l, out-is .1)
+
+    glyph-kept : viewOf o (wholeOf (bitmapOf o f' g)) ≡ viewOf s (wholeOf (bitmapOf s f g))
+    glyph-kept =
+        viewed o f' out-bytes out-sound g below-out (f .height) (f .width) part is ∙ sym (viewed s f y is-sound g l (f .height) (f .width) part was)
+
+    metrics-kept : metricsOf o f' g (bitmapOf o f' g) ≡ metricsOf s f g (bitmapOf s f g)
+    metrics-kept =
+        measures o f' out-bytes out-sound g below-out (f .height) (f .width) part is ∙ sym (measures s f y is-sound g l (f .height) (f .width) part was)
+
+    pixels-kept : (i j : ℕ) → pixelOf o (bitmapOf o f' g) i j ≡ pixelOf s (bitmapOf s f g) i j
+    pixels-kept i j =
+        ap (λ (b : Located). pixelOf o b i j) (located o f' out-bytes out-sound g below-out (f .height) (f .width) part is)
+        ∙ pixels-alike o s (bitmapIn o f' g (f' .kind)) (bitmapIn s f g (f .kind)) (f .height) (f .width) (is .0 .2) (was .0 .2) (is .0 .3) (was .0 .3) (is .2 ∙ sym (was .2)) i j
+        ∙ sym (ap (λ (b : Located). pixelOf s b i j) (located s f y is-sound g l (f .height) (f .width) part was))
+
+  -- and those that neither has
+  glyph-any : (g : ℕ) → (g < f .count) ⊎ (f .count ≤ g) → viewOf o (wholeOf (bitmapOf o f' g)) ≡ viewOf s (wholeOf (bitmapOf s f g))
+  glyph-any g (inl l) = glyph-kept g l
+  glyph-any g (inr h) =
+      ap (λ (b : Located). viewOf o (wholeOf b)) (sym (too-high o f' g (omega (arith, h, out-is .1)))) ∙ ap (λ (b : Located). viewOf s (wholeOf b)) (too-high s f g h)
+
+  pixels-any : (g : ℕ) → (g < f .count) ⊎ (f .count ≤ g) → (i j : ℕ) → pixelOf o (bitmapOf o f' g) i j ≡ pixelOf s (bitmapOf s f g) i j
+  pixels-any g (inl l) i j = pixels-kept g l i j
+  pixels-any g (inr h) i j =
+      ap (λ (b : Located). pixelOf o b i j) (sym (too-high o f' g (omega (arith, h, out-is .1)))) ∙ ap (λ (b : Located). pixelOf s b i j) (too-high s f g h)
+
+  metrics-any : (g : ℕ) → (g < f .count) ⊎ (f .count ≤ g) → metricsOf o f' g (bitmapOf o f' g) ≡ metricsOf s f g (bitmapOf s f g)
+  metrics-any g (inl l) = metrics-kept g l
+  metrics-any g (inr h) = ap (metricsOf o f' g) (sym (too-high o f' g (omega (arith, h, out-is .1)))) ∙ ap (metricsOf s f g) (too-high s f g h)
+
+  reading-kept : (ds : List Desc) → Reads s f ds → Reads o f' ds
+  reading-kept ds r =
+      let x = carried .reading ds (r .0) (r .1) in
+      subst (λ (k : Kind). Readable (codingOf k) ds × (tailOf o f' ≡ encode (codingOf k) ds)) (sym (out-is .0)) (x .0, out-tail ∙ x .1)
+
+  -- it keeps what the font has
+  pub output-keeps : Keeps s f (outputOf c s f) (targetKind c)
+  output-keeps = subst (λ (x : List ℕ). Keeps s f x (targetKind c)) (sym output-rewritten) (record {
+    font = f';
+    sound = out-sound;
+    kind = out-is .0;
+    count = out-is .1;
+    height = out-is .2;
+    width = out-width;
+    table = out-is .3;
+    glyphs = λ g. glyph-any g (below g (f .count));
+    pixels = λ g i j. pixels-any g (below g (f .count)) i j;
+    metrics = λ g. metrics-any g (below g (f .count));
+    reading = reading-kept;
+    content = rewritten-content s f y is-sound (ready-even c s f n y e) (targetKind c) tl shape carried short;
+  })
+
+  pub output-length : length (outputOf c s f) ≡ n
+  output-length = ap length output-rewritten ∙ out-length
+
+  pub output-bytes : Bytes (outputOf c s f)
+  output-bytes = subst Bytes (sym output-rewritten) out-bytes
+
+-- written back as the kind that it was, it is the file that it was
+module _ (c d : Conversion) (s : List ℕ) (f : Font) (n : ℕ) (y : Bytes s) (e : preparedOf c s ≡ Ready f n) (g : Font) (k : ℕ) (q : preparedOf d (outputOf c s f) ≡ Ready g k)
+    (same : targetKind d ≡ sourceKind c) where
+  abbrev out : List ℕ
+  out = outputOf c s f
+
+  out-font : checkOf (outputOf c s f) ≡ Sound (rewrittenFont s f (targetKind c))
+  out-font = ap checkOf (output-rewritten c s f n y e) ∙ out-sound c s f n y e
+
+  one-font : (a b : Font) → checkOf (outputOf c s f) ≡ Sound a → checkOf (outputOf c s f) ≡ Sound b → a ≡ b
+  one-font a b p r = let z : Sound a ≡ Sound b = sym p ∙ r in cc
+
+  the-font : g ≡ rewrittenFont s f (targetKind c)
+  the-font = one-font g (rewrittenFont s f (targetKind c)) (is-sound d out g k (output-bytes c s f n y e) q) out-font
+
+  -- the second step began where the first ended
+  meets : targetKind c ≡ sourceKind d
+  meets = sym (out-is c s f n y e .0) ∙ sym (ap (λ (x : Font). x .kind) the-font) ∙ is-source d out g k (output-bytes c s f n y e) q
+
+  -- the table is the one that it was
+  table-back : tableIn d (tableIn c (tailOf s f)) ≡ tailOf s f
+  table-back =
+      let r = has-reading s f y (is-sound c s f n y e) in
+      let ds = r .0 in
+      let from : Readable (codingOf (sourceKind c)) ds × (tailOf s f ≡ encode (codingOf (sourceKind c)) ds) =
+      subst (λ (j : Kind). Readable (codingOf j) ds × (tailOf s f ≡ encode (codingOf j) ds)) (is-source c s f n y e) (r .1) in
+      let x : Readable (codingOf (targetKind c)) ds × (tableIn c (tailOf s f) ≡ encode (codingOf (targetKind c)) ds) = carried c s f n y e .reading ds (r .1 .0) (r .1 .1) in
+      let z : Readable (codingOf (sourceKind d)) ds × (tableIn c (tailOf s f) ≡ encode (codingOf (sourceKind d)) ds) =
+      subst (λ (j : Kind). Readable (codingOf j) ds × (tableIn c (tailOf s f) ≡ encode (codingOf j) ds)) meets x in
+      table-encodes d (tableIn c (tailOf s f)) ds (z .0) (z .1) ∙ ap (λ (j : Kind). encode (codingOf j) ds) same ∙ sym (from .1)
+
+  pub output-back : Bare (sourceKind c) → Plain s (sourceKind c) → outputOf d (outputOf c s f) g ≡ s
+  output-back b p =
+      let src = is-source c s f n y e in
+      let o1 = rewritten s f (targetKind c) (tableIn c (tailOf s f)) in
+      let f1 = rewrittenFont s f (targetKind c) in
+      output-rewritten d out g k (output-bytes c s f n y e) q
+      ∙ (λ i. rewritten (output-rewritten c s f n y e i) (the-font i) ((same ∙ sym src) i) (tableIn d (tailOf (output-rewritten c s f n y e i) (the-font i))))
+      ∙ rewritten-back s f y (is-sound c s f n y e) (ready-even c s f n y e) (targetKind c) (tableIn c (tailOf s f)) (shape c s f n y e) (carried c s f n y e) (short c s f n y e)
+      (subst Bare (sym src) b) (subst (Plain s) (sym src) p) (tableIn d (tailOf o1 f1)) (ap (tableIn d) (out-tail c s f n y e) ∙ table-back)
+
+-- what is kept twice is kept
+pub keeps-twice : (s o p : List ℕ) (f g : Font) (j k : Kind) → Keeps s f o j → checkOf o ≡ Sound g → Keeps o g p k → Keeps s f p k
+keeps-twice s o p f g j k a e b =
+    let same : g ≡ a .font = sound-same g (a .font) (sym e ∙ a .sound) in
+    join (subst (λ (x : Font). Keeps o x p k) same b)
+  where
+    sound-same : (x z : Font) → Sound x ≡ Sound z → x ≡ z
+    sound-same x z q = cc
+
+    join : Keeps o (a .font) p k → Keeps s f p k
+    join b = record {
+      font = b .font;
+      sound = b .sound;
+      kind = b .kind;
+      count = b .count ∙ a .count;
+      height = b .height ∙ a .height;
+      width = b .width ∙ a .width;
+      table = b .table ∙ a .table;
+      glyphs = λ g. b .glyphs g ∙ a .glyphs g;
+      pixels = λ g y x. b .pixels g y x ∙ a .pixels g y x;
+      metrics = λ g. b .metrics g ∙ a .metrics g;
+      reading = λ ds r. b .reading ds (a .reading ds r);
+      content = λ m h. b .content m (a .content m h);
+    }
+
+not-both : {A : Type 0} (x : Converted) (n : ℕ) (r : Refusal) → x ≡ Written n → x ≡ Refused r → A
+not-both x n r e q = let z : _≡_ {A = ℕ} 0 1 = cc in absurd (omega arith)
+
+-- the front and the rest of a buffer over which something was laid
+front-is : (p xs : List ℕ) (n : ℕ) → length p ≡ n → take n (over p xs) ≡ p
+unfolding over
+front-is p xs n e = take-at p (drop (length p) xs) n e
+
+pub rest-is : (p xs : List ℕ) (n : ℕ) → length p ≡ n → drop n (over p xs) ≡ drop n xs
+unfolding over
+rest-is p xs n e = drop-at p (drop (length p) xs) n e ∙ ap (λ (m : ℕ). drop m xs) e
+
+-- the answer and the buffer
+module _ (c : Conversion) (s xs : List ℕ) where
+  -- a refused conversion leaves the buffer as it was
+  pub stays : (r : Refusal) → convertedOf c s (length xs) ≡ Refused r → convertedInto c s xs ≡ xs
+  stays r e = go (preparedOf c s) refl
+    where
+      by-room : (f : Font) (n : ℕ) → preparedOf c s ≡ Ready f n → (length xs < n) ⊎ (n ≤ length xs) → convertedInto c s xs ≡ xs
+      by-room f n q (inl l) = sym (no-room c s xs f n q l .1)
+      by-room f n q (inr l) = not-both _ n r (sym (wrote c s xs f n q l .0)) e
+
+      go : (p : Prepared) → preparedOf c s ≡ p → convertedInto c s xs ≡ xs
+      go (Ready f n) q = by-room f n q (below (length xs) n)
+      go (Unprepared u) q = sym (unprepared c s xs u q .1)
+
+  -- an answer that something was written comes from a font that the conversion was ready for
+  pub readied : (n : ℕ) → convertedOf c s (length xs) ≡ Written n → (f : Font) × (preparedOf c s ≡ Ready f n) × (convertedInto c s xs ≡ over (outputOf c s f) xs)
+  readied n e = go (preparedOf c s) refl
+    where
+      same-length : (k : ℕ) → Written k ≡ Written n → k ≡ n
+      same-length k z = cc
+
+      by-room : (f : Font) (k : ℕ) → preparedOf c s ≡ Ready f k → (length xs < k) ⊎ (k ≤ length xs) →
+          (f : Font) × (preparedOf c s ≡ Ready f n) × (convertedInto c s xs ≡ over (outputOf c s f) xs)
+      by-room f k q (inl l) = not-both _ n _ e (sym (no-room c s xs f k q l .0))
+      by-room f k q (inr l) = let w = wrote c s xs f k q l in (f, q ∙ ap (Ready f) (same-length k (w .0 ∙ e)), sym (w .1))
+
+      go : (p : Prepared) → preparedOf c s ≡ p → (f : Font) × (preparedOf c s ≡ Ready f n) × (convertedInto c s xs ≡ over (outputOf c s f) xs)
+      go (Ready f k) q = by-room f k q (below (length xs) k)
+      go (Unprepared u) q = not-both _ n u e (sym (unprepared c s xs u q .0))
+
+  module _ (n : ℕ) (y : Bytes s) (e : convertedOf c s (length xs) ≡ Written n) where
+    -- the first n bytes are the output
+    pub output-is : take n (convertedInto c s xs) ≡ outputOf c s (readied n e .0)
+    output-is =
+        let w = readied n e in
+        ap (take n) (w .2) ∙ front-is (outputOf c s (w .0)) xs n (output-length c s (w .0) n y (w .1))

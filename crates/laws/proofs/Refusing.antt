@@ -1,0 +1,466 @@
+-- What decides a conversion's answer, check by check.
+use mathlib.Core.Path.{_≡_, refl, sym, _∙_, ap, subst}
+use mathlib.Core.Logic.{_↔_, _⊎_, inl, inr}
+use mathlib.Core.Bool.{Bool, true, false}
+use mathlib.Core.List.{List, [], _∷_, _++_}
+use Prim.Native.Nat.{ℕ, zero, suc, _+_, _≤_, _<_}
+use native.Mathlib.Omega.{arith}
+use lib.ListN.{length}
+use borrow.Author.Tests.{lt-ltb, le-ltb, eq-eqb, ne-eqb}
+use Rattle.base.specs.Choice.{when}
+use Rattle.base.specs.Bytes.{Bytes}
+use Rattle.base.proofs.Tests.{below, same}
+use Rattle.refusal.specs.Refusals.{numberOf, refusal}
+use Rattle.refusal.specs.declared.Refusal.{Refusal}
+use Rattle.refusal.specs.declared.Reason.the-variants.{WrongKind, Glyphs, Value, Size, Room}
+use Rattle.coding.specs.declared.Coding.{Coding}
+use Rattle.coding.specs.declared.Coding.the-variants.{Utf8, Ucs2}
+use Rattle.coding.specs.Coding.{valueOf}
+use Rattle.table.specs.declared.Item.{Item}
+use Rattle.table.specs.declared.Item.the-variants.{Single, Start, Value as InSequence, End}
+use Rattle.table.specs.Grammar.{Desc, items, OfCoding, encode, Readable}
+use Rattle.transcode.specs.declared.Measured.{Measured}
+use Rattle.transcode.specs.declared.Measured.the-variants.{Length, Uncarried}
+use Rattle.transcode.specs.Transcode.{tableLen}
+use Rattle.transcode.specs.Carrying.{FirstUncarried}
+use Rattle.transcode.proofs.Meaning.{length-exactly, uncarried-place}
+use Rattle.header.specs.declared.Kind.{Kind}
+use Rattle.header.specs.declared.Kind.the-variants.{Psf1, Psf2, Vfont2}
+use Rattle.header.specs.declared.Font.{Font}
+use Rattle.header.specs.declared.Checked.{Checked}
+use Rattle.header.specs.declared.Checked.the-variants.{Sound, Refused as Unsound}
+use Rattle.header.specs.Meaning.{limit}
+use Rattle.entries.specs.Meaning.{entryAt}
+use Rattle.stages.specs.Meaning.{codingOf, tailOf}
+use Rattle.stages.specs.Reading.{checkOf}
+use Rattle.content.proofs.Evens.{even-metrics, metrics-even}
+use Rattle.content.proofs.Source.{is-placed}
+use Rattle.conversion.specs.declared.Conversion.{Conversion}
+use Rattle.conversion.specs.declared.Conversion.the-variants.{Psf1ToPsf2, Psf2ToPsf1, Psf2ToVfont2, Vfont2ToPsf2}
+use Rattle.conversion.specs.declared.Evenness.{Evenness}
+use Rattle.conversion.specs.declared.Evenness.the-variants.{Even, UnevenAt}
+use Rattle.conversion.specs.declared.Suits.{Suits}
+use Rattle.conversion.specs.declared.Suits.the-variants.{Yes, Refused as Unsuited}
+use Rattle.conversion.specs.declared.Prepared.{Prepared}
+use Rattle.conversion.specs.declared.Prepared.the-variants.{Refused as Unprepared}
+use Rattle.conversion.specs.Meaning.{sourceKind, targetKind, EvenGlyph, FirstUneven}
+use Rattle.conversion.specs.Reading.{sameKind, isPsf1Count, suitsPsf1, isEven, evenness, evenSuits, suitsOf, measuredOf, fitting, measuredThen, preparedOn, preparedOf}
+use Rattle.conversion.proofs.Cases.{kind-same, right-kind, wrong-kind, not-opened, count-256, count-512, count-wrong, width-other, width-eight, last-logical, uneven-within, measured-is, suits-is, too-large, fits, suited, unsuited, opened-as}
+use Rattle.conversion.proofs.Ready.{even-fields}
+use Rattle.convert.specs.declared.Converted.{Converted}
+use Rattle.convert.specs.declared.Converted.the-variants.{Wrote, Refused}
+use Rattle.convert.specs.Reading.{converted, convertedOf}
+use Rattle.laws.proofs.Converting.{has-reading}
+use Rattle.laws.specs.Conversions.{Reads, GlyphsAt, NoGlyphs, ValueAt, NoValue, needed, Holds}
+
+-- the number of an answer, 0 where there is no refusal
+abbrev pub numbered : Converted → ℕ
+numbered (Wrote n) = 0
+numbered (Refused r) = numberOf (r .reason)
+
+-- its place, or the length written
+abbrev pub placed-at : Converted → ℕ
+placed-at (Wrote n) = n
+placed-at (Refused r) = r .place
+
+-- 1 to 12, then 17
+module _ (c : Conversion) (s : List ℕ) (m : ℕ) where
+  pub from-prepared : (p : Prepared) → p ≡ preparedOf c s → convertedOf c s m ≡ converted p m
+  unfolding convertedOf
+  from-prepared p e = ap (λ (x : Prepared). converted x m) (sym e)
+
+  pub own-given : (r : Refusal) → checkOf s ≡ Unsound r → convertedOf c s m ≡ Refused r
+  own-given r e = from-prepared (Unprepared r) (opened-as c s (Unsound r) (sym (not-opened (sourceKind c) s r e)))
+
+  module _ (f : Font) (e : checkOf s ≡ Sound f) where
+    pub kind-given : (f .kind ≡ sourceKind c → ⊥) → convertedOf c s m ≡ Refused (refusal WrongKind 0)
+    kind-given n =
+        from-prepared (Unprepared (refusal WrongKind 0)) (opened-as c s (Unsound (refusal WrongKind 0)) (sym (wrong-kind (sourceKind c) s f e (go (sameKind (sourceKind c) (f .kind)) refl))))
+      where
+        go : (t : Bool) → sameKind (sourceKind c) (f .kind) ≡ t → sameKind (sourceKind c) (f .kind) ≡ false
+        go true q = absurd (n (kind-same (sourceKind c) (f .kind) q))
+        go false q = q
+
+    alike : (k : Kind) → sameKind k k ≡ true
+    alike Psf1 = refl
+    alike Psf2 = refl
+    alike Vfont2 = refl
+
+    -- a font of the kind that is wanted is prepared
+    pub on-kind : f .kind ≡ sourceKind c → preparedOn c s f ≡ preparedOf c s
+    on-kind q =
+        opened-as c s (Sound f) (sym (right-kind (sourceKind c) s f e (subst (λ (k : Kind). sameKind (sourceKind c) k ≡ true) (sym q) (alike (sourceKind c)))))
+
+-- 18 from vfont2: the first entry that is not even
+module _ (s : List ℕ) (h w start : ℕ) where
+  first-uneven : (k i x : ℕ) → evenness s h w start k i ≡ UnevenAt x →
+      (i ≤ x) × (isEven s h w (entryAt start x) ≡ false) × ((j : ℕ) → i ≤ j → j < x → isEven s h w (entryAt start j) ≡ true)
+  unfolding evenness when
+  first-uneven zero i x e = let z : _≡_ {A = ℕ} 0 1 = cc in absurd (omega arith)
+  first-uneven (suc k) i x e = go (isEven s h w (entryAt start i)) refl (first-uneven k (suc i) x) e
+    where
+      go : (t : Bool) → isEven s h w (entryAt start i) ≡ t →
+          (evenness s h w start k (suc i) ≡ UnevenAt x → (suc i ≤ x) × (isEven s h w (entryAt start x) ≡ false) × ((j : ℕ) → suc i ≤ j → j < x → isEven s h w (entryAt start j) ≡ true)) →
+          when t (evenness s h w start k (suc i)) (UnevenAt i) ≡ UnevenAt x →
+          (i ≤ x) × (isEven s h w (entryAt start x) ≡ false) × ((j : ℕ) → i ≤ j → j < x → isEven s h w (entryAt start j) ≡ true)
+      go true q ih e = let r = ih e in (omega (arith, r .0), r .1, λ j a l. before j a l (below i j) (r .2))
+        where
+          before : (j : ℕ) → i ≤ j → j < x → (i < j) ⊎ (j ≤ i) → ((j : ℕ) → suc i ≤ j → j < x → isEven s h w (entryAt start j) ≡ true) → isEven s h w (entryAt start j) ≡ true
+          before j a l (inl b) g = g j b l
+          before j a l (inr b) g = let z : i ≡ j = omega arith in subst (λ (v : ℕ). isEven s h w (entryAt start v) ≡ true) z q
+      go false q ih e =
+          let z : i ≡ x = cc in
+          (omega arith, subst (λ (v : ℕ). isEven s h w (entryAt start v) ≡ false) z q, λ j a l. absurd (omega arith))
+
+  uneven-found : (k i x : ℕ) → i ≤ x → x < i + k → isEven s h w (entryAt start x) ≡ false → ((j : ℕ) → j < x → isEven s h w (entryAt start j) ≡ true) →
+      evenness s h w start k i ≡ UnevenAt x
+  unfolding evenness when
+  uneven-found zero i x a l e f = absurd (omega arith)
+  uneven-found (suc k) i x a l e f = go (below i x) (λ b. uneven-found k (suc i) x b (omega arith) e f)
+    where
+      go : (i < x) ⊎ (x ≤ i) → (i < x → evenness s h w start k (suc i) ≡ UnevenAt x) →
+          when (isEven s h w (entryAt start i)) (evenness s h w start k (suc i)) (UnevenAt i) ≡ UnevenAt x
+      go (inl b) ih = rw (f i b) (ih b)
+      go (inr b) ih =
+          let z : x ≡ i = omega arith in
+          let q : isEven s h w (entryAt start i) ≡ false = subst (λ (v : ℕ). isEven s h w (entryAt start v) ≡ false) z e in
+          rw q (ap UnevenAt (sym z))
+
+-- a test that fails, and one that does not hold
+test-false : {A : Type 0} (t : Bool) → (t ≡ true) ↔ A → (A → ⊥) → t ≡ false
+test-false true p n = absurd (n (p .0 refl))
+test-false false p n = refl
+
+false-not : {A : Type 0} (t : Bool) → (t ≡ true) ↔ A → t ≡ false → A → ⊥
+false-not t p e a = let q : false ≡ true = sym e ∙ p .1 a in let z : _≡_ {A = ℕ} 0 1 = cc in omega arith
+
+-- 18: whether the font suits the target
+module _ (s : List ℕ) (f : Font) (y : Bytes s) (e : checkOf s ≡ Sound f) where
+  even-is : (at : ℕ) → (isEven s (f .height) (f .width) at ≡ true) ↔ EvenGlyph s (f .height) (f .width) at
+  even-is at =
+      let p = is-placed s f y e in
+      let h = f .height in
+      let w = f .width in (
+        λ q. let z = even-fields s h w at q in (z .0, even-metrics s h w at (omega (arith, p .3)) (omega (arith, p .4)) z),
+        λ g. let z = metrics-even s h w at y g in sym (last-logical s h w at ((((z .0, z .1), z .2), z .3), z .4)) ∙ eq-eqb _ _ (z .5),
+      )
+
+  -- the entry of a place is the first that is not even
+  found : (i : ℕ) → evenness s (f .height) (f .width) (f .entries) (f .count) 0 ≡ UnevenAt i → FirstUneven s (f .height) (f .width) (f .count) (f .entries) i
+  found i q =
+      let r = first-uneven s (f .height) (f .width) (f .entries) (f .count) 0 i q in
+      record {
+        within = omega (arith, uneven-within s (f .height) (f .width) (f .entries) (f .count) 0 i q);
+        uneven = false-not (isEven s (f .height) (f .width) (entryAt (f .entries) i)) (even-is (entryAt (f .entries) i)) (r .1);
+        first = λ j l. even-is (entryAt (f .entries) j) .0 (r .2 j (omega arith) l);
+      }
+
+  sought : (i : ℕ) → FirstUneven s (f .height) (f .width) (f .count) (f .entries) i → evenness s (f .height) (f .width) (f .entries) (f .count) 0 ≡ UnevenAt i
+  sought i u =
+      let at = entryAt (f .entries) i in
+      uneven-found s (f .height) (f .width) (f .entries) (f .count) 0 i (omega arith) (omega (arith, u .within))
+      (test-false (isEven s (f .height) (f .width) at) (even-is at) (u .uneven)) (λ j l. even-is (entryAt (f .entries) j) .1 (u .first j l))
+
+  two-counts : (f .count ≡ 256) ⊎ (f .count ≡ 512) → isPsf1Count (f .count) ≡ true
+  two-counts (inl q) = sym (count-256 (f .count) q)
+  two-counts (inr q) = sym (count-512 (f .count) (λ x. omega (arith, q, x))) ∙ eq-eqb (f .count) 512 q
+
+  no-count : (f .count ≡ 256 → ⊥) → (f .count ≡ 512 → ⊥) → isPsf1Count (f .count) ≡ false
+  no-count a b = sym (count-512 (f .count) a) ∙ ne-eqb (f .count) 512 b
+
+  narrow-given : (p : ℕ) → GlyphsAt Psf2ToPsf1 s f p → suitsPsf1 f ≡ Unsuited (refusal Glyphs p)
+  narrow-given p (inl (q, a, b)) = sym (count-wrong f (no-count a b)) ∙ ap (λ (x : ℕ). Unsuited (refusal Glyphs x)) (sym q)
+  narrow-given p (inr (q, a, b)) = sym (width-other f (two-counts a) b) ∙ ap (λ (x : ℕ). Unsuited (refusal Glyphs x)) (sym q)
+
+  -- a font that doesn't suit
+  glyphs-by : (c : Conversion) (p : ℕ) → GlyphsAt c s f p → suitsOf c s f ≡ Unsuited (refusal Glyphs p)
+  glyphs-by Psf1ToPsf2 p g = absurd g
+  glyphs-by Psf2ToPsf1 p g = sym (suits-is Psf2ToPsf1 Psf2ToPsf1 s f refl) ∙ narrow-given p g
+  glyphs-by Psf2ToVfont2 p g = absurd g
+  glyphs-by Vfont2ToPsf2 p (i, q, u) =
+      sym (suits-is Vfont2ToPsf2 Vfont2ToPsf2 s f refl) ∙ ap (evenSuits f) (sought i u) ∙ ap (λ (x : ℕ). Unsuited (refusal Glyphs x)) (sym q)
+
+  -- it suits, or it doesn't
+  abbrev Suited : Conversion → Suits → Type 0
+  Suited c x = (x ≡ Yes) ⊎ ((p : ℕ) × GlyphsAt c s f p)
+
+  by-narrow : (f .count ≡ 256) ⊎ (f .count ≡ 256 → ⊥) → (f .count ≡ 512) ⊎ (f .count ≡ 512 → ⊥) → (f .width ≡ 8) ⊎ (f .width ≡ 8 → ⊥) → Suited Psf2ToPsf1 (suitsPsf1 f)
+  by-narrow (inl a) b (inl w) = inl (sym (width-eight f (two-counts (inl a)) w))
+  by-narrow (inl a) b (inr w) = inr (28, inr (refl, inl a, w))
+  by-narrow (inr a) (inl b) (inl w) = inl (sym (width-eight f (two-counts (inr b)) w))
+  by-narrow (inr a) (inl b) (inr w) = inr (28, inr (refl, inr b, w))
+  by-narrow (inr a) (inr b) w = inr (16, inl (refl, a, b))
+
+  by-evenness : (x : Evenness) → evenness s (f .height) (f .width) (f .entries) (f .count) 0 ≡ x → Suited Vfont2ToPsf2 (evenSuits f x)
+  by-evenness Even q = inl refl
+  by-evenness (UnevenAt i) q = inr (entryAt (f .entries) i, (i, refl, found i q))
+
+  suits-or : (c : Conversion) → Suited c (suitsOf c s f)
+  suits-or Psf1ToPsf2 = inl (sym (suits-is Psf1ToPsf2 Psf1ToPsf2 s f refl))
+  suits-or Psf2ToPsf1 =
+      subst (Suited Psf2ToPsf1) (suits-is Psf2ToPsf1 Psf2ToPsf1 s f refl) (by-narrow (same (f .count) 256) (same (f .count) 512) (same (f .width) 8))
+  suits-or Psf2ToVfont2 = inl (sym (suits-is Psf2ToVfont2 Psf2ToVfont2 s f refl))
+  suits-or Vfont2ToPsf2 =
+      subst (Suited Vfont2ToPsf2) (suits-is Vfont2ToPsf2 Vfont2ToPsf2 s f refl) (by-evenness (evenness s (f .height) (f .width) (f .entries) (f .count) 0) refl)
+
+  not-suited : {A : Type 0} (x : Suits) (r : Refusal) → x ≡ Yes → x ≡ Unsuited r → A
+  not-suited x r a b = let z : _≡_ {A = ℕ} 0 1 = cc in absurd (omega arith)
+
+-- 19: whether the target's coding carries the table
+measured-as : (c : Conversion) (tl : List ℕ) (ds : List Desc) → Readable (codingOf (sourceKind c)) ds → tl ≡ encode (codingOf (sourceKind c)) ds →
+    measuredOf c tl ≡ tableLen (codingOf (sourceKind c)) (codingOf (targetKind c)) tl
+measured-as Psf1ToPsf2 tl ds o e = sym (measured-is Psf1ToPsf2 Psf1ToPsf2 tl refl)
+measured-as Psf2ToPsf1 tl ds o e = sym (measured-is Psf2ToPsf1 Psf2ToPsf1 tl refl)
+measured-as Psf2ToVfont2 tl ds o e = sym (measured-is Psf2ToVfont2 Psf2ToVfont2 tl refl) ∙ sym (length-exactly Utf8 Utf8 ds tl o e (length tl) .1 (o, ap length e))
+measured-as Vfont2ToPsf2 tl ds o e = sym (measured-is Vfont2ToPsf2 Vfont2ToPsf2 tl refl) ∙ sym (length-exactly Utf8 Utf8 ds tl o e (length tl) .1 (o, ap length e))
+
+module _ (c : Conversion) (tl : List ℕ) (ds : List Desc) (o : Readable (codingOf (sourceKind c)) ds) (e : tl ≡ encode (codingOf (sourceKind c)) ds) where
+  abbrev from : Coding
+  from = codingOf (sourceKind c)
+
+  abbrev to : Coding
+  to = codingOf (targetKind c)
+
+  -- a value that isn't carried
+  value-by : (k : ℕ) → FirstUncarried from to (items ds) 0 k → (g : ℕ) × (measuredOf c tl ≡ Uncarried k g)
+  value-by k u = let r = uncarried-place from to ds tl o e k .1 u in (r .0, measured-as c tl ds o e ∙ r .1)
+
+  -- every value is, or one isn't
+  carried-or : (measuredOf c tl ≡ Length (length (encode to ds))) ⊎ ((k : ℕ) × FirstUncarried from to (items ds) 0 k)
+  carried-or = go (tableLen from to tl) refl
+    where
+      go : (x : Measured) → tableLen from to tl ≡ x → (measuredOf c tl ≡ Length (length (encode to ds))) ⊎ ((k : ℕ) × FirstUncarried from to (items ds) 0 k)
+      go (Length n) q = inl (measured-as c tl ds o e ∙ q ∙ ap Length (length-exactly from to ds tl o e n .0 q .1))
+      go (Uncarried k g) q = inr (k, uncarried-place from to ds tl o e k .0 (g, q))
+
+  not-carried : {A : Type 0} (x : Measured) (n k g : ℕ) → x ≡ Length n → x ≡ Uncarried k g → A
+  not-carried x n k g a b = let z : _≡_ {A = ℕ} 0 1 = cc in absurd (omega arith)
+
+-- where the codings are one, every value is carried
+pub one-coding : (c : Conversion) (f : Font) (ds : List Desc) → Readable (codingOf (sourceKind c)) ds → codingOf (sourceKind c) ≡ codingOf (targetKind c) → NoValue c f ds
+one-coding c f ds o z p (k, q, u) =
+    let r = value-by c (encode (codingOf (sourceKind c)) ds) ds o refl k u in
+    let w = length-exactly (codingOf (sourceKind c)) (codingOf (targetKind c)) ds (encode (codingOf (sourceKind c)) ds) o refl (length (encode (codingOf (targetKind c)) ds)) .1
+    (subst (λ (x : Coding). Readable x ds) z o, refl) in
+    not-carried c (encode (codingOf (sourceKind c)) ds) ds o refl _ _ _ _ (measured-as c (encode (codingOf (sourceKind c)) ds) ds o refl ∙ w) (r .1)
+
+-- an item that one coding has and another hasn't has a value that the other hasn't
+uncarried-value : (from to : Coding) (i : Item) → OfCoding from (i ∷ []) → (OfCoding to (i ∷ []) → ⊥) → (v : ℕ) × Holds v i × valueOf from v × (valueOf to v → ⊥)
+uncarried-value from to (Single v) o u = (v, inl refl, o .0, λ x. u (x, tt))
+uncarried-value from to (InSequence v) o u = (v, inr refl, o .0, λ x. u (x, tt))
+uncarried-value from to Start o u = absurd (u tt)
+uncarried-value from to End o u = absurd (u tt)
+
+item-of : (c : Coding) (before : List Item) (i : Item) (after : List Item) → OfCoding c (before ++ (i ∷ after)) → OfCoding c (i ∷ [])
+item-of c [] (Single v) after o = (o .0, tt)
+item-of c [] (InSequence v) after o = (o .0, tt)
+item-of c [] Start after o = tt
+item-of c [] End after o = tt
+item-of c (Single v ∷ is) i after o = item-of c is i after (o .1)
+item-of c (InSequence v ∷ is) i after o = item-of c is i after (o .1)
+item-of c (Start ∷ is) i after o = item-of c is i after o
+item-of c (End ∷ is) i after o = item-of c is i after o
+
+pub first-value : (from to : Coding) (ds : List Desc) (k : ℕ) → Readable from ds → (u : FirstUncarried from to (items ds) 0 k) → (v : ℕ) × Holds v (u .item) × valueOf from v × (valueOf to v → ⊥)
+first-value from to ds k o u =
+    uncarried-value from to (u .item) (item-of from (u .before) (u .item) (u .after) (subst (OfCoding from) (u .same) o)) (u .uncarried)
+
+-- "the first surrogate, D800 to DFFF"
+pub is-surrogate : (v : ℕ) → valueOf Ucs2 v → (valueOf Utf8 v → ⊥) → (0xD800 ≤ v) × (v ≤ 0xDFFF)
+unfolding valueOf
+is-surrogate v a n = go (below v 0xD800) (below v 0xE000)
+  where
+    go : (v < 0xD800) ⊎ (0xD800 ≤ v) → (v < 0xE000) ⊎ (0xE000 ≤ v) → (0xD800 ≤ v) × (v ≤ 0xDFFF)
+    go (inl l) y = absurd (n (inl l))
+    go (inr l) (inl h) = (l, omega arith)
+    go (inr l) (inr h) = absurd (n (inr (h, omega (arith, a))))
+
+-- "the first value above FFFD"
+pub is-above : (v : ℕ) → (valueOf Ucs2 v → ⊥) → 0xFFFD < v
+unfolding valueOf
+is-above v n = go (below v 0xFFFE)
+  where
+    go : (v < 0xFFFE) ⊎ (0xFFFE ≤ v) → 0xFFFD < v
+    go (inl l) = absurd (n l)
+    go (inr l) = omega arith
+
+-- 20 and 21, by the output's length and the buffer's
+module _ (f : Font) (need m : ℕ) where
+  over-limit : limit < need → converted (fitting f need) m ≡ Refused (refusal Size 0)
+  over-limit h = ap (λ (x : Prepared). converted x m) (sym (too-large f need h))
+
+  under-room : need ≤ limit → m < need → converted (fitting f need) m ≡ Refused (refusal Room need)
+  unfolding when
+  under-room h k = ap (λ (x : Prepared). converted x m) (sym (fits f need h)) ∙ rw (lt-ltb m need k)
+
+  in-room : need ≤ limit → need ≤ m → converted (fitting f need) m ≡ Wrote need
+  unfolding when
+  in-room h k = ap (λ (x : Prepared). converted x m) (sym (fits f need h)) ∙ rw (le-ltb m need k)
+
+-- the answer on a sound font of the kind that is wanted, with its descriptions
+module _ (c : Conversion) (s : List ℕ) (f : Font) (m : ℕ) (y : Bytes s) (e : checkOf s ≡ Sound f) (q : f .kind ≡ sourceKind c) (ds : List Desc) (r : Reads s f ds) where
+  of-source : Readable (codingOf (sourceKind c)) ds × (tailOf s f ≡ encode (codingOf (sourceKind c)) ds)
+  of-source = subst (λ (k : Kind). Readable (codingOf k) ds × (tailOf s f ≡ encode (codingOf k) ds)) q r
+
+  from-font : (p : Prepared) → p ≡ preparedOn c s f → convertedOf c s m ≡ converted p m
+  from-font p z = from-prepared c s m p (z ∙ on-kind c s m f e q)
+
+  pub glyphs-given : (p : ℕ) → GlyphsAt c s f p → convertedOf c s m ≡ Refused (refusal Glyphs p)
+  glyphs-given p g = from-font (Unprepared (refusal Glyphs p)) (unsuited c s f (refusal Glyphs p) (glyphs-by s f y e c p g))
+
+  suits : NoGlyphs c s f → suitsOf c s f ≡ Yes
+  suits n = go (suits-or s f y e c)
+    where
+      go : (suitsOf c s f ≡ Yes) ⊎ ((p : ℕ) × GlyphsAt c s f p) → suitsOf c s f ≡ Yes
+      go (inl z) = z
+      go (inr (p, g)) = absurd (n p g)
+
+  pub value-given : NoGlyphs c s f → (p : ℕ) → ValueAt c f ds p → convertedOf c s m ≡ Refused (refusal Value p)
+  value-given n p (k, z, u) =
+      let v = value-by c (tailOf s f) ds (of-source .0) (of-source .1) k u in
+      from-font (measuredThen c f (measuredOf c (tailOf s f))) (suited c s f (suits n))
+      ∙ ap (λ (x : Measured). converted (measuredThen c f x) m) (v .1) ∙ ap (λ (x : ℕ). Refused (refusal Value x)) (sym z)
+
+  fitted : NoGlyphs c s f → NoValue c f ds → convertedOf c s m ≡ converted (fitting f (needed c f ds)) m
+  fitted n v = go (carried-or c (tailOf s f) ds (of-source .0) (of-source .1))
+    where
+      go : (measuredOf c (tailOf s f) ≡ Length (length (encode (codingOf (targetKind c)) ds))) ⊎ ((k : ℕ) × FirstUncarried (codingOf (sourceKind c)) (codingOf (targetKind c)) (items ds) 0 k) →
+          convertedOf c s m ≡ converted (fitting f (needed c f ds)) m
+      go (inl z) = from-font (measuredThen c f (measuredOf c (tailOf s f))) (suited c s f (suits n)) ∙ ap (λ (x : Measured). converted (measuredThen c f x) m) z
+      go (inr (k, u)) = absurd (v (f .end + k) (k, refl, u))
+
+  pub size-given : NoGlyphs c s f → NoValue c f ds → limit < needed c f ds → convertedOf c s m ≡ Refused (refusal Size 0)
+  size-given n v h = fitted n v ∙ over-limit f (needed c f ds) m h
+
+  pub room-given : NoGlyphs c s f → NoValue c f ds → needed c f ds ≤ limit → m < needed c f ds → convertedOf c s m ≡ Refused (refusal Room (needed c f ds))
+  room-given n v h k = fitted n v ∙ under-room f (needed c f ds) m h k
+
+  pub wrote-given : NoGlyphs c s f → NoValue c f ds → needed c f ds ≤ limit → needed c f ds ≤ m → convertedOf c s m ≡ Wrote (needed c f ds)
+  wrote-given n v h k = fitted n v ∙ in-room f (needed c f ds) m h k
+
+  -- one of the five is given
+  abbrev pub Decided : Type 0
+  Decided =
+      ((p : ℕ) × GlyphsAt c s f p × (convertedOf c s m ≡ Refused (refusal Glyphs p)))
+      ⊎ (((p : ℕ) × NoGlyphs c s f × ValueAt c f ds p × (convertedOf c s m ≡ Refused (refusal Value p)))
+      ⊎ ((NoGlyphs c s f × NoValue c f ds × (limit < needed c f ds) × (convertedOf c s m ≡ Refused (refusal Size 0)))
+      ⊎ ((NoGlyphs c s f × NoValue c f ds × (needed c f ds ≤ limit) × (m < needed c f ds) × (convertedOf c s m ≡ Refused (refusal Room (needed c f ds))))
+      ⊎ (NoGlyphs c s f × NoValue c f ds × (needed c f ds ≤ limit) × (needed c f ds ≤ m) × (convertedOf c s m ≡ Wrote (needed c f ds))))))
+
+  pub decided : Decided
+  decided = by-glyphs (suits-or s f y e c)
+    where
+      by-size : NoGlyphs c s f → NoValue c f ds → (limit < needed c f ds) ⊎ (needed c f ds ≤ limit) → (m < needed c f ds) ⊎ (needed c f ds ≤ m) → Decided
+      by-size n v (inl h) k = inr (inr (inl (n, v, h, size-given n v h)))
+      by-size n v (inr h) (inl k) = inr (inr (inr (inl (n, v, h, k, room-given n v h k))))
+      by-size n v (inr h) (inr k) = inr (inr (inr (inr (n, v, h, k, wrote-given n v h k))))
+
+      by-value : NoGlyphs c s f → (measuredOf c (tailOf s f) ≡ Length (length (encode (codingOf (targetKind c)) ds))) ⊎ ((k : ℕ) × FirstUncarried (codingOf (sourceKind c)) (codingOf (targetKind c)) (items ds) 0 k) → Decided
+      by-value n (inl z) =
+          by-size n (λ p v. let w = value-by c (tailOf s f) ds (of-source .0) (of-source .1) (v .0) (v .2) in not-carried c (tailOf s f) ds (of-source .0) (of-source .1) _ _ _ _ z (w .1))
+          (below limit (needed c f ds)) (below m (needed c f ds))
+      by-value n (inr (k, u)) = inr (inl (f .end + k, n, (k, refl, u), value-given n (f .end + k) (k, refl, u)))
+
+      by-glyphs : (suitsOf c s f ≡ Yes) ⊎ ((p : ℕ) × GlyphsAt c s f p) → Decided
+      by-glyphs (inl z) = by-value (λ p g. not-suited s f y e _ _ z (glyphs-by s f y e c p g)) (carried-or c (tailOf s f) ds (of-source .0) (of-source .1))
+      by-glyphs (inr (p, g)) = inl (p, g, glyphs-given p g)
+
+  -- each of them only for its reason
+  pub glyphs-only : (p : ℕ) → convertedOf c s m ≡ Refused (refusal Glyphs p) → GlyphsAt c s f p
+  glyphs-only p z = go decided
+    where
+      go : Decided → GlyphsAt c s f p
+      go (inl (i, g, x)) = let w : i ≡ p = ap placed-at (sym x ∙ z) in subst (GlyphsAt c s f) w g
+      go (inr (inl x)) = absurd (omega (arith, ap numbered (sym z ∙ x .3)))
+      go (inr (inr (inl x))) = absurd (omega (arith, ap numbered (sym z ∙ x .3)))
+      go (inr (inr (inr (inl x)))) = absurd (omega (arith, ap numbered (sym z ∙ x .4)))
+      go (inr (inr (inr (inr x)))) = absurd (omega (arith, ap numbered (sym z ∙ x .4)))
+
+  pub value-only : (p : ℕ) → convertedOf c s m ≡ Refused (refusal Value p) → NoGlyphs c s f × ValueAt c f ds p
+  value-only p z = go decided
+    where
+      go : Decided → NoGlyphs c s f × ValueAt c f ds p
+      go (inl x) = absurd (omega (arith, ap numbered (sym z ∙ x .2)))
+      go (inr (inl (i, n, v, x))) = let w : i ≡ p = ap placed-at (sym x ∙ z) in (n, subst (ValueAt c f ds) w v)
+      go (inr (inr (inl x))) = absurd (omega (arith, ap numbered (sym z ∙ x .3)))
+      go (inr (inr (inr (inl x)))) = absurd (omega (arith, ap numbered (sym z ∙ x .4)))
+      go (inr (inr (inr (inr x)))) = absurd (omega (arith, ap numbered (sym z ∙ x .4)))
+
+  pub size-only : (p : ℕ) → convertedOf c s m ≡ Refused (refusal Size p) → (p ≡ 0) × NoGlyphs c s f × NoValue c f ds × (limit < needed c f ds)
+  size-only p z = go decided
+    where
+      go : Decided → (p ≡ 0) × NoGlyphs c s f × NoValue c f ds × (limit < needed c f ds)
+      go (inl x) = absurd (omega (arith, ap numbered (sym z ∙ x .2)))
+      go (inr (inl x)) = absurd (omega (arith, ap numbered (sym z ∙ x .3)))
+      go (inr (inr (inl x))) = (ap placed-at (sym z ∙ x .3), x .0, x .1, x .2)
+      go (inr (inr (inr (inl x)))) = absurd (omega (arith, ap numbered (sym z ∙ x .4)))
+      go (inr (inr (inr (inr x)))) = absurd (omega (arith, ap numbered (sym z ∙ x .4)))
+
+  pub room-only : (p : ℕ) → convertedOf c s m ≡ Refused (refusal Room p) →
+      (p ≡ needed c f ds) × NoGlyphs c s f × NoValue c f ds × (needed c f ds ≤ limit) × (m < needed c f ds)
+  room-only p z = go decided
+    where
+      go : Decided → (p ≡ needed c f ds) × NoGlyphs c s f × NoValue c f ds × (needed c f ds ≤ limit) × (m < needed c f ds)
+      go (inl x) = absurd (omega (arith, ap numbered (sym z ∙ x .2)))
+      go (inr (inl x)) = absurd (omega (arith, ap numbered (sym z ∙ x .3)))
+      go (inr (inr (inl x))) = absurd (omega (arith, ap numbered (sym z ∙ x .3)))
+      go (inr (inr (inr (inl x)))) = (ap placed-at (sym z ∙ x .4), x .0, x .1, x .2, x .3)
+      go (inr (inr (inr (inr x)))) = absurd (omega (arith, ap numbered (sym z ∙ x .4)))
+
+  pub wrote-only : (n : ℕ) → convertedOf c s m ≡ Wrote n → (n ≡ needed c f ds) × NoGlyphs c s f × NoValue c f ds × (needed c f ds ≤ limit) × (needed c f ds ≤ m)
+  wrote-only n z = go decided
+    where
+      go : Decided → (n ≡ needed c f ds) × NoGlyphs c s f × NoValue c f ds × (needed c f ds ≤ limit) × (needed c f ds ≤ m)
+      go (inl x) = absurd (omega (arith, ap numbered (sym z ∙ x .2)))
+      go (inr (inl x)) = absurd (omega (arith, ap numbered (sym z ∙ x .3)))
+      go (inr (inr (inl x))) = absurd (omega (arith, ap numbered (sym z ∙ x .3)))
+      go (inr (inr (inr (inl x)))) = absurd (omega (arith, ap numbered (sym z ∙ x .4)))
+      go (inr (inr (inr (inr x)))) = (ap placed-at (sym z ∙ x .4), x .0, x .1, x .2, x .3)
+
+  -- whatever is refused, it is for 18 or a later one
+  pub later : (r : Refusal) → convertedOf c s m ≡ Refused r → 18 ≤ numberOf (r .reason)
+  later r z = go decided
+    where
+      go : Decided → 18 ≤ numberOf (r .reason)
+      go (inl x) = omega (arith, ap numbered (sym z ∙ x .2))
+      go (inr (inl x)) = omega (arith, ap numbered (sym z ∙ x .3))
+      go (inr (inr (inl x))) = omega (arith, ap numbered (sym z ∙ x .3))
+      go (inr (inr (inr (inl x)))) = omega (arith, ap numbered (sym z ∙ x .4))
+      go (inr (inr (inr (inr x)))) = let w : _≡_ {A = ℕ} 0 1 = written-refused _ _ _ (x .4) z in absurd (omega arith)
+        where
+          written-refused : (v : Converted) (n : ℕ) (u : Refusal) → v ≡ Wrote n → v ≡ Refused u → _≡_ {A = ℕ} 0 1
+          written-refused v n u a b = cc
+
+-- the font's own refusal, and WRONG KIND, only for their reasons
+module _ (c : Conversion) (s : List ℕ) (m : ℕ) (y : Bytes s) where
+  module _ (f : Font) (e : checkOf s ≡ Sound f) where
+    after-kind : f .kind ≡ sourceKind c → (r : Refusal) → convertedOf c s m ≡ Refused r → 18 ≤ numberOf (r .reason)
+    after-kind q r z = let d = has-reading s f y e in later c s f m y e q (d .0) (d .1) r z
+
+    pub kind-only : (p : ℕ) → convertedOf c s m ≡ Refused (refusal WrongKind p) → (p ≡ 0) × (f .kind ≡ sourceKind c → ⊥)
+    kind-only p z =
+        let n : f .kind ≡ sourceKind c → ⊥ = λ q. omega (arith, after-kind q (refusal WrongKind p) z) in
+        (ap placed-at (sym z ∙ kind-given c s m f e n), n)
+
+    after-sound : (r : Refusal) → convertedOf c s m ≡ Refused r → 17 ≤ numberOf (r .reason)
+    after-sound r z = go (sameKind (sourceKind c) (f .kind)) refl
+      where
+        differ : sameKind (sourceKind c) (f .kind) ≡ false → f .kind ≡ sourceKind c → ⊥
+        differ p q =
+            let w : true ≡ false = sym (alike c s m f e (sourceKind c)) ∙ ap (sameKind (sourceKind c)) (sym q) ∙ p in
+            let x : _≡_ {A = ℕ} 0 1 = cc in
+            omega arith
+
+        go : (t : Bool) → sameKind (sourceKind c) (f .kind) ≡ t → 17 ≤ numberOf (r .reason)
+        go true p = omega (arith, after-kind (kind-same (sourceKind c) (f .kind) p) r z)
+        go false p = omega (arith, ap numbered (sym z ∙ kind-given c s m f e (differ p)))
+
+  pub own-only : (r : Refusal) → numberOf (r .reason) ≤ 16 → convertedOf c s m ≡ Refused r → checkOf s ≡ Unsound r
+  own-only r h z = go (checkOf s) refl
+    where
+      same-refusal : (u : Refusal) → Refused u ≡ Refused r → u ≡ r
+      same-refusal u q = cc
+
+      go : (x : Checked) → checkOf s ≡ x → checkOf s ≡ Unsound r
+      go (Sound f) e = absurd (omega (arith, h, after-sound f e r z))
+      go (Unsound u) e = e ∙ ap Unsound (same-refusal u (sym (own-given c s m u e) ∙ z))
