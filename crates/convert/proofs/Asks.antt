@@ -54,8 +54,8 @@ module _ (c : Conversion) (s : List ℕ) (f : Font) (n : ℕ) (y : Bytes s) (e :
           let p = is-placed s f y (known c s f n e .sound) in
           subst (λ (x : Conversion). AllEven s f (sourceKind x)) (sym q)
           (λ i l.
-              let w = even-fields s (f .height) (f .width) (entryAt (f .entries) i) (all-even s f u i l) in
-              (w .0, even-metrics s (f .height) (f .width) (entryAt (f .entries) i) (omega (arith, p .3)) (omega (arith, p .4)) w))
+          let w = even-fields s (f .height) (f .width) (entryAt (f .entries) i) (all-even s f u i l) in
+          (w .0, even-metrics s (f .height) (f .width) (entryAt (f .entries) i) (omega (arith, p .3)) (omega (arith, p .4)) w))
 
   pub ready-length : length (glyphsIn s f) ≡ f .count * charSize f
   ready-length = source-length s f y (ready .sound) ready-even

@@ -35,7 +35,11 @@ fn signed(v: u32) -> i32
     requires { ⌜ v < 65536 ⌝ }
     ensures { λ r. ⌜ r ≡ signed16 v ⌝ }
 {
-    if v < 32768 { v as i32 } else { v as i32 - 65536 }
+    if v < 32768 {
+        v as i32
+    } else {
+        v as i32 - 65536
+    }
 }
 
 // The metrics of the entry at `at`. Asks that the entry stands in the file: each caller has tested the length.

@@ -87,6 +87,7 @@ pub struct Psf1;
 
 impl Psf1 {
     pub const MAGIC: [u8; 2] = [0x36, 0x04];
+
     pub const HEADER_LEN: usize = 4;
     // first bitmap rule: the bitmaps begin behind the header, after so many bytes for each glyph
     pub const ENTRY_LEN: usize = 0;
@@ -180,6 +181,7 @@ pub struct Psf2;
 
 impl Psf2 {
     pub const MAGIC: [u8; 4] = [0x72, 0xB5, 0x4A, 0x86];
+
     pub const HEADER_LEN: usize = 32;
     // first bitmap rule, as for PSF1
     pub const ENTRY_LEN: usize = 0;
@@ -238,7 +240,14 @@ impl Psf2 {
     }
 
     // The header of a PSF2 file, to the front. Asks for numbers that four bytes hold, and for room: the caller has worked out both.
-    pub fn put_header(table: bool, n: usize, size: usize, height: usize, width: usize, out: &mut [u8])
+    pub fn put_header(
+        table: bool,
+        n: usize,
+        size: usize,
+        height: usize,
+        width: usize,
+        out: &mut [u8],
+    )
         requires { ⌜ (n < 4294967296) × (size < 4294967296) × (height < 4294967296) × (width < 4294967296) × (32 ≤ length (now out)) ⌝ }
         ensures { λ _. ⌜ now (out .exit) ≡ over (headerBytes psf2 table n size height width) (now (out .entry)) ⌝ }
     {
@@ -254,6 +263,7 @@ pub struct Vfont2;
 
 impl Vfont2 {
     pub const MAGIC: [u8; 4] = [0x27, 0x5B, 0xA4, 0x68];
+
     pub const HEADER_LEN: usize = 32;
     // first bitmap rule: the dispatch table, an entry of so many bytes for each glyph, stands between the header's end and the bitmaps
     pub const ENTRY_LEN: usize = 18;
@@ -303,7 +313,14 @@ impl Vfont2 {
     }
 
     // The header of a vfont2 file, to the front. Asks as PSF2's.
-    pub fn put_header(table: bool, n: usize, total: usize, height: usize, width: usize, out: &mut [u8])
+    pub fn put_header(
+        table: bool,
+        n: usize,
+        total: usize,
+        height: usize,
+        width: usize,
+        out: &mut [u8],
+    )
         requires { ⌜ (n < 4294967296) × (total < 4294967296) × (height < 4294967296) × (width < 4294967296) × (32 ≤ length (now out)) ⌝ }
         ensures { λ _. ⌜ now (out .exit) ≡ over (headerBytes vfont2 table n total height width) (now (out .entry)) ⌝ }
     {

@@ -74,14 +74,7 @@ fn put_entries(n: usize, size: usize, height: usize, width: usize, out: &mut [u8
 }
 
 // The dispatch table of a kind that has one, of n glyphs of one size, end to end.
-pub fn put_dispatch(
-    kind: Kind,
-    n: usize,
-    size: usize,
-    height: usize,
-    width: usize,
-    out: &mut [u8],
-)
+pub fn put_dispatch(kind: Kind, n: usize, size: usize, height: usize, width: usize, out: &mut [u8])
     requires { ⌜ (n ≤ 4096) × (size ≤ 8160) × (height ≤ 255) × (width ≤ 255) × (n * entryLen kind ≤ length (now out)) ⌝ }
     ensures { λ _. ⌜ now (out .exit) ≡ over (dispatchBytes kind size height width (evenly size 0 n)) (now (out .entry)) ⌝ }
 {

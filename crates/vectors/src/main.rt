@@ -257,7 +257,11 @@ fn ask_pixel(file: &[u8], g: usize, y: usize, x: usize) {
 fn signed(v: u32) -> i32
     requires { ⌜ v < 65536 ⌝ }
 {
-    if v < 32768 { v as i32 } else { v as i32 - 65536 }
+    if v < 32768 {
+        v as i32
+    } else {
+        v as i32 - 65536
+    }
 }
 
 fn is_same(m: Metrics, up: i32, down: i32, left: i32, right: i32, logical: i32) -> bool {
