@@ -1,17 +1,17 @@
 -- What a list begins with: the test turn by turn, and that it means what it says.
-use mathlib.Core.Path.{_≡_, refl, sym, _∙_, ap}
+use mathlib.Core.Path.{_≡_, refl}
 use mathlib.Core.Bool.{Bool, true, false}
 use mathlib.Core.Logic.{_↔_}
 use mathlib.Core.List.{List, [], _∷_, _++_}
-use Prim.Native.Nat.{ℕ, suc, _+_, _≤_, _<_}
+use Prim.Native.Nat.{ℕ, _+_, _≤_, _<_}
 use native.Mathlib.Omega.{arith}
 use native.Mathlib.Numerals.{add-one}
 use lib.Dec.{eqb}
 use lib.ListN.{length, getD, take, drop, drop-of-length-le}
 use lib.Seq.{drop-cons}
 use borrow.Author.Tests.{eq-eqb, ne-eqb, eqb-true}
-use Rattle.base.specs.Choice.{when}
-use Rattle.base.specs.Begins.{Begins, startsWith}
+use Rattle.base.specs.Reading.{when, startsWith}
+use Rattle.base.specs.Meaning.{Begins}
 
 -- one turn, at place i
 module _ (s m : List ℕ) (i : ℕ) where

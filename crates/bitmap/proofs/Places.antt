@@ -1,5 +1,5 @@
 -- A bitmap that is found stands in the file, and so does each of its rows and the byte of each of its pixels.
-use mathlib.Core.Path.{_≡_, refl, sym, _∙_, ap}
+use mathlib.Core.Path.{_≡_, refl, sym, _∙_}
 use mathlib.Core.List.{List}
 use mathlib.Core.Bool.{Bool, true, false}
 use Prim.Native.Nat.{ℕ, suc, _+_, _*_, _/_, _%_, _≤_, _<_}
@@ -8,11 +8,10 @@ use native.Mathlib.Nat.{mul-le-mul-right}
 use lib.Dec.{ltb}
 use lib.ListN.{length, getD}
 use borrow.Author.Tests.{lt-ltb, le-ltb, ltb-true}
-use Rattle.base.specs.Choice.{when}
-use Rattle.base.proofs.Chain.{chain}
-use Rattle.refusal.specs.Refusals.{refusal}
+use Rattle.base.specs.Reading.{when}
+use Rattle.refusal.specs.Meaning.{refusal}
 use Rattle.refusal.specs.declared.Reason.the-variants.{Ask}
-use Rattle.entries.specs.Meaning.{entryAt, addressAt, sizeAt, rowsAt, colsAt}
+use Rattle.entries.specs.Meaning.{entryAt}
 use Rattle.header.specs.Meaning.{rowBytes, glyphBytes}
 use Rattle.entries.specs.Reading.{entryOf}
 use Rattle.entries.specs.declared.Entry.{Entry}
@@ -23,13 +22,12 @@ use Rattle.header.specs.declared.Kind.the-variants.{Psf1, Psf2, Vfont2}
 use Rattle.header.specs.declared.Font.{Font}
 use Rattle.header.specs.Bounds.{Placed, KindPlaced, Even, Dispatched}
 use Rattle.bitmap.specs.declared.Bitmap.{Bitmap}
-use Rattle.bitmap.specs.declared.Located.{Located}
 use Rattle.bitmap.specs.declared.Located.the-variants.{Found, Refused as NotLocated}
 use Rattle.bitmap.specs.declared.Part.the-variants.{At, Refused as NoPart}
 use Rattle.bitmap.specs.declared.Pixel.the-variants.{Bit, Refused as NoPixel}
 use Rattle.bitmap.specs.Meaning.{evenBitmap, bitOf}
 use Rattle.bitmap.specs.Reading.{entryLocated, kindBitmap, bitmapOf, rowOf, pixelOf}
-use Rattle.bitmap.specs.Bounds.{Inside, LocatedInside, PartInside}
+use Rattle.bitmap.specs.Bounds.{Inside, LocatedInside}
 
 module _ (s : List ℕ) (f : Font) (g : ℕ) (p : Placed s f) (h : g < f .count) where
   pub even-inside : Even f → Inside s (evenBitmap f g)

@@ -3,8 +3,8 @@ use Prim.Native.Nat.{ℕ, _+_}
 use mathlib.Core.List.{List, []}
 use lib.Dec.{ltb}
 use lib.ListN.{take, drop}
-use Rattle.base.specs.Choice.{when}
-use Rattle.refusal.specs.Refusals.{refusal}
+use Rattle.base.specs.Reading.{when}
+use Rattle.refusal.specs.Meaning.{refusal}
 use Rattle.refusal.specs.declared.Reason.the-variants.{Ask, NoGlyph, Entry as BrokenEntry}
 use Rattle.entries.specs.Meaning.{entryAt, addressAt, sizeAt}
 use Rattle.entries.specs.Reading.{entryOf}

@@ -14,7 +14,8 @@ use Rattle.ucs2.proofs.Coding.{coded-ucs2}
 use Rattle.ucs2.proofs.Stops.{stopping-ucs2}
 use Rattle.coding.specs.declared.Coding.{Coding}
 use Rattle.coding.specs.declared.Coding.the-variants.{Utf8, Ucs2}
-use Rattle.coding.specs.Coding.{readToken, markLen, valueOf, valueBytes, startBytes, endBytes}
+use Rattle.coding.specs.Reading.{readToken, markLen}
+use Rattle.coding.specs.Meaning.{valueOf, valueBytes, startBytes, endBytes}
 
 -- what is written is read, and what is read was written
 pub coded : (c : Coding) → Coded (readToken c) (markLen c) (valueOf c) (valueBytes c) (startBytes c) (endBytes c)

@@ -1,19 +1,22 @@
 -- What each coding writes: the test for a value holds of its values and of nothing else, and the lengths of what is written.
-use mathlib.Core.Path.{_≡_, refl, sym, _∙_, ap}
+use mathlib.Core.Path.{_≡_, refl, sym, _∙_}
 use mathlib.Core.Bool.{true, false}
 use mathlib.Core.Logic.{_↔_}
 use mathlib.Core.List.{List, [], _∷_}
-use Prim.Native.Nat.{ℕ, _≤_, _<_}
+use Prim.Native.Nat.{ℕ, _≤_}
 use native.Mathlib.Omega.{arith}
 use lib.ListN.{length}
 use lib.Seq.{sets}
-use Rattle.base.specs.Over.{over}
+use Rattle.base.specs.Meaning.{over}
 use Rattle.base.proofs.Over.{stores}
-use Rattle.utf8.specs.Scalar.{Scalar, isScalar, utf8Bytes}
-use Rattle.ucs2.specs.Word.{Word, isWord, wordBytes}
+use Rattle.utf8.specs.Meaning.{Scalar, utf8Bytes}
+use Rattle.utf8.specs.Reading.{isScalar}
+use Rattle.ucs2.specs.Meaning.{Word, wordBytes}
+use Rattle.ucs2.specs.Reading.{isWord}
 use Rattle.utf8.proofs.Written.{scalar-exactly}
 use Rattle.ucs2.proofs.Words.{word-exactly}
-use Rattle.coding.specs.Coding.{markLen, valueOf, carriesOf, valueBytes, startBytes, endBytes}
+use Rattle.coding.specs.Reading.{markLen, carriesOf}
+use Rattle.coding.specs.Meaning.{valueOf, valueBytes, startBytes, endBytes}
 use Rattle.coding.specs.declared.Coding.{Coding}
 use Rattle.coding.specs.declared.Coding.the-variants.{Utf8, Ucs2}
 

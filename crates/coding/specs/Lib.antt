@@ -1,2 +1,3 @@
 -- The two codings as one.
-pub mod Coding
+pub mod Meaning
+pub mod Reading

@@ -2,8 +2,9 @@
 ghost use mathlib.Core.Path.{_≡_};
 ghost use Prim.Native.Nat.{_≤_};
 ghost use lib.ListN.{length};
-ghost use Rattle.base.specs.Over.{over};
-ghost use Rattle.coding.specs.Coding.{markLen, valueOf, carriesOf, valueBytes, startBytes, endBytes};
+ghost use Rattle.base.specs.Meaning.{over};
+ghost use Rattle.coding.specs.Reading.{markLen, carriesOf};
+ghost use Rattle.coding.specs.Meaning.{valueOf, valueBytes, startBytes, endBytes};
 
 // PSF2 and vfont2 write values in UTF-8, PSF1 in two bytes.
 pub enum Coding {

@@ -6,7 +6,7 @@ use native.Mathlib.Omega.{arith}
 use lib.ListN.{length, getD, drop}
 use lib.Seq.{drop-append-add}
 use borrow.Author.Tests.{lt-ltb, le-ltb}
-use Rattle.base.specs.Numbers.{le16, le32, bytes16, bytes32}
+use Rattle.base.specs.Meaning.{le16, le32, bytes16, bytes32}
 use Rattle.base.proofs.Numbers.{le16-bytes, le32-bytes, le16-drop, le32-drop}
 use Rattle.header.specs.Meaning.{glyphBytes}
 use Rattle.entries.specs.declared.Entry.the-variants.{Glyph}

@@ -5,8 +5,7 @@ use mathlib.Core.List.{List}
 use Prim.Native.Nat.{ℕ, _+_, _-_, _*_, _≤_, _<_}
 use native.Mathlib.Omega.{arith}
 use lib.IntN.{pos, negsuc}
-use Rattle.base.specs.Numbers.{le16}
-use Rattle.base.specs.Bytes.{Bytes}
+use Rattle.base.specs.Meaning.{le16, Bytes}
 use Rattle.base.proofs.Parts.{byte-at}
 use Rattle.base.proofs.Tests.{below}
 use Rattle.header.specs.Meaning.{rowBytes, glyphBytes}

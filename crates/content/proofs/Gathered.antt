@@ -6,7 +6,7 @@ use native.Mathlib.Omega.{arith}
 use native.Mathlib.Nat.{suc-mul}
 use lib.ListN.{length, take, drop, length-append, length-drop, take-append-drop}
 use lib.Seq.{drop-append-add, take-append-seam, drop-drop}
-use Rattle.base.specs.Bytes.{Bytes}
+use Rattle.base.specs.Meaning.{Bytes}
 use Rattle.base.proofs.Parts.{bytes-drop, bytes-take, bytes-append}
 use Rattle.header.specs.declared.Font.{Font}
 use Rattle.entries.specs.Meaning.{entryAt, addressAt}

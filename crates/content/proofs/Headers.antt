@@ -9,10 +9,8 @@ use native.Mathlib.Nat.{mul-le-mul}
 use lib.Dec.{eqb}
 use lib.ListN.{length, getD, take, drop, length-append}
 use lib.Seq.{drop-cons, take-add}
-use Rattle.base.specs.Choice.{when}
-use Rattle.base.specs.Bytes.{Bytes}
-use Rattle.base.specs.Begins.{Begins, startsWith}
-use Rattle.base.specs.Numbers.{le32, bytes32}
+use Rattle.base.specs.Reading.{when, startsWith}
+use Rattle.base.specs.Meaning.{Bytes, Begins, le32, bytes32}
 use Rattle.base.proofs.Begins.{begins-exactly}
 use Rattle.base.proofs.Numbers.{le32-bytes}
 use Rattle.base.proofs.Parts.{byte-at}

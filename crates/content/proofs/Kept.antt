@@ -4,8 +4,8 @@ use mathlib.Core.List.{List}
 use Prim.Native.Nat.{ℕ, _+_, _*_, _≤_, _<_}
 use native.Mathlib.Omega.{arith}
 use lib.ListN.{length, take, drop}
-use Rattle.base.specs.Bytes.{Bytes}
-use Rattle.table.specs.Grammar.{Desc, encode, Readable}
+use Rattle.base.specs.Meaning.{Bytes}
+use Rattle.table.specs.Meaning.{Desc, encode, Readable}
 use Rattle.header.specs.declared.Kind.{Kind}
 use Rattle.header.specs.declared.Font.{Font}
 use Rattle.header.specs.declared.Checked.the-variants.{Sound}

@@ -4,9 +4,7 @@ use mathlib.Core.List.{List, [], _∷_, _++_}
 use Prim.Native.Nat.{ℕ, _+_, _%_, _≤_, _<_}
 use native.Mathlib.Omega.{arith}
 use lib.Dec.{eqb}
-use Rattle.base.specs.Choice.{pick}
-use Rattle.base.specs.Bytes.{Bytes}
-use Rattle.base.specs.Numbers.{bytes16, bytes32}
+use Rattle.base.specs.Meaning.{pick, Bytes, bytes16, bytes32}
 use Rattle.base.proofs.Parts.{bytes-append}
 use Rattle.header.specs.declared.Kind.{Kind}
 use Rattle.header.specs.declared.Kind.the-variants.{Psf1, Psf2, Vfont2}

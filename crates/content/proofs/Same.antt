@@ -9,9 +9,8 @@ use native.Mathlib.Nat.{mul-le-mul-right}
 use lib.Dec.{eqb}
 use lib.ListN.{getD, take, drop}
 use borrow.Author.Tests.{eqb-true, eqb-false}
-use Rattle.base.specs.Choice.{pick}
-use Rattle.base.specs.Bytes.{Bytes}
-use Rattle.table.specs.Grammar.{Desc, encode, Readable}
+use Rattle.base.specs.Meaning.{pick, Bytes}
+use Rattle.table.specs.Meaning.{Desc, encode, Readable}
 use Rattle.table.proofs.Meaning.{one-reading}
 use Rattle.header.specs.declared.Kind.{Kind}
 use Rattle.header.specs.declared.Kind.the-variants.{Psf1, Psf2, Vfont2}

@@ -8,8 +8,7 @@ use native.Mathlib.Omega.{arith}
 use lib.Dec.{eqb}
 use lib.ListN.{length, getD, take, drop, length-drop}
 use lib.Seq.{drop-drop, length-take-le}
-use Rattle.base.specs.Choice.{pick}
-use Rattle.base.specs.Bytes.{Bytes}
+use Rattle.base.specs.Meaning.{pick, Bytes}
 use Rattle.base.proofs.Parts.{byte-at, bytes-drop, bytes-take}
 use Rattle.header.specs.declared.Kind.{Kind}
 use Rattle.header.specs.declared.Kind.the-variants.{Psf1, Psf2, Vfont2}

@@ -3,19 +3,19 @@ use mathlib.Core.Path.{_≡_, refl, sym, _∙_, ap, subst}
 use mathlib.Core.Bool.{Bool, true, false}
 use mathlib.Core.List.{List, []}
 use Prim.Native.Nat.{ℕ}
-use Rattle.base.specs.Bytes.{Bytes}
+use Rattle.base.specs.Meaning.{Bytes}
 use Rattle.coding.specs.declared.Coding.{Coding}
-use Rattle.table.specs.Grammar.{Desc, items, encode, Readable}
-use Rattle.table.specs.Steps.{stepsFrom, told}
+use Rattle.table.specs.Meaning.{Desc, items, encode, Readable}
+use Rattle.table.specs.Reading.{stepsFrom, stepItems}
 use Rattle.table.proofs.Reading.{items-bytes}
 use Rattle.transcode.specs.declared.Measured.the-variants.{Length}
-use Rattle.transcode.specs.Transcode.{tableLen, recoded}
+use Rattle.transcode.specs.Reading.{tableLen, recoded}
 use Rattle.transcode.proofs.Meaning.{length-exactly, recoded-table}
 use Rattle.content.proofs.Tails.{Tail}
 
 -- no bytes stay no bytes
 pub nothing-recoded : (from to : Coding) → recoded from to [] ≡ []
-unfolding recoded told stepsFrom
+unfolding recoded stepItems stepsFrom
 nothing-recoded from to = refl
 
 module _ (from to : Coding) (tl : List ℕ) (m : ℕ) (c : tableLen from to tl ≡ Length m) where

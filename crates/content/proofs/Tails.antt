@@ -7,16 +7,16 @@ use native.Mathlib.Omega.{arith}
 use lib.Dec.{ltb}
 use lib.ListN.{length, length-drop, drop-of-length-le}
 use borrow.Author.Tests.{ltb-false}
-use Rattle.base.specs.Choice.{pick, when}
-use Rattle.base.specs.Bytes.{Bytes}
+use Rattle.base.specs.Meaning.{pick, Bytes}
+use Rattle.base.specs.Reading.{when}
 use Rattle.base.proofs.Parts.{bytes-drop}
-use Rattle.refusal.specs.Refusals.{refusal}
+use Rattle.refusal.specs.Meaning.{refusal}
 use Rattle.refusal.specs.declared.Reason.the-variants.{Trailing}
 use Rattle.coding.specs.declared.Coding.{Coding}
 use Rattle.table.specs.declared.TableAnswer.{TableAnswer}
 use Rattle.table.specs.declared.TableAnswer.the-variants.{Complete, Cut, Bad, Trailing as Over}
-use Rattle.table.specs.Check.{tableOf}
-use Rattle.table.specs.Table.{IsTable}
+use Rattle.table.specs.Reading.{tableOf}
+use Rattle.table.specs.Meaning.{IsTable}
 use Rattle.table.proofs.Meaning.{complete-exactly}
 use Rattle.header.specs.declared.Font.{Font}
 use Rattle.header.specs.declared.Checked.the-variants.{Sound, Refused}

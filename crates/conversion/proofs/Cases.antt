@@ -1,21 +1,21 @@
 -- The cases of what comes before a conversion, check by check.
 use mathlib.Core.Path.{_≡_, refl, sym, _∙_, ap}
 use mathlib.Core.List.{List}
-use mathlib.Core.Bool.{Bool, true, false, not}
+use mathlib.Core.Bool.{Bool, true, false}
 use Prim.Native.Nat.{ℕ, zero, suc, _+_, _-_, _*_, _≤_, _<_}
 use native.Mathlib.Omega.{arith}
 use native.Mathlib.Numerals.{add-one}
 use lib.Dec.{eqb}
 use lib.ListN.{length}
-use borrow.Author.Tests.{not-false, eqb-true, eq-eqb, ne-eqb}
-use Rattle.base.specs.Choice.{when}
-use Rattle.base.specs.Numbers.{le16}
+use borrow.Author.Tests.{eq-eqb, ne-eqb}
+use Rattle.base.specs.Reading.{when}
+use Rattle.base.specs.Meaning.{le16}
 use Rattle.base.proofs.Chain.{chain}
-use Rattle.refusal.specs.Refusals.{refusal}
+use Rattle.refusal.specs.Meaning.{refusal}
 use Rattle.refusal.specs.declared.Refusal.{Refusal}
-use Rattle.refusal.specs.declared.Reason.the-variants.{WrongKind, Glyphs, Value, Size}
+use Rattle.refusal.specs.declared.Reason.the-variants.{WrongKind, Glyphs, Size}
 use Rattle.coding.specs.declared.Coding.the-variants.{Utf8, Ucs2}
-use Rattle.transcode.specs.Transcode.{tableLen}
+use Rattle.transcode.specs.Reading.{tableLen}
 use Rattle.transcode.specs.declared.Measured.{Measured}
 use Rattle.transcode.specs.declared.Measured.the-variants.{Length}
 use Rattle.header.specs.declared.Kind.{Kind}
@@ -27,17 +27,15 @@ use Rattle.header.specs.Meaning.{limit, headerLen, entryLen}
 use Rattle.entries.specs.Meaning.{entryAt, sizeAt}
 use Rattle.layout.specs.Meaning.{charSize}
 use Rattle.stages.specs.Meaning.{tailOf}
-use Rattle.stages.specs.Reading.{andThen, checkOf}
+use Rattle.stages.specs.Reading.{checkOf}
 use Rattle.conversion.specs.declared.Conversion.{Conversion}
 use Rattle.conversion.specs.declared.Conversion.the-variants.{Psf1ToPsf2, Psf2ToPsf1, Psf2ToVfont2, Vfont2ToPsf2}
-use Rattle.conversion.specs.declared.Evenness.{Evenness}
 use Rattle.conversion.specs.declared.Evenness.the-variants.{Even, UnevenAt}
 use Rattle.conversion.specs.declared.Suits.{Suits}
 use Rattle.conversion.specs.declared.Suits.the-variants.{Yes, Refused as Unsuited}
-use Rattle.conversion.specs.declared.Prepared.{Prepared}
 use Rattle.conversion.specs.declared.Prepared.the-variants.{Ready, Refused as Unprepared}
 use Rattle.conversion.specs.Meaning.{sourceKind, targetKind, frontLen}
-use Rattle.conversion.specs.Reading.{sameKind, ofKind, openedOf, isPsf1Count, suitsPsf1, isEven, evenness, evenSuits, suitsOf, measuredOf, fitting, measuredThen, suitsThen, openedThen, preparedOn, preparedOf}
+use Rattle.conversion.specs.Reading.{sameKind, ofKind, openedOf, isPsf1Count, suitsPsf1, isEven, evenness, evenSuits, suitsOf, measuredOf, fitting, measuredThen, openedThen, preparedOn, preparedOf}
 
 -- 17
 pub kind-same : (a b : Kind) → sameKind a b ≡ true → b ≡ a

@@ -3,15 +3,14 @@ use mathlib.Core.Path.{_≡_, refl, sym, _∙_, ap, subst}
 use mathlib.Core.Logic.{_⊎_, inl, inr}
 use mathlib.Core.List.{List}
 use mathlib.Core.Bool.{Bool, true, false}
-use Prim.Native.Nat.{ℕ, zero, suc, _+_, _*_, _≤_, _<_}
+use Prim.Native.Nat.{ℕ, zero, suc, _+_, _≤_, _<_}
 use native.Mathlib.Omega.{arith}
 use lib.Dec.{ltb, eqb}
-use lib.ListN.{length}
 use borrow.Author.Tests.{ltb-false, eqb-true, eqb-false, not-false}
-use Rattle.base.specs.Choice.{when}
-use Rattle.base.specs.Numbers.{le16}
+use Rattle.base.specs.Reading.{when}
+use Rattle.base.specs.Meaning.{le16}
 use Rattle.base.proofs.Tests.{below}
-use Rattle.refusal.specs.Refusals.{refusal}
+use Rattle.refusal.specs.Meaning.{refusal}
 use Rattle.refusal.specs.declared.Refusal.{Refusal}
 use Rattle.refusal.specs.declared.Reason.the-variants.{WrongKind, Size}
 use Rattle.transcode.specs.declared.Measured.{Measured}
@@ -30,7 +29,6 @@ use Rattle.conversion.specs.declared.Evenness.{Evenness}
 use Rattle.conversion.specs.declared.Evenness.the-variants.{Even, UnevenAt}
 use Rattle.conversion.specs.declared.Suits.{Suits}
 use Rattle.conversion.specs.declared.Suits.the-variants.{Yes, Refused as Unsuited}
-use Rattle.conversion.specs.declared.Prepared.{Prepared}
 use Rattle.conversion.specs.declared.Prepared.the-variants.{Ready, Refused as Unprepared}
 use Rattle.conversion.specs.Meaning.{sourceKind, frontLen}
 use Rattle.conversion.specs.Reading.{sameKind, ofKind, openedOf, isPsf1Count, suitsPsf1, isEven, evenness, evenSuits, suitsOf, measuredOf, fitting, measuredThen, suitsThen, openedThen, preparedOn, preparedOf}

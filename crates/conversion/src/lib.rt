@@ -16,7 +16,7 @@ ghost use lib.ListN.{length};
 ghost use Rattle.header.specs.Meaning.{headerLen, entryLen};
 ghost use Rattle.header.specs.Bounds.{Placed};
 ghost use Rattle.header.specs.declared.Kind.the-variants.{Vfont2 as vfont2};
-ghost use Rattle.transcode.specs.Transcode.{MeasuredWithin};
+ghost use Rattle.transcode.specs.Bounds.{MeasuredWithin};
 ghost use Rattle.entries.specs.Meaning.{entryAt};
 ghost use Rattle.conversion.specs.Meaning.{sourceKind, targetKind, frontLen};
 ghost use Rattle.conversion.specs.Reading.{sameKind, openedOf, isPsf1Count, suitsPsf1, isEven, evenness, evenSuits, suitsOf, measuredOf, fitting, measuredThen, preparedOn, preparedOf};

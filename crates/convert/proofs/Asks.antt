@@ -4,12 +4,11 @@ use mathlib.Core.List.{List}
 use Prim.Native.Nat.{ℕ, _+_, _*_, _≤_, _<_}
 use native.Mathlib.Omega.{arith}
 use lib.ListN.{length}
-use Rattle.base.specs.Bytes.{Bytes}
+use Rattle.base.specs.Meaning.{Bytes}
 use Rattle.coding.specs.declared.Coding.the-variants.{Utf8, Ucs2}
 use Rattle.transcode.specs.declared.Measured.the-variants.{Length}
 use Rattle.transcode.proofs.Measuring.{length-recoded}
-use Rattle.header.specs.declared.Kind.{Kind}
-use Rattle.header.specs.declared.Kind.the-variants.{Psf1, Psf2, Vfont2}
+use Rattle.header.specs.declared.Kind.the-variants.{Vfont2}
 use Rattle.header.specs.declared.Font.{Font}
 use Rattle.header.specs.Bounds.{Placed}
 use Rattle.entries.specs.Meaning.{entryAt, addressAt}

@@ -1,21 +1,17 @@
 -- The cases of a conversion's answer and of what it leaves in the buffer, and the parts of its output.
-use mathlib.Core.Path.{_≡_, refl, sym, _∙_, ap, subst}
+use mathlib.Core.Path.{_≡_, refl, sym, _∙_, ap}
 use mathlib.Core.List.{List, _++_}
 use mathlib.Core.Bool.{Bool}
 use Prim.Native.Nat.{ℕ, _+_, _-_, _*_, _≤_, _<_}
 use native.Mathlib.Omega.{arith}
 use lib.ListN.{length, take, drop, length-append}
 use borrow.Author.Tests.{lt-ltb, le-ltb}
-use Rattle.base.specs.Choice.{when}
-use Rattle.base.specs.Over.{over}
+use Rattle.base.specs.Reading.{when}
+use Rattle.base.specs.Meaning.{over}
 use Rattle.base.proofs.Parts.{rest-all}
-use Rattle.refusal.specs.Refusals.{refusal}
+use Rattle.refusal.specs.Meaning.{refusal}
 use Rattle.refusal.specs.declared.Refusal.{Refusal}
 use Rattle.refusal.specs.declared.Reason.the-variants.{Room}
-use Rattle.coding.specs.declared.Coding.the-variants.{Utf8, Ucs2}
-use Rattle.table.specs.Table.{IsTable}
-use Rattle.transcode.specs.declared.Measured.the-variants.{Length}
-use Rattle.transcode.specs.Transcode.{tableLen, recoded}
 use Rattle.header.specs.declared.Kind.{Kind}
 use Rattle.header.specs.declared.Kind.the-variants.{Psf1, Psf2, Vfont2}
 use Rattle.header.specs.declared.Font.{Font}
@@ -25,11 +21,9 @@ use Rattle.layout.specs.Meaning.{dispatchBytes, fieldAt20, fontBytes, charSize,
 use Rattle.layout.proofs.Parts.{dispatch-length, evenly-length}
 use Rattle.stages.specs.Meaning.{tailOf}
 use Rattle.conversion.specs.declared.Conversion.{Conversion}
-use Rattle.conversion.specs.declared.Conversion.the-variants.{Psf1ToPsf2, Psf2ToPsf1, Psf2ToVfont2, Vfont2ToPsf2}
-use Rattle.conversion.specs.declared.Prepared.{Prepared}
 use Rattle.conversion.specs.declared.Prepared.the-variants.{Ready, Refused as Unprepared}
-use Rattle.conversion.specs.Meaning.{targetKind, tableIn, outputOf, frontLen}
-use Rattle.conversion.specs.Reading.{measuredOf, preparedOf}
+use Rattle.conversion.specs.Meaning.{targetKind, tableIn, outputOf}
+use Rattle.conversion.specs.Reading.{preparedOf}
 use Rattle.convert.specs.declared.Converted.the-variants.{Wrote, Refused}
 use Rattle.convert.specs.Reading.{convertedOf, convertedInto}
 

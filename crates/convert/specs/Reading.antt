@@ -4,9 +4,9 @@ use Prim.Native.Nat.{ℕ}
 use mathlib.Core.List.{List}
 use lib.Dec.{ltb}
 use lib.ListN.{length}
-use Rattle.base.specs.Choice.{when}
-use Rattle.base.specs.Over.{over}
-use Rattle.refusal.specs.Refusals.{refusal}
+use Rattle.base.specs.Reading.{when}
+use Rattle.base.specs.Meaning.{over}
+use Rattle.refusal.specs.Meaning.{refusal}
 use Rattle.refusal.specs.declared.Reason.the-variants.{Room}
 use Rattle.header.specs.declared.Font.{Font}
 use Rattle.conversion.specs.declared.Conversion.{Conversion}

@@ -10,7 +10,7 @@ use refusal::Refusal;
 ghost use mathlib.Core.Path.{_≡_};
 ghost use Prim.Native.Nat.{ℕ, _+_, _*_, _≤_, _<_};
 ghost use lib.ListN.{length};
-ghost use Rattle.base.specs.Over.{over};
+ghost use Rattle.base.specs.Meaning.{over};
 ghost use Rattle.transcode.specs.declared.Measured.the-variants.{Length};
 ghost use Rattle.header.specs.declared.Checked.the-variants.{Sound};
 ghost use Rattle.header.specs.declared.Kind.the-variants.{Vfont2 as vfont2};

@@ -1,17 +1,14 @@
 -- The cases of `entryOf`, and one step of `scanOf`, with k entries left.
-use mathlib.Core.Path.{_≡_, refl, sym, _∙_, ap}
+use mathlib.Core.Path.{_≡_, sym, _∙_, ap}
 use mathlib.Core.List.{List}
-use Prim.Native.Nat.{ℕ, zero, suc, _+_, _-_, _*_, _≤_, _<_}
+use Prim.Native.Nat.{ℕ, zero, suc, _+_, _-_, _≤_, _<_}
 use native.Mathlib.Omega.{arith}
 use native.Mathlib.Numerals.{add-one}
-use Rattle.base.specs.Choice.{when}
 use Rattle.base.proofs.Chain.{chain}
 use Rattle.entries.specs.Meaning.{entryAt, addressAt, sizeAt, rowsAt, colsAt}
 use Rattle.entries.specs.Reading.{entryOf, larger, scanOf}
 use Rattle.header.specs.Meaning.{glyphBytes}
-use Rattle.entries.specs.declared.Entry.{Entry}
 use Rattle.entries.specs.declared.Entry.the-variants.{Empty, Glyph, Broken}
-use Rattle.entries.specs.declared.Scan.{Scan}
 use Rattle.entries.specs.declared.Scan.the-variants.{BrokenAt, Greatest}
 
 module _ (s : List ℕ) (total at : ℕ) where

@@ -1,12 +1,11 @@
 -- What is known of an entry that has a glyph.
 use mathlib.Core.Path.{_≡_, refl, sym}
 use mathlib.Core.List.{List}
-use mathlib.Core.Bool.{Bool, true, false, not}
-use Prim.Native.Nat.{ℕ, _+_, _≤_, _<_}
+use mathlib.Core.Bool.{Bool, true, false}
+use Prim.Native.Nat.{ℕ, _+_, _≤_}
 use native.Mathlib.Omega.{arith}
-use lib.Dec.{ltb, eqb}
 use borrow.Author.Tests.{ltb-false, eqb-true, eqb-false, not-false}
-use Rattle.base.specs.Choice.{when}
+use Rattle.base.specs.Reading.{when}
 use Rattle.entries.specs.Meaning.{addressAt, sizeAt, rowsAt, colsAt}
 use Rattle.entries.specs.Reading.{entryOf}
 use Rattle.header.specs.Meaning.{glyphBytes}

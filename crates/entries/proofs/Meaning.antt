@@ -3,16 +3,16 @@ use mathlib.Core.Path.{_≡_, refl, sym, _∙_, ap, subst}
 use mathlib.Core.Logic.{_⊎_, inl, inr, ⊎-elim}
 use mathlib.Core.List.{List}
 use mathlib.Core.Bool.{Bool, true, false}
-use Prim.Native.Nat.{ℕ, zero, suc, _+_, _*_, _≤_, _<_}
+use Prim.Native.Nat.{ℕ, zero, suc, _+_, _≤_, _<_}
 use native.Mathlib.Omega.{arith}
-use lib.Dec.{ltb, eqb}
+use lib.Dec.{ltb}
 use borrow.Author.Tests.{ltb-true, ltb-false, eqb-true}
-use Rattle.base.specs.Choice.{pick, when}
+use Rattle.base.specs.Meaning.{pick}
+use Rattle.base.specs.Reading.{when}
 use Rattle.base.proofs.Tests.{below}
-use Rattle.entries.specs.Meaning.{addressAt, sizeAt, rowsAt, colsAt}
+use Rattle.entries.specs.Meaning.{sizeAt, rowsAt, colsAt, entryAt, HasGlyph, Rules, Breaks, FirstBroken, IsGreatest}
 use Rattle.entries.specs.Reading.{entryOf, larger, scanOf}
-use Rattle.header.specs.Meaning.{rowBytes, glyphBytes}
-use Rattle.entries.specs.Meaning.{entryAt, HasGlyph, Rules, Breaks, FirstBroken, IsGreatest}
+use Rattle.header.specs.Meaning.{glyphBytes}
 use Rattle.entries.specs.declared.Entry.{Entry}
 use Rattle.entries.specs.declared.Entry.the-variants.{Empty, Glyph, Broken}
 use Rattle.entries.specs.declared.Scan.{Scan}

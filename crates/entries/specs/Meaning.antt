@@ -6,8 +6,7 @@ use mathlib.Core.Logic.{_⊎_}
 use mathlib.Core.List.{List}
 use lib.Dec.{ltb}
 use lib.IntN.{ℤ, pos, negsuc, _+ℤ_, _-ℤ_}
-use Rattle.base.specs.Choice.{pick}
-use Rattle.base.specs.Numbers.{le16, le32}
+use Rattle.base.specs.Meaning.{pick, le16, le32}
 use Rattle.header.specs.declared.Kind.the-variants.{Vfont2}
 use Rattle.header.specs.Meaning.{entryLen, rowBytes}
 use Rattle.entries.specs.declared.Metrics.{Metrics}

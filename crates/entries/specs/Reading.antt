@@ -3,7 +3,8 @@ use Prim.Native.Nat.{ℕ, zero, suc, _+_}
 use mathlib.Core.List.{List}
 use mathlib.Core.Bool.{not}
 use lib.Dec.{ltb, eqb}
-use Rattle.base.specs.Choice.{pick, when}
+use Rattle.base.specs.Meaning.{pick}
+use Rattle.base.specs.Reading.{when}
 use Rattle.header.specs.Meaning.{glyphBytes}
 use Rattle.entries.specs.declared.Entry.{Entry}
 use Rattle.entries.specs.declared.Entry.the-variants.{Empty, Glyph, Broken}

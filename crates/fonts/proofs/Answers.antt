@@ -5,24 +5,23 @@ use mathlib.Core.List.{List, [], _∷_}
 use Prim.Native.Nat.{ℕ, _+_, _-_, _≤_, _<_}
 use native.Mathlib.Omega.{arith}
 use native.Mathlib.Numerals.{add-one}
-use lib.Dec.{ltb}
 use lib.ListN.{length, getD, take, drop, drop-of-length-le}
 use lib.Seq.{drop-cons}
 use borrow.Author.Tests.{lt-ltb, le-ltb}
-use Rattle.base.specs.Choice.{pick, when}
+use Rattle.base.specs.Reading.{when}
 use Rattle.base.proofs.Parts.{rest-all}
-use Rattle.refusal.specs.Refusals.{refusal}
+use Rattle.refusal.specs.Meaning.{refusal}
 use Rattle.refusal.specs.declared.Reason.the-variants.{Ask, NoTable}
 use Rattle.coding.specs.declared.Coding.{Coding}
-use Rattle.table.specs.Steps.{itemsIn}
+use Rattle.table.specs.Reading.{itemsIn}
 use Rattle.lookup.specs.declared.Walked.{Walked}
 use Rattle.lookup.specs.declared.Found.{Found}
-use Rattle.lookup.specs.Lookup.{itemAt, findValue, findSequence}
+use Rattle.lookup.specs.Reading.{itemAt, findValue, findSequence}
 use Rattle.header.specs.declared.Font.{Font}
 use Rattle.stages.specs.Meaning.{codingOf}
-use Rattle.fonts.specs.declared.Walk.the-variants.{Is, Refused as NoWalk}
-use Rattle.fonts.specs.declared.Lookup.the-variants.{Glyph, Refused as NoLookup}
-use Rattle.fonts.specs.Reading.{fontItems, walked, itemOn, found, valueOn, anyHigh, askable, sequenceOn}
+use Rattle.fonts.specs.declared.Walk.the-variants.{Refused as NoWalk}
+use Rattle.fonts.specs.declared.Lookup.the-variants.{Refused as NoLookup}
+use Rattle.fonts.specs.Reading.{fontItems, walkOf, itemOn, lookupOf, valueOn, anyHigh, askable, sequenceOn}
 
 module _ (s : List ℕ) (f : Font) where
   -- the items of the part that the reader is handed
@@ -31,17 +30,17 @@ module _ (s : List ℕ) (f : Font) where
 
   module _ (g k : ℕ) where
     pub item-told : f .table ≡ true → (c : Coding) → c ≡ codingOf (f .kind) → (w : Walked) →
-        w ≡ itemAt g k (itemsIn c (take (length s - f .end) (drop (f .end) s))) → walked w ≡ itemOn s g k f
-    item-told t c e w q = rw t (ap walked (q ∙ ap (itemAt g k) (part-items c e)))
+        w ≡ itemAt g k (itemsIn c (take (length s - f .end) (drop (f .end) s))) → walkOf w ≡ itemOn s g k f
+    item-told t c e w q = rw t (ap walkOf (q ∙ ap (itemAt g k) (part-items c e)))
 
     pub item-bare : f .table ≡ false → NoWalk (refusal NoTable 0) ≡ itemOn s g k f
     item-bare t = rw t
 
   module _ (v : ℕ) where
     pub value-told : f .table ≡ true → v ≤ 0x10FFFF → (c : Coding) → c ≡ codingOf (f .kind) → (w : Found) →
-        w ≡ findValue v 0 (itemsIn c (take (length s - f .end) (drop (f .end) s))) → found w ≡ valueOn s v f
+        w ≡ findValue v 0 (itemsIn c (take (length s - f .end) (drop (f .end) s))) → lookupOf w ≡ valueOn s v f
     unfolding when
-    value-told t h c e w q = rw (t, le-ltb 0x10FFFF v h) (ap found (q ∙ ap (findValue v 0) (part-items c e)))
+    value-told t h c e w q = rw (t, le-ltb 0x10FFFF v h) (ap lookupOf (q ∙ ap (findValue v 0) (part-items c e)))
 
     pub value-high : f .table ≡ true → 0x10FFFF < v → NoLookup (refusal Ask 0) ≡ valueOn s v f
     unfolding when
@@ -52,9 +51,9 @@ module _ (s : List ℕ) (f : Font) where
 
   module _ (vs : List ℕ) where
     pub sequence-told : f .table ≡ true → (m : Bool) → m ≡ askable vs → m ≡ true → (c : Coding) → c ≡ codingOf (f .kind) → (w : Found) →
-        w ≡ findSequence vs (itemsIn c (take (length s - f .end) (drop (f .end) s))) → found w ≡ sequenceOn s vs f
+        w ≡ findSequence vs (itemsIn c (take (length s - f .end) (drop (f .end) s))) → lookupOf w ≡ sequenceOn s vs f
     unfolding when
-    sequence-told t m a b c e w q = rw (t, sym a ∙ b) (ap found (q ∙ ap (findSequence vs) (part-items c e)))
+    sequence-told t m a b c e w q = rw (t, sym a ∙ b) (ap lookupOf (q ∙ ap (findSequence vs) (part-items c e)))
 
     pub sequence-ask : f .table ≡ true → (m : Bool) → m ≡ askable vs → m ≡ false → NoLookup (refusal Ask 0) ≡ sequenceOn s vs f
     unfolding when

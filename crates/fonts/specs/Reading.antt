@@ -3,27 +3,28 @@ use Prim.Native.Nat.{ℕ}
 use mathlib.Core.Bool.{Bool, true, false}
 use mathlib.Core.List.{List, [], _∷_}
 use lib.Dec.{ltb}
-use Rattle.base.specs.Choice.{pick, when}
+use Rattle.base.specs.Meaning.{pick}
+use Rattle.base.specs.Reading.{when}
 use Rattle.refusal.specs.declared.Refusal.{Refusal}
-use Rattle.refusal.specs.Refusals.{refusal}
+use Rattle.refusal.specs.Meaning.{refusal}
 use Rattle.refusal.specs.declared.Reason.the-variants.{Ask, NoTable, Unmapped}
 use Rattle.header.specs.declared.Font.{Font}
 use Rattle.header.specs.declared.Checked.{Checked}
 use Rattle.header.specs.declared.Checked.the-variants.{Sound, Refused}
 use Rattle.bitmap.specs.declared.Part.{Part}
-use Rattle.bitmap.specs.declared.Part.the-variants.{At, Refused as NoPart}
+use Rattle.bitmap.specs.declared.Part.the-variants.{Refused as NoPart}
 use Rattle.bitmap.specs.declared.Pixel.{Pixel}
-use Rattle.bitmap.specs.declared.Pixel.the-variants.{Bit, Refused as NoPixel}
+use Rattle.bitmap.specs.declared.Pixel.the-variants.{Refused as NoPixel}
 use Rattle.bitmap.specs.declared.GlyphMetrics.{GlyphMetrics}
-use Rattle.bitmap.specs.declared.GlyphMetrics.the-variants.{Is as IsMetrics, Refused as NoMetrics}
+use Rattle.bitmap.specs.declared.GlyphMetrics.the-variants.{Refused as NoMetrics}
 use Rattle.bitmap.specs.Reading.{bitmapOf, wholeOf, rowOf, pixelOf, metricsOf}
 use Rattle.table.specs.declared.Item as I
-use Rattle.table.specs.Steps.{itemsIn}
+use Rattle.table.specs.Reading.{itemsIn}
 use Rattle.lookup.specs.declared.Walked.{Walked}
 use Rattle.lookup.specs.declared.Walked.the-variants.{Found as Got, Nothing as NoItem}
 use Rattle.lookup.specs.declared.Found as F
 use Rattle.lookup.specs.declared.Found.the-variants.{At as FoundAt, Nothing}
-use Rattle.lookup.specs.Lookup.{itemAt, findValue, findSequence}
+use Rattle.lookup.specs.Reading.{itemAt, findValue, findSequence}
 use Rattle.stages.specs.Meaning.{codingOf, tailOf}
 use Rattle.stages.specs.Reading.{checkOf}
 use Rattle.fonts.specs.declared.Walk.{Walk}
@@ -57,24 +58,24 @@ abbrev pub fontItems : List ℕ → Font → List I.Item
 fontItems s f = itemsIn (codingOf (f .kind)) (tailOf s f)
 
 -- "Lookups and walks: NO TABLE, then ASK, then UNMAPPED."
-abbrev pub walked : Walked → Walk
-walked (Got i) = Is i
-walked NoItem = NoWalk (refusal Ask 0)
+abbrev pub walkOf : Walked → Walk
+walkOf (Got i) = Is i
+walkOf NoItem = NoWalk (refusal Ask 0)
 
 -- item k of glyph g
 abbrev pub itemOn : List ℕ → ℕ → ℕ → Font → Walk
-itemOn s g k f = pick (f .table) (walked (itemAt g k (fontItems s f))) (NoWalk (refusal NoTable 0))
+itemOn s g k f = pick (f .table) (walkOf (itemAt g k (fontItems s f))) (NoWalk (refusal NoTable 0))
 
 unfoldable pub itemOf : List ℕ → ℕ → ℕ → Walk
 itemOf s g k = asked NoWalk (itemOn s g k) (checkOf s)
 
-abbrev pub found : F.Found → Lookup
-found (FoundAt g) = Glyph g
-found Nothing = NoLookup (refusal Unmapped 0)
+abbrev pub lookupOf : F.Found → Lookup
+lookupOf (FoundAt g) = Glyph g
+lookupOf Nothing = NoLookup (refusal Unmapped 0)
 
 -- the lowest glyph that lists v as a single
 abbrev pub valueOn : List ℕ → ℕ → Font → Lookup
-valueOn s v f = pick (f .table) (when (ltb 0x10FFFF v) (NoLookup (refusal Ask 0)) (found (findValue v 0 (fontItems s f)))) (NoLookup (refusal NoTable 0))
+valueOn s v f = pick (f .table) (when (ltb 0x10FFFF v) (NoLookup (refusal Ask 0)) (lookupOf (findValue v 0 (fontItems s f)))) (NoLookup (refusal NoTable 0))
 
 unfoldable pub valueGlyph : List ℕ → ℕ → Lookup
 valueGlyph s v = asked NoLookup (valueOn s v) (checkOf s)
@@ -90,7 +91,7 @@ askable (v ∷ vs) = pick (anyHigh (v ∷ vs)) false true
 
 -- the lowest glyph that lists the sequence vs
 abbrev pub sequenceOn : List ℕ → List ℕ → Font → Lookup
-sequenceOn s vs f = pick (f .table) (when (askable vs) (found (findSequence vs (fontItems s f))) (NoLookup (refusal Ask 0))) (NoLookup (refusal NoTable 0))
+sequenceOn s vs f = pick (f .table) (when (askable vs) (lookupOf (findSequence vs (fontItems s f))) (NoLookup (refusal Ask 0))) (NoLookup (refusal NoTable 0))
 
 unfoldable pub sequenceGlyph : List ℕ → List ℕ → Lookup
 sequenceGlyph s vs = asked NoLookup (sequenceOn s vs) (checkOf s)

@@ -21,7 +21,7 @@ ghost use Rattle.convert.specs.Reading.{convertedOf, convertedInto};
 ghost use Rattle.bitmap.specs.Reading.{viewOf};
 ghost use Rattle.bitmap.specs.Bounds.{PartInside};
 ghost use Rattle.fonts.specs.Reading.{glyphPartOf, rowPartOf, pixelAt, glyphMetricsOf, fontItems, itemOn, itemOf, valueOn, valueGlyph, anyHigh, askable, sequenceOn, sequenceGlyph};
-ghost use Rattle.lookup.specs.Lookup.{itemAt, findValue, findSequence};
+ghost use Rattle.lookup.specs.Reading.{itemAt, findValue, findSequence};
 
 // An item of a glyph's description; or the refusal.
 pub enum Walk {

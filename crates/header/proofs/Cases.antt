@@ -1,17 +1,16 @@
 -- What each definition of the header's checks is where one of its checks applies: the checks before it did not.
-use mathlib.Core.Path.{_≡_, refl, sym, _∙_}
+use mathlib.Core.Path.{_≡_}
 use mathlib.Core.List.{List}
 use mathlib.Core.Bool.{Bool, true, false}
 use Prim.Native.Nat.{ℕ, _+_, _*_, _≤_, _<_}
 use lib.Dec.{eqb}
 use lib.ListN.{length, getD}
-use Rattle.base.specs.Choice.{when}
-use Rattle.base.specs.Numbers.{le32}
-use Rattle.base.specs.Begins.{startsWith}
+use Rattle.base.specs.Reading.{when, startsWith}
+use Rattle.base.specs.Meaning.{le32}
 use Rattle.base.proofs.Chain.{chain}
-use Rattle.refusal.specs.Refusals.{refusal}
+use Rattle.refusal.specs.Meaning.{refusal}
 use Rattle.refusal.specs.declared.Reason.the-variants.{HeaderCut, Version, HeaderSize, Count, Shape}
-use Rattle.header.specs.Meaning.{magicOf, headerLen, entryLen, glyphBytes, psf1Count, psf1Table, psf1Font, fieldsOf, psf2Font, vfont2Font}
+use Rattle.header.specs.Meaning.{magicOf, entryLen, glyphBytes, psf1Count, psf1Table, psf1Font, fieldsOf, psf2Font, vfont2Font}
 use Rattle.header.specs.Reading.{kindOf, psf1Says, headOf, psf2Shaped, vfont2Shaped, namedSays, saysOf}
 use Rattle.header.specs.declared.Kind.the-variants.{Psf1, Psf2, Vfont2}
 use Rattle.header.specs.declared.Named.{Named}

@@ -1,14 +1,14 @@
 -- What is known of a font that a header describes: the fields that the file holds, and every check that they passed.
 use mathlib.Core.Path.{_≡_, refl, sym, _∙_, ap, subst}
 use mathlib.Core.List.{List}
-use mathlib.Core.Bool.{Bool, true, false, not}
-use Prim.Native.Nat.{ℕ, _+_, _*_, _%_, _≤_, _<_}
+use mathlib.Core.Bool.{Bool, true, false}
+use Prim.Native.Nat.{ℕ, _%_, _≤_, _<_}
 use native.Mathlib.Omega.{arith}
 use lib.Dec.{eqb}
 use lib.ListN.{length, getD}
 use borrow.Author.Tests.{ltb-false, eqb-true, eqb-false, not-false}
-use Rattle.base.specs.Choice.{pick, when}
-use Rattle.base.specs.Numbers.{le32}
+use Rattle.base.specs.Meaning.{pick, le32}
+use Rattle.base.specs.Reading.{when}
 use Rattle.refusal.specs.declared.Refusal.{Refusal}
 use Rattle.header.specs.declared.Kind.{Kind}
 use Rattle.header.specs.declared.Kind.the-variants.{Psf1, Psf2, Vfont2}
@@ -22,7 +22,7 @@ use Rattle.header.specs.declared.Checked.{Checked}
 use Rattle.header.specs.declared.Checked.the-variants.{Sound, Refused}
 use Rattle.header.specs.Meaning.{glyphBytes, psf1Count, psf1Table, psf1Font, fieldsOf, psf2Font, vfont2Font}
 use Rattle.header.specs.Reading.{kindOf, psf1Says, headOf, psf2Shaped, vfont2Shaped, onFields, namedSays, saysOf}
-use Rattle.header.specs.Bounds.{KindPlaced, Described}
+use Rattle.header.specs.Bounds.{Described}
 
 pub never : (r : Refusal) (f : Font) → Refused r ≡ Sound f → ⊥
 never r f e = let z : _≡_ {A = ℕ} 0 1 = cc in omega arith

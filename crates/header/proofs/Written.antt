@@ -1,11 +1,11 @@
 -- The parts of a written header one by one: flags, mode, lengths.
 use mathlib.Core.Path.{_≡_, refl}
 use mathlib.Core.Bool.{Bool, true, false}
-use mathlib.Core.List.{List, [], _∷_, _++_}
+use mathlib.Core.List.{[], _∷_, _++_}
 use Prim.Native.Nat.{ℕ}
 use lib.ListN.{length}
 use borrow.Author.Tests.{eq-eqb, ne-eqb}
-use Rattle.base.specs.Numbers.{bytes32}
+use Rattle.base.specs.Meaning.{bytes32}
 use Rattle.header.specs.declared.Kind.{Kind}
 use Rattle.header.specs.declared.Kind.the-variants.{Psf1, Psf2, Vfont2}
 use Rattle.header.specs.Meaning.{magicOf, headerLen, fields, flagsOf, fixedFields, modeOf, headerBytes}

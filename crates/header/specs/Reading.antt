@@ -1,13 +1,12 @@
 -- What a header says: refusals 2 to 7 of document 01 in their order, or the font that it describes.
 use Prim.Native.Nat.{ℕ}
 use mathlib.Core.List.{List}
-use mathlib.Core.Bool.{Bool, not}
+use mathlib.Core.Bool.{not}
 use lib.Dec.{ltb, eqb}
 use lib.ListN.{length, getD}
-use Rattle.base.specs.Choice.{when}
-use Rattle.base.specs.Begins.{startsWith}
-use Rattle.base.specs.Numbers.{le32}
-use Rattle.refusal.specs.Refusals.{refusal}
+use Rattle.base.specs.Reading.{when, startsWith}
+use Rattle.base.specs.Meaning.{le32}
+use Rattle.refusal.specs.Meaning.{refusal}
 use Rattle.refusal.specs.declared.Reason.the-variants.{Kind, HeaderCut, Version, HeaderSize, Count, Shape}
 use Rattle.header.specs.declared.Kind.the-variants.{Psf1, Psf2, Vfont2}
 use Rattle.header.specs.declared.Named.{Named}

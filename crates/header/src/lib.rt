@@ -6,7 +6,7 @@ ghost use mathlib.Core.Path.{_≡_};
 ghost use mathlib.Core.Bool.{Bool};
 ghost use Prim.Native.Nat.{ℕ, _+_, _*_, _≤_, _<_};
 ghost use lib.ListN.{length};
-ghost use Rattle.base.specs.Over.{over};
+ghost use Rattle.base.specs.Meaning.{over};
 ghost use Rattle.header.specs.declared.Kind.the-variants.{Psf1 as psf1, Psf2 as psf2, Vfont2 as vfont2};
 ghost use Rattle.header.specs.Meaning.{entryLen, rowBytes, glyphBytes, psf1Count, psf1Table, fields, flagsOf, fixedFields, modeOf, headerBytes};
 ghost use Rattle.header.specs.Reading.{kindOf, psf1Says, headOf, psf2Shaped, vfont2Shaped, onFields, saysOf};

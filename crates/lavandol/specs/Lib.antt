@@ -1,2 +1,2 @@
 -- The answers as C reads them.
-pub mod Boundary
+pub mod Meaning

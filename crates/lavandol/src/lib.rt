@@ -16,7 +16,7 @@ ghost use Rattle.stages.specs.Reading.{checkOf};
 ghost use Rattle.fonts.specs.Reading.{glyphPartOf, rowPartOf, pixelAt, glyphMetricsOf, itemOf, valueGlyph, sequenceGlyph};
 ghost use Rattle.conversion.specs.declared.Conversion.the-variants.{Psf1ToPsf2, Psf2ToPsf1, Psf2ToVfont2, Vfont2ToPsf2};
 ghost use Rattle.convert.specs.Reading.{convertedOf, convertedInto};
-ghost use Rattle.lavandol.specs.Boundary.{kindNumber, flagNumber, refusedFont, fontAnswer, refusedPart, partAnswer, refusedMetrics, metricsAnswer, numberAnswer, refusedNumber, pixelAnswer, lookupAnswer, itemAnswer, refusedItem, walkAnswer, convertedAnswer};
+ghost use Rattle.lavandol.specs.Meaning.{kindNumber, flagNumber, refusedFont, fontAnswer, refusedPart, partAnswer, refusedMetrics, metricsAnswer, numberAnswer, refusedNumber, pixelAnswer, lookupAnswer, itemAnswer, refusedItem, walkAnswer, convertedAnswer};
 
 // What the check says: a refusal's number (0 where the font is sound) and place; the fields of a sound font.
 #[repr(C)]

@@ -1,7 +1,7 @@
 -- The number that an answer says back: 0, or that of its refusal's reason. Answers with different numbers are not the same.
 use mathlib.Core.Path.{_≡_, ap}
 use Prim.Native.Nat.{ℕ}
-use Rattle.refusal.specs.Refusals.{numberOf}
+use Rattle.refusal.specs.Meaning.{numberOf}
 use Rattle.header.specs.declared.Checked.{Checked}
 use Rattle.header.specs.declared.Checked.the-variants.{Sound, Refused}
 use Rattle.bitmap.specs.declared.Part.{Part}

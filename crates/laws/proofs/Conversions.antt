@@ -6,12 +6,12 @@ use mathlib.Core.List.{List}
 use Prim.Native.Nat.{ℕ, _+_, _*_, _≤_, _<_}
 use native.Mathlib.Omega.{arith}
 use lib.ListN.{length, take, drop}
-use Rattle.base.specs.Bytes.{Bytes}
-use Rattle.refusal.specs.Refusals.{numberOf, refusal}
+use Rattle.base.specs.Meaning.{Bytes}
+use Rattle.refusal.specs.Meaning.{numberOf, refusal}
 use Rattle.refusal.specs.declared.Refusal.{Refusal}
 use Rattle.refusal.specs.declared.Reason.the-variants.{WrongKind, Glyphs, Value, Size, Room}
-use Rattle.table.specs.Grammar.{Desc, items, encode, Readable}
-use Rattle.transcode.specs.Carrying.{FirstUncarried}
+use Rattle.table.specs.Meaning.{Desc, items, encode, Readable}
+use Rattle.transcode.specs.Meaning.{FirstUncarried}
 use Rattle.coding.specs.declared.Coding.the-variants.{Utf8, Ucs2}
 use Rattle.header.specs.declared.Kind.{Kind}
 use Rattle.header.specs.declared.Font.{Font}

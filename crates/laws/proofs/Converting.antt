@@ -7,13 +7,12 @@ use Prim.Native.Nat.{ℕ, _*_, _≤_, _<_}
 use native.Mathlib.Omega.{arith}
 use lib.ListN.{length, take, drop}
 use lib.Seq.{take-at, drop-at}
-use Rattle.base.specs.Bytes.{Bytes}
-use Rattle.base.specs.Over.{over}
+use Rattle.base.specs.Meaning.{Bytes, over}
 use Rattle.base.proofs.Parts.{bytes-drop}
 use Rattle.base.proofs.Tests.{below}
 use Rattle.refusal.specs.declared.Refusal.{Refusal}
 use Rattle.coding.specs.declared.Coding.the-variants.{Utf8, Ucs2}
-use Rattle.table.specs.Grammar.{Desc, encode, Readable}
+use Rattle.table.specs.Meaning.{Desc, encode, Readable}
 use Rattle.transcode.specs.declared.Measured.the-variants.{Length}
 use Rattle.transcode.proofs.Meaning.{recoded-table}
 use Rattle.header.specs.declared.Kind.{Kind}

@@ -5,10 +5,9 @@ use mathlib.Core.List.{List}
 use Prim.Native.Nat.{ℕ, _+_, _*_, _≤_, _<_}
 use native.Mathlib.Omega.{arith}
 use lib.ListN.{length, getD}
-use Rattle.base.specs.Begins.{Begins}
-use Rattle.base.specs.Numbers.{le32}
+use Rattle.base.specs.Meaning.{Begins, le32}
 use Rattle.base.proofs.Tests.{below, same}
-use Rattle.refusal.specs.Refusals.{refusal}
+use Rattle.refusal.specs.Meaning.{refusal}
 use Rattle.refusal.specs.declared.Reason.{Reason}
 use Rattle.refusal.specs.declared.Reason.the-variants.{Kind, BodyCut}
 use Rattle.refusal.specs.declared.Refusal.{Refusal}

@@ -4,9 +4,9 @@ use mathlib.Core.Logic.{_↔_, _⊎_, inl, inr}
 use mathlib.Core.List.{List}
 use Prim.Native.Nat.{ℕ, _≤_, _<_}
 use native.Mathlib.Omega.{arith}
-use Rattle.base.specs.Bytes.{Bytes}
+use Rattle.base.specs.Meaning.{Bytes}
 use Rattle.base.proofs.Tests.{below, same}
-use Rattle.refusal.specs.Refusals.{refusal, numberOf}
+use Rattle.refusal.specs.Meaning.{refusal, numberOf}
 use Rattle.refusal.specs.declared.Reason.the-variants.{Ask, NoGlyph}
 use Rattle.refusal.specs.declared.Refusal.{Refusal}
 use Rattle.header.specs.declared.Kind.{Kind}

@@ -4,7 +4,8 @@ use mathlib.Core.Bool.{Bool, true, false}
 use mathlib.Core.List.{List}
 use Prim.Native.Nat.{ℕ}
 use native.Mathlib.Omega.{arith}
-use Rattle.base.specs.Begins.{Begins, startsWith}
+use Rattle.base.specs.Meaning.{Begins}
+use Rattle.base.specs.Reading.{startsWith}
 use Rattle.base.proofs.Begins.{begins-exactly}
 use Rattle.header.specs.declared.Kind.the-variants.{Psf1, Psf2, Vfont2}
 use Rattle.header.specs.declared.Named.{Named}

@@ -9,8 +9,9 @@ use Prim.Native.Nat.{ℕ, _<_}
 use native.Mathlib.Omega.{arith}
 use lib.Dec.{ltb}
 use borrow.Author.Tests.{ltb-true, lt-ltb, not-true}
-use Rattle.base.specs.Choice.{pick, when}
-use Rattle.refusal.specs.Refusals.{refusal}
+use Rattle.base.specs.Meaning.{pick}
+use Rattle.base.specs.Reading.{when}
+use Rattle.refusal.specs.Meaning.{refusal}
 use Rattle.refusal.specs.declared.Reason.the-variants.{Ask, NoTable}
 use Rattle.refusal.specs.declared.Refusal.{Refusal}
 use Rattle.header.specs.declared.Font.{Font}
@@ -22,13 +23,13 @@ use Rattle.lookup.specs.declared.Walked.{Walked}
 use Rattle.lookup.specs.declared.Walked.the-variants.{Found as Got, Nothing as NoItem}
 use Rattle.lookup.specs.declared.Found.{Found}
 use Rattle.lookup.specs.declared.Found.the-variants.{At as FoundAt, Nothing}
-use Rattle.lookup.specs.Lookup.{itemAt, findValue, findSequence}
-use Rattle.lookup.specs.Listing.{Any}
+use Rattle.lookup.specs.Reading.{itemAt, findValue, findSequence}
+use Rattle.lookup.specs.Meaning.{Any}
 use Rattle.stages.specs.Reading.{checkOf}
 use Rattle.fonts.specs.declared.Walk.the-variants.{Refused as NoWalk}
 use Rattle.fonts.specs.declared.Lookup.{Lookup}
 use Rattle.fonts.specs.declared.Lookup.the-variants.{Refused as NoLookup}
-use Rattle.fonts.specs.Reading.{glyphPartOf, rowPartOf, pixelAt, glyphMetricsOf, fontItems, walked, itemOn, itemOf, found, valueOn, valueGlyph, anyHigh, askable, sequenceGlyph}
+use Rattle.fonts.specs.Reading.{glyphPartOf, rowPartOf, pixelAt, glyphMetricsOf, fontItems, walkOf, itemOn, itemOf, lookupOf, valueOn, valueGlyph, anyHigh, askable, sequenceGlyph}
 use Rattle.laws.proofs.Answers.{clash, walkNumber, lookupNumber}
 
 -- "Every question … gives the font's own refusal (1 to 12) first."
@@ -62,14 +63,14 @@ module _ (s : List ℕ) (r : Refusal) (refused : checkOf s ≡ Refused r) where
   sequence-own vs = rw refused
 
 -- a walk's answer by whether there is a table
-walk-bare : (t : Bool) (w : Walked) → pick t (walked w) (NoWalk (refusal NoTable 0)) ≡ NoWalk (refusal NoTable 0) → t ≡ false
+walk-bare : (t : Bool) (w : Walked) → pick t (walkOf w) (NoWalk (refusal NoTable 0)) ≡ NoWalk (refusal NoTable 0) → t ≡ false
 walk-bare false w e = refl
 walk-bare true (Got i) e = clash walkNumber e (λ z. omega arith)
 walk-bare true NoItem e = clash walkNumber e (λ z. omega arith)
 
 -- a lookup's answer by whether there is a table, and whether ASK applies
 abbrev answer : Bool → Bool → Found → Lookup
-answer t a w = pick t (when a (NoLookup (refusal Ask 0)) (found w)) (NoLookup (refusal NoTable 0))
+answer t a w = pick t (when a (NoLookup (refusal Ask 0)) (lookupOf w)) (NoLookup (refusal NoTable 0))
 
 lookup-bare : (t a : Bool) (w : Found) → answer t a w ≡ NoLookup (refusal NoTable 0) → t ≡ false
 unfolding when
@@ -143,7 +144,7 @@ module _ (s : List ℕ) (f : Font) (sound : checkOf s ≡ Sound f) where
 
   sequence-asks : (vs : List ℕ) → sequenceGlyph s vs ≡ answer (f .table) (not (askable vs)) (findSequence vs (fontItems s f))
   unfolding sequenceGlyph
-  sequence-asks vs = rw sound (ap (λ (x : Lookup). pick (f .table) x (NoLookup (refusal NoTable 0))) (flip (askable vs) (found (findSequence vs (fontItems s f))) (NoLookup (refusal Ask 0))))
+  sequence-asks vs = rw sound (ap (λ (x : Lookup). pick (f .table) x (NoLookup (refusal NoTable 0))) (flip (askable vs) (lookupOf (findSequence vs (fontItems s f))) (NoLookup (refusal Ask 0))))
 
   -- NO TABLE exactly on a font without a table, whatever is asked
   pub item-no-table-exactly : (g k : ℕ) → (itemOf s g k ≡ NoWalk (refusal NoTable 0)) ↔ (f .table ≡ false)

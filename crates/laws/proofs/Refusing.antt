@@ -7,22 +7,22 @@ use Prim.Native.Nat.{ℕ, zero, suc, _+_, _≤_, _<_}
 use native.Mathlib.Omega.{arith}
 use lib.ListN.{length}
 use borrow.Author.Tests.{lt-ltb, le-ltb, eq-eqb, ne-eqb}
-use Rattle.base.specs.Choice.{when}
-use Rattle.base.specs.Bytes.{Bytes}
+use Rattle.base.specs.Reading.{when}
+use Rattle.base.specs.Meaning.{Bytes}
 use Rattle.base.proofs.Tests.{below, same}
-use Rattle.refusal.specs.Refusals.{numberOf, refusal}
+use Rattle.refusal.specs.Meaning.{numberOf, refusal}
 use Rattle.refusal.specs.declared.Refusal.{Refusal}
 use Rattle.refusal.specs.declared.Reason.the-variants.{WrongKind, Glyphs, Value, Size, Room}
 use Rattle.coding.specs.declared.Coding.{Coding}
 use Rattle.coding.specs.declared.Coding.the-variants.{Utf8, Ucs2}
-use Rattle.coding.specs.Coding.{valueOf}
+use Rattle.coding.specs.Meaning.{valueOf}
 use Rattle.table.specs.declared.Item.{Item}
 use Rattle.table.specs.declared.Item.the-variants.{Single, Start, Value as InSequence, End}
-use Rattle.table.specs.Grammar.{Desc, items, OfCoding, encode, Readable}
+use Rattle.table.specs.Meaning.{Desc, items, OfCoding, encode, Readable}
 use Rattle.transcode.specs.declared.Measured.{Measured}
 use Rattle.transcode.specs.declared.Measured.the-variants.{Length, Uncarried}
-use Rattle.transcode.specs.Transcode.{tableLen}
-use Rattle.transcode.specs.Carrying.{FirstUncarried}
+use Rattle.transcode.specs.Reading.{tableLen}
+use Rattle.transcode.specs.Meaning.{FirstUncarried}
 use Rattle.transcode.proofs.Meaning.{length-exactly, uncarried-place}
 use Rattle.header.specs.declared.Kind.{Kind}
 use Rattle.header.specs.declared.Kind.the-variants.{Psf1, Psf2, Vfont2}

@@ -2,7 +2,7 @@
 use mathlib.Core.Path.{_≡_, refl, sym}
 use mathlib.Core.List.{List}
 use Prim.Native.Nat.{ℕ}
-use Rattle.base.specs.Bytes.{Bytes}
+use Rattle.base.specs.Meaning.{Bytes}
 use Rattle.header.specs.declared.Checked.the-variants.{Sound, Refused}
 use Rattle.stages.specs.Reading.{throughEntries, checkOf}
 use Rattle.stages.proofs.Cases.{tail-after}

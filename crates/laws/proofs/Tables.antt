@@ -7,15 +7,14 @@ use mathlib.Core.Bool.{true}
 use mathlib.Core.List.{List}
 use Prim.Native.Nat.{ℕ, _+_, _≤_, _<_}
 use lib.ListN.{length, take}
-use Rattle.base.specs.Bytes.{Bytes}
+use Rattle.base.specs.Meaning.{Bytes}
 use Rattle.refusal.specs.declared.Refusal.{Refusal}
-use Rattle.refusal.specs.Refusals.{refusal}
+use Rattle.refusal.specs.Meaning.{refusal}
 use Rattle.refusal.specs.declared.Reason.the-variants.{TableCut, TableBad, Trailing, Ask, Unmapped}
 use Rattle.table.specs.declared.Item.{Item}
-use Rattle.table.specs.Grammar.{Desc, encode, Readable}
-use Rattle.table.specs.Table.{IsTable, Completable, LongestStart}
+use Rattle.table.specs.Meaning.{Desc, encode, Readable, IsTable, Completable, LongestStart}
 use Rattle.table.proofs.Meaning as meaning
-use Rattle.lookup.specs.Listing.{ListsValue, ListsSequence, Lowest, Nowhere, ItemIs}
+use Rattle.lookup.specs.Meaning.{ListsValue, ListsSequence, Lowest, Nowhere, ItemIs}
 use Rattle.header.specs.declared.Font.{Font}
 use Rattle.header.specs.declared.Checked.the-variants.{Sound, Refused}
 use Rattle.stages.specs.Meaning.{codingOf, tailOf}

@@ -4,11 +4,11 @@ use mathlib.Core.Path.{_≡_}
 use mathlib.Core.Logic.{_⊎_}
 use mathlib.Core.List.{List}
 use lib.ListN.{length, take, drop}
-use Rattle.base.specs.Bytes.{Bytes}
+use Rattle.base.specs.Meaning.{Bytes}
 use Rattle.table.specs.declared.Item.{Item}
 use Rattle.table.specs.declared.Item.the-variants.{Single, Value}
-use Rattle.table.specs.Grammar.{Desc, items, encode, Readable}
-use Rattle.transcode.specs.Carrying.{FirstUncarried}
+use Rattle.table.specs.Meaning.{Desc, items, encode, Readable}
+use Rattle.transcode.specs.Meaning.{FirstUncarried}
 use Rattle.header.specs.declared.Kind.{Kind}
 use Rattle.header.specs.declared.Font.{Font}
 use Rattle.header.specs.declared.Checked.the-variants.{Sound}

@@ -6,12 +6,11 @@ use mathlib.Core.Logic.{_⊎_}
 use mathlib.Core.Bool.{Bool, true, false}
 use mathlib.Core.List.{List}
 use lib.ListN.{length, getD, take}
-use Rattle.base.specs.Numbers.{le32}
-use Rattle.base.specs.Begins.{Begins}
-use Rattle.refusal.specs.Refusals.{refusal}
+use Rattle.base.specs.Meaning.{le32, Begins}
+use Rattle.refusal.specs.Meaning.{refusal}
 use Rattle.refusal.specs.declared.Reason.{Reason}
 use Rattle.refusal.specs.declared.Reason.the-variants.{TooLong, Kind, HeaderCut, Version, HeaderSize, Count, Shape, BodyCut, Entry, TableCut, TableBad, Trailing}
-use Rattle.table.specs.Table.{IsTable, Completable, LongestStart}
+use Rattle.table.specs.Meaning.{IsTable, Completable, LongestStart}
 use Rattle.header.specs.declared.Kind.the-variants.{Psf1, Psf2, Vfont2}
 use Rattle.header.specs.declared.Font.{Font}
 use Rattle.header.specs.declared.Checked.{Checked}

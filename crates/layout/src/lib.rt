@@ -8,7 +8,7 @@ use header::Vfont2;
 ghost use mathlib.Core.Path.{_≡_};
 ghost use Prim.Native.Nat.{ℕ, _+_, _*_, _≤_, _<_};
 ghost use lib.ListN.{length};
-ghost use Rattle.base.specs.Over.{over};
+ghost use Rattle.base.specs.Meaning.{over};
 ghost use Rattle.header.specs.declared.Kind.the-variants.{Psf1 as psf1, Psf2 as psf2, Vfont2 as vfont2};
 ghost use Rattle.header.specs.Meaning.{headerLen, entryLen, headerBytes};
 ghost use Rattle.header.specs.Bounds.{Placed};

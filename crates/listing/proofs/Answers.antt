@@ -1,17 +1,17 @@
 -- What a listing answers and leaves: there is no room, or the text stands in front; and the text of each answer of the check.
 use mathlib.Core.Path.{_≡_, refl, sym, _∙_, ap, subst}
 use mathlib.Core.Bool.{Bool, true, false}
-use mathlib.Core.List.{List, [], _∷_, _++_}
+use mathlib.Core.List.{List, [], _++_}
 use Prim.Native.Nat.{ℕ, _+_, _-_, _≤_, _<_}
 use native.Mathlib.Omega.{arith}
 use lib.ListN.{length, take, drop, length-append}
 use lib.Seq.{take-append-seam}
 use lib.Dec.{ltb}
 use borrow.Author.Tests.{lt-ltb, le-ltb, ltb-false}
-use Rattle.base.specs.Choice.{pick, when}
-use Rattle.base.specs.Over.{over}
+use Rattle.base.specs.Meaning.{over}
+use Rattle.base.specs.Reading.{when}
 use Rattle.base.proofs.Parts.{rest-all}
-use Rattle.refusal.specs.Refusals.{refusal}
+use Rattle.refusal.specs.Meaning.{refusal}
 use Rattle.refusal.specs.declared.Refusal.{Refusal}
 use Rattle.refusal.specs.declared.Reason.the-variants.{Room}
 use Rattle.coding.specs.declared.Coding.{Coding}
@@ -21,7 +21,8 @@ use Rattle.stages.specs.Meaning.{codingOf}
 use Rattle.stages.specs.Reading.{checkOf}
 use Rattle.listing.specs.declared.Listed.{Listed}
 use Rattle.listing.specs.declared.Listed.the-variants.{Wrote, Refused as Unlisted}
-use Rattle.listing.specs.Text.{firstLine, tableText, linesText, fontText, bigText, answerText, listingOf, listedOf, leftOf}
+use Rattle.listing.specs.Meaning.{firstLine, bigText}
+use Rattle.listing.specs.Reading.{tableText, linesText, fontText, answerText, listingOf, listedOf, leftOf}
 
 -- what a call answers, and what it leaves where xs was
 abbrev pub Lists : List ℕ → List ℕ → Listed → List ℕ → Type 0

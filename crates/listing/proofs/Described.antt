@@ -1,13 +1,13 @@
 -- The lines of the items of descriptions: for each its number, its singles, its sequences and a newline.
 use mathlib.Core.Path.{_≡_, refl, sym, _∙_, ap}
-use mathlib.Core.Bool.{Bool, true, false}
+use mathlib.Core.Bool.{true, false}
 use mathlib.Core.List.{List, [], _∷_, _++_, append-assoc}
 use Prim.Native.Nat.{ℕ, _+_}
 use Rattle.table.specs.declared.Item.{Item}
 use Rattle.table.specs.declared.Item.the-variants.{Single, Start, Value, End}
-use Rattle.table.specs.Grammar.{Seq, Desc, each, seqs, described, items}
-use Rattle.listing.specs.Text.{numeral, itemText, pieceOf, linesOf}
-use Rattle.listing.specs.Lines.{singlesText, valuesText, sequencesText, glyphLine, glyphLines}
+use Rattle.table.specs.Meaning.{Seq, Desc, each, seqs, described, items}
+use Rattle.listing.specs.Meaning.{numeral, singlesText, valuesText, sequencesText, glyphLine, glyphLines}
+use Rattle.listing.specs.Reading.{itemText, pieceOf, linesOf}
 
 module _ (g : ℕ) where
   -- the number stands in front of the first item

@@ -1,5 +1,5 @@
 -- Numbers as digits: one digit, or the digits of the number divided and one more; how many there are.
-use mathlib.Core.Path.{_≡_, refl, sym, _∙_, ap}
+use mathlib.Core.Path.{_≡_, refl, _∙_, ap}
 use mathlib.Core.Logic.{_⊎_, inl, inr}
 use mathlib.Core.List.{List, [], _∷_, _++_}
 use Prim.Native.Nat.{ℕ, zero, suc, _+_, _*_, _-_, _/_, _%_, _≤_, _<_}
@@ -8,9 +8,9 @@ use native.Mathlib.Omega.{arith}
 use lib.Dec.{ltb}
 use lib.ListN.{length, length-append}
 use borrow.Author.Tests.{lt-ltb, le-ltb}
-use Rattle.base.specs.Choice.{pick}
+use Rattle.base.specs.Meaning.{pick}
 use Rattle.base.proofs.Tests.{below}
-use Rattle.listing.specs.Text.{digitOf, digits, numeral}
+use Rattle.listing.specs.Meaning.{digitOf, digits, numeral}
 
 abbrev power : ℕ → ℕ → ℕ
 power b zero = 1

@@ -6,17 +6,17 @@ use Prim.Native.Nat.{ℕ, _≤_, _<_}
 use native.Mathlib.Omega.{arith}
 use lib.ListN.{length}
 use Rattle.refusal.specs.declared.Refusal.{Refusal}
-use Rattle.table.specs.Steps.{itemsIn}
-use Rattle.table.specs.Table.{IsTable}
+use Rattle.table.specs.Reading.{itemsIn}
+use Rattle.table.specs.Meaning.{IsTable}
 use Rattle.table.proofs.Meaning.{items-read}
 use Rattle.header.specs.declared.Font.{Font}
 use Rattle.header.specs.declared.Checked.the-variants.{Sound, Refused}
 use Rattle.stages.specs.Meaning.{codingOf, tailOf}
 use Rattle.stages.specs.Reading.{checkOf}
-use Rattle.base.specs.Over.{over}
+use Rattle.base.specs.Meaning.{over}
 use Rattle.listing.specs.declared.Listed.the-variants.{Wrote}
-use Rattle.listing.specs.Text.{numeral, firstLine, linesOf, tableText, linesText, refusedText, bigText, listingOf, listedOf, leftOf}
-use Rattle.listing.specs.Lines.{glyphLines, numberIn, NoLeadingZero}
+use Rattle.listing.specs.Meaning.{numeral, firstLine, refusedText, bigText, glyphLines, numberIn, NoLeadingZero}
+use Rattle.listing.specs.Reading.{linesOf, tableText, linesText, listingOf, listedOf, leftOf}
 use Rattle.listing.proofs.Numerals.{numeral-back, numeral-leads}
 use Rattle.listing.proofs.Described.{lines-of}
 use Rattle.listing.proofs.Answers.{listing-big, listing-answer, font-text, lines-bare, wrote-inside, always-wrote}

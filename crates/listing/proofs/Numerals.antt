@@ -1,5 +1,5 @@
 -- The digits of a number are read as that number, and the first is not 0 unless the number is.
-use mathlib.Core.Path.{_≡_, refl, sym, _∙_, ap}
+use mathlib.Core.Path.{_≡_, refl, _∙_, ap}
 use mathlib.Core.Logic.{_⊎_, inl, inr}
 use mathlib.Core.List.{List, [], _∷_, _++_}
 use Prim.Native.Nat.{ℕ, zero, suc, _+_, _*_, _-_, _/_, _%_, _≤_, _<_}
@@ -7,10 +7,9 @@ use native.Mathlib.Nat.{le-div-iff-mul-le, div-add-mod'}
 use native.Mathlib.Omega.{arith}
 use lib.Dec.{ltb}
 use borrow.Author.Tests.{lt-ltb, le-ltb}
-use Rattle.base.specs.Choice.{pick}
+use Rattle.base.specs.Meaning.{pick}
 use Rattle.base.proofs.Tests.{below}
-use Rattle.listing.specs.Text.{digitOf, digits, numeral}
-use Rattle.listing.specs.Lines.{digitValue, numberIn, NoLeadingZero}
+use Rattle.listing.specs.Meaning.{digitOf, digits, numeral, digitValue, numberIn, NoLeadingZero}
 use Rattle.listing.proofs.Digits.{divided, digit-left}
 
 -- a digit is read as its number

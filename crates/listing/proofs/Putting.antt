@@ -1,11 +1,11 @@
 -- Texts laid over the front of a buffer: one byte, one byte more, a second text behind a first, and a text written part by part.
 use mathlib.Core.Path.{_≡_, refl, sym, _∙_, ap}
 use mathlib.Core.List.{List, [], _∷_, _++_}
-use Prim.Native.Nat.{ℕ, _+_, _-_, _≤_, _<_}
+use Prim.Native.Nat.{ℕ, _+_, _-_, _≤_}
 use native.Mathlib.Omega.{arith}
 use borrow.Rule.Slice.PartMut.{midOf, putMid}
 use lib.ListN.{length, take, drop, set, length-append, length-drop}
-use Rattle.base.specs.Over.{over}
+use Rattle.base.specs.Meaning.{over}
 use Rattle.base.proofs.Parts.{rest-all}
 use Rattle.base.proofs.Over.{stores, over-snoc, length-over, over-none, behind, turn-room, turn-within, turn-left, turn-over, turn-length, all-over}
 

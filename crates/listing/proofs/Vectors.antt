@@ -2,17 +2,16 @@
 use mathlib.Core.Path.{_≡_, refl}
 use mathlib.Core.List.{List, [], _∷_}
 use Prim.Native.Nat.{ℕ}
-use Rattle.base.specs.Choice.{when}
-use Rattle.base.specs.Numbers.{le16, le32}
-use Rattle.utf8.specs.Utf8.{leadOf, conts, readValue, readUtf8}
-use Rattle.coding.specs.Coding.{markLen, readToken}
-use Rattle.table.specs.Steps.{stepsFrom, toldAs, told}
-use Rattle.table.specs.Check.{checkSteps}
-use Rattle.base.specs.Begins.{startsWith}
+use Rattle.base.specs.Reading.{when, startsWith}
+use Rattle.base.specs.Meaning.{le16, le32}
+use Rattle.utf8.specs.Reading.{leadOf, conts, readValue, readUtf8}
+use Rattle.coding.specs.Reading.{markLen, readToken}
+use Rattle.table.specs.Reading.{stepsFrom, valueItem, stepItems, checkSteps}
 use Rattle.header.specs.Meaning.{glyphBytes}
 use Rattle.header.specs.Reading.{kindOf, headOf, psf2Shaped, saysOf}
 use Rattle.stages.specs.Reading.{sized, entriesOf, tailed, throughBody, throughEntries, checkOf}
-use Rattle.listing.specs.Text.{digitOf, digits, numeral, numberText, firstLine, pieceOf, linesOf, tableText, linesText, fontText, listingOf}
+use Rattle.listing.specs.Meaning.{digitOf, digits, numeral, numberText, firstLine}
+use Rattle.listing.specs.Reading.{pieceOf, linesOf, tableText, linesText, fontText, listingOf}
 
 -- the header with header size 32, flags 1, n = 2, c = 2, height 2, width 3; bitmaps A0 40 E0 20; table 41 FF C3 85 FE 41 CC 8A FF
 abbrev pub small : List ℕ
@@ -28,5 +27,5 @@ smallText =
     ∷ 49 ∷ 32 ∷ 67 ∷ 53 ∷ 32 ∷ 43 ∷ 52 ∷ 49 ∷ 43 ∷ 51 ∷ 48 ∷ 65 ∷ 10 ∷ []
 
 pub small-listed : listingOf small ≡ smallText
-unfolding when le16 le32 leadOf conts readValue readUtf8 markLen readToken stepsFrom toldAs told checkSteps glyphBytes startsWith kindOf headOf psf2Shaped saysOf sized entriesOf tailed throughBody throughEntries checkOf listingOf fontText linesText tableText linesOf pieceOf firstLine numberText numeral digits digitOf
+unfolding when le16 le32 leadOf conts readValue readUtf8 markLen readToken stepsFrom valueItem stepItems checkSteps glyphBytes startsWith kindOf headOf psf2Shaped saysOf sized entriesOf tailed throughBody throughEntries checkOf listingOf fontText linesText tableText linesOf pieceOf firstLine numberText numeral digits digitOf
 small-listed = refl

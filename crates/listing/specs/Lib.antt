@@ -1,3 +1,3 @@
 -- The listing of a font.
-pub mod Text
-pub mod Lines
+pub mod Meaning
+pub mod Reading

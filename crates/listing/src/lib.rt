@@ -11,9 +11,10 @@ ghost use mathlib.Core.Path.{_≡_};
 ghost use mathlib.Core.List.{[], _∷_};
 ghost use Prim.Native.Nat.{ℕ, _+_, _*_, _≤_, _<_};
 ghost use lib.ListN.{length};
-ghost use Rattle.base.specs.Over.{over};
+ghost use Rattle.base.specs.Meaning.{over};
 ghost use Rattle.header.specs.Bounds.{Placed};
-ghost use Rattle.listing.specs.Text.{digitOf, numeral, numberText, kindText, tableWord, firstLine, itemText, pieceOf, tableText, linesText, fontText, refusedText, bigText, listingOf, listedOf, leftOf};
+ghost use Rattle.listing.specs.Meaning.{digitOf, numeral, numberText, kindText, tableWord, firstLine, refusedText, bigText};
+ghost use Rattle.listing.specs.Reading.{itemText, pieceOf, tableText, linesText, fontText, listingOf, listedOf, leftOf};
 
 // How many bytes of text stand in front of the buffer; or ROOM with the bytes needed, and the buffer is untouched.
 pub enum Listed {
@@ -185,7 +186,7 @@ fn table_len(c: Coding, tail: &[u8]) -> usize
         let t = table::step_at(c, tail, at);
         match t {
             Step::Value(v, next) => {
-                n += piece_len(fresh, g, table::told_as(inside, v));
+                n += piece_len(fresh, g, table::value_item(inside, v));
                 fresh = false;
                 at = next;
             }
@@ -223,7 +224,7 @@ fn put_table(c: Coding, tail: &[u8], out: &mut [u8])
         let t = table::step_at(c, tail, at);
         match t {
             Step::Value(v, next) => {
-                let i = table::told_as(inside, v);
+                let i = table::value_item(inside, v);
                 let l = put_piece(fresh, g, i, &mut out[n..]);
                 n += l;
                 fresh = false;

@@ -6,14 +6,14 @@ use Prim.Native.Nat.{ℕ, _+_}
 use native.Mathlib.Omega.{arith}
 use lib.Dec.{eqb}
 use borrow.Author.Tests.{eqb-true, eqb-false}
-use Rattle.base.specs.Choice.{pick}
+use Rattle.base.specs.Meaning.{pick}
 use Rattle.table.specs.declared.Item.{Item}
 use Rattle.table.specs.declared.Item.the-variants.{Single, Start, Value, End}
-use Rattle.table.specs.Grammar.{Seq, Desc, each, seqs, items}
+use Rattle.table.specs.Meaning.{Seq, Desc, each, seqs, items}
 use Rattle.lookup.specs.declared.Found.{Found}
 use Rattle.lookup.specs.declared.Found.the-variants.{At}
-use Rattle.lookup.specs.Lookup.{findValue, goesOn, isWhole, rest, seek}
-use Rattle.lookup.specs.Listing.{ListsValue, ListsSequence}
+use Rattle.lookup.specs.Reading.{findValue, goesOn, isWhole, rest, findSequenceFrom}
+use Rattle.lookup.specs.Meaning.{ListsValue, ListsSequence}
 use Rattle.lookup.proofs.Searching.{true-false, any, any-yes, any-no, lowest}
 
 either : (x y : Bool) (a b : Found) → pick x a (pick y a b) ≡ pick (pick x true y) a b
@@ -124,8 +124,8 @@ like (w ∷ ws) (u ∷ us) = go (eqb w u) (like ws us)
 
 module _ (vs : List ℕ) where
   -- where nothing is alike, what is still to come does not matter
-  dull : (g : ℕ) (ws xs : List ℕ) (is : List Item) → seek vs g false ws is ≡ seek vs g false xs is
-  unfolding seek goesOn isWhole
+  dull : (g : ℕ) (ws xs : List ℕ) (is : List Item) → findSequenceFrom vs g false ws is ≡ findSequenceFrom vs g false xs is
+  unfolding findSequenceFrom goesOn isWhole
   dull g ws xs [] = refl
   dull g ws xs (Single v ∷ is) = dull g ws xs is
   dull g ws xs (Start ∷ is) = refl
@@ -133,31 +133,31 @@ module _ (vs : List ℕ) where
   dull g ws xs (End ∷ is) = dull (g + 1) ws xs is
 
   module _ (g : ℕ) where
-    seek-singles : (a : Bool) (ws us : List ℕ) (k : List Item) → seek vs g a ws (each Single us k) ≡ seek vs g a ws k
-    unfolding seek
+    seek-singles : (a : Bool) (ws us : List ℕ) (k : List Item) → findSequenceFrom vs g a ws (each Single us k) ≡ findSequenceFrom vs g a ws k
+    unfolding findSequenceFrom
     seek-singles a ws [] k = refl
     seek-singles a ws (u ∷ us) k = seek-singles a ws us k
 
-    seek-values : (a : Bool) (ws us : List ℕ) (k : List Item) → seek vs g a ws (each Value us k) ≡ seek vs g (after a ws us) (left ws us) k
-    unfolding seek
+    seek-values : (a : Bool) (ws us : List ℕ) (k : List Item) → findSequenceFrom vs g a ws (each Value us k) ≡ findSequenceFrom vs g (after a ws us) (left ws us) k
+    unfolding findSequenceFrom
     seek-values a ws [] k = refl
     seek-values a ws (u ∷ us) k = seek-values (goesOn a u ws) (rest ws) us k
 
     seek-seqs : (a : Bool) (ws : List ℕ) (qs : List Seq) (k : List Item) →
-        seek vs g a ws (seqs qs (End ∷ k)) ≡ pick (isWhole a ws) (At g) (pick (any (isSequence vs) qs) (At g) (seek vs (g + 1) false vs k))
-    unfolding seek
+        findSequenceFrom vs g a ws (seqs qs (End ∷ k)) ≡ pick (isWhole a ws) (At g) (pick (any (isSequence vs) qs) (At g) (findSequenceFrom vs (g + 1) false vs k))
+    unfolding findSequenceFrom
     seek-seqs a ws [] k = ap (pick (isWhole a ws) (At g)) (dull (g + 1) ws vs k)
     seek-seqs a ws (q ∷ qs) k =
         let us = q .first ∷ q .others in
-        let rest-found = pick (any (isSequence vs) qs) (At g) (seek vs (g + 1) false vs k) in
+        let rest-found = pick (any (isSequence vs) qs) (At g) (findSequenceFrom vs (g + 1) false vs k) in
         ap (pick (isWhole a ws) (At g))
         (seek-values true vs us (seqs qs (End ∷ k))
         ∙ seek-seqs (after true vs us) (left vs us) qs k
         ∙ ap (λ (b : Bool). pick b (At g) rest-found) (like vs us)
-        ∙ either (sameAs vs us) (any (isSequence vs) qs) (At g) (seek vs (g + 1) false vs k))
+        ∙ either (sameAs vs us) (any (isSequence vs) qs) (At g) (findSequenceFrom vs (g + 1) false vs k))
 
-  pub find-sequence : (g : ℕ) (ws : List ℕ) (ds : List Desc) → seek vs g false ws (items ds) ≡ lowest (hasSequence vs) g ds
-  unfolding seek isWhole
+  pub find-sequence : (g : ℕ) (ws : List ℕ) (ds : List Desc) → findSequenceFrom vs g false ws (items ds) ≡ lowest (hasSequence vs) g ds
+  unfolding findSequenceFrom isWhole
   find-sequence g ws [] = refl
   find-sequence g ws (d ∷ ds) =
       seek-singles g false ws (d .singles) (seqs (d .sequences) (End ∷ items ds))

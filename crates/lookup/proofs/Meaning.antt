@@ -6,13 +6,13 @@ use mathlib.Core.List.{List}
 use Prim.Native.Nat.{ℕ}
 use Rattle.coding.specs.declared.Coding.{Coding}
 use Rattle.table.specs.declared.Item.{Item}
-use Rattle.table.specs.Grammar.{Desc, items, encode, Readable}
-use Rattle.table.specs.Steps.{itemsIn}
+use Rattle.table.specs.Meaning.{Desc, items, encode, Readable}
+use Rattle.table.specs.Reading.{itemsIn}
 use Rattle.table.proofs.Meaning.{items-read}
 use Rattle.lookup.specs.declared.Walked.the-variants.{Found, Nothing as NoItem}
 use Rattle.lookup.specs.declared.Found.the-variants.{At, Nothing}
-use Rattle.lookup.specs.Lookup.{itemAt, findValue, findSequence}
-use Rattle.lookup.specs.Listing.{ListsValue, ListsSequence, Lowest, Nowhere, ItemIs}
+use Rattle.lookup.specs.Reading.{itemAt, findValue, findSequence}
+use Rattle.lookup.specs.Meaning.{ListsValue, ListsSequence, Lowest, Nowhere, ItemIs}
 use Rattle.lookup.proofs.Searching.{at-exactly, none-exactly}
 use Rattle.lookup.proofs.Walking.{found-item, item-found, none-item, item-none}
 use Rattle.lookup.proofs.Finding.{hasValue, value-yes, value-no, find-value, hasSequence, sequence-yes, sequence-no, find-sequence}

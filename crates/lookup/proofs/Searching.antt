@@ -6,11 +6,11 @@ use mathlib.Core.List.{List, [], _∷_}
 use Prim.Native.Nat.{ℕ, zero, suc, _+_, _≤_, _<_}
 use native.Mathlib.Omega.{arith}
 use lib.ListN.{length}
-use Rattle.base.specs.Choice.{pick}
-use Rattle.table.specs.Grammar.{Desc}
+use Rattle.base.specs.Meaning.{pick}
+use Rattle.table.specs.Meaning.{Desc}
 use Rattle.lookup.specs.declared.Found.{Found}
 use Rattle.lookup.specs.declared.Found.the-variants.{At, Nothing}
-use Rattle.lookup.specs.Listing.{Nth, Any, Lowest, Nowhere}
+use Rattle.lookup.specs.Meaning.{Nth, Any, Lowest, Nowhere}
 
 pub true-false : {A : Type 0} (t : Bool) → t ≡ true → t ≡ false → A
 true-false t e f = let z : _≡_ {A = ℕ} 0 1 = cc in absurd (omega arith)

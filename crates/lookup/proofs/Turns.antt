@@ -13,10 +13,10 @@ use borrow.Author.Tests.{not-true, not-false, eq-eqb, ne-eqb, le-leb, lt-leb}
 use Rattle.base.proofs.Tests.{below}
 use Rattle.table.specs.declared.Item.{Item}
 use Rattle.table.specs.declared.Item.the-variants.{Single, Start, Value, End}
-use Rattle.table.specs.Steps.{toldAs}
+use Rattle.table.specs.Reading.{valueItem}
 use Rattle.lookup.specs.declared.Walked.the-variants.{Found as Got, Nothing as NoItem}
 use Rattle.lookup.specs.declared.Found.the-variants.{At, Nothing}
-use Rattle.lookup.specs.Lookup.{itemAt, findValue, goesOn, isWhole, rest, seek}
+use Rattle.lookup.specs.Reading.{itemAt, findValue, goesOn, isWhole, rest, findSequenceFrom}
 
 -- an item that does not end its description
 abbrev pub Inner : Item → Type 0
@@ -25,8 +25,8 @@ Inner Start = Unit {0}
 Inner (Value v) = Unit {0}
 Inner End = ⊥
 
-pub inner-told : (i : Bool) (v : ℕ) → Inner (toldAs i v)
-unfolding toldAs
+pub inner-told : (i : Bool) (v : ℕ) → Inner (valueItem i v)
+unfolding valueItem
 inner-told false v = tt
 inner-told true v = tt
 
@@ -78,16 +78,16 @@ unfolding itemAt
 item-none g k = refl
 
 module _ (v g w : ℕ) (i : Bool) (is : List Item) where
-  pub hit : not i ≡ true → w ≡ v → findValue v g (toldAs i w ∷ is) ≡ At g
-  unfolding findValue toldAs
+  pub hit : not i ≡ true → w ≡ v → findValue v g (valueItem i w ∷ is) ≡ At g
+  unfolding findValue valueItem
   hit e q = rw (not-true i e, eq-eqb w v q)
 
-  pub miss : not i ≡ true → (w ≡ v → ⊥) → findValue v g (toldAs i w ∷ is) ≡ findValue v g is
-  unfolding findValue toldAs
+  pub miss : not i ≡ true → (w ≡ v → ⊥) → findValue v g (valueItem i w ∷ is) ≡ findValue v g is
+  unfolding findValue valueItem
   miss e q = rw (not-true i e, ne-eqb w v q)
 
-  pub pass : not i ≡ false → findValue v g (toldAs i w ∷ is) ≡ findValue v g is
-  unfolding findValue toldAs
+  pub pass : not i ≡ false → findValue v g (valueItem i w ∷ is) ≡ findValue v g is
+  unfolding findValue valueItem
   pass e = rw (not-false i e)
 
 module _ (v g : ℕ) where
@@ -136,31 +136,31 @@ rest-drop (v ∷ vs) zero = refl
 rest-drop (v ∷ vs) (suc m) = rest-drop vs m
 
 module _ (vs : List ℕ) (g : ℕ) (a : Bool) (m : ℕ) (is : List Item) where
-  pub seek-single : (i : Bool) (v : ℕ) → i ≡ false → seek vs g a (drop m vs) (toldAs i v ∷ is) ≡ seek vs g a (drop m vs) is
-  unfolding seek toldAs
+  pub seek-single : (i : Bool) (v : ℕ) → i ≡ false → findSequenceFrom vs g a (drop m vs) (valueItem i v ∷ is) ≡ findSequenceFrom vs g a (drop m vs) is
+  unfolding findSequenceFrom valueItem
   seek-single i v e = rw e
 
-  pub seek-value : (i : Bool) (v : ℕ) (r : Bool) → i ≡ true → r ≡ goesOn a v (drop m vs) → seek vs g a (drop m vs) (toldAs i v ∷ is) ≡ seek vs g r (drop (m + 1) vs) is
-  unfolding seek toldAs
+  pub seek-value : (i : Bool) (v : ℕ) (r : Bool) → i ≡ true → r ≡ goesOn a v (drop m vs) → findSequenceFrom vs g a (drop m vs) (valueItem i v ∷ is) ≡ findSequenceFrom vs g r (drop (m + 1) vs) is
+  unfolding findSequenceFrom valueItem
   seek-value i v r e q = rw (e, q, add-one, rest-drop vs m)
 
   module _ (r : Bool) (q : r ≡ isWhole a (drop m vs)) where
-    pub whole-start : r ≡ true → seek vs g a (drop m vs) (Start ∷ is) ≡ At g
-    unfolding seek
+    pub whole-start : r ≡ true → findSequenceFrom vs g a (drop m vs) (Start ∷ is) ≡ At g
+    unfolding findSequenceFrom
     whole-start e = rw (sym q ∙ e)
 
-    pub other-start : r ≡ false → seek vs g a (drop m vs) (Start ∷ is) ≡ seek vs g true vs is
-    unfolding seek
+    pub other-start : r ≡ false → findSequenceFrom vs g a (drop m vs) (Start ∷ is) ≡ findSequenceFrom vs g true vs is
+    unfolding findSequenceFrom
     other-start e = rw (sym q ∙ e)
 
-    pub whole-end : r ≡ true → seek vs g a (drop m vs) (End ∷ is) ≡ At g
-    unfolding seek
+    pub whole-end : r ≡ true → findSequenceFrom vs g a (drop m vs) (End ∷ is) ≡ At g
+    unfolding findSequenceFrom
     whole-end e = rw (sym q ∙ e)
 
-    pub other-end : r ≡ false → seek vs g a (drop m vs) (End ∷ is) ≡ seek vs (g + 1) false (drop m vs) is
-    unfolding seek
+    pub other-end : r ≡ false → findSequenceFrom vs g a (drop m vs) (End ∷ is) ≡ findSequenceFrom vs (g + 1) false (drop m vs) is
+    unfolding findSequenceFrom
     other-end e = rw (sym q ∙ e)
 
-pub seek-none : (vs : List ℕ) (g : ℕ) (a : Bool) (ws : List ℕ) → seek vs g a ws [] ≡ Nothing
-unfolding seek
+pub seek-none : (vs : List ℕ) (g : ℕ) (a : Bool) (ws : List ℕ) → findSequenceFrom vs g a ws [] ≡ Nothing
+unfolding findSequenceFrom
 seek-none vs g a ws = refl

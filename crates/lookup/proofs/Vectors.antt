@@ -4,10 +4,10 @@ use mathlib.Core.Path.{_≡_, refl}
 use mathlib.Core.List.{List, [], _∷_, map}
 use Prim.Native.Nat.{ℕ}
 use Rattle.table.specs.declared.Item.the-variants.{Single, Start, Value, End}
-use Rattle.table.specs.Grammar.{Desc, items}
+use Rattle.table.specs.Meaning.{Desc, items}
 use Rattle.lookup.specs.declared.Walked.the-variants.{Found as Got, Nothing as NoItem}
 use Rattle.lookup.specs.declared.Found.the-variants.{At, Nothing}
-use Rattle.lookup.specs.Lookup.{itemAt, findValue, goesOn, isWhole, seek, findSequence}
+use Rattle.lookup.specs.Reading.{itemAt, findValue, goesOn, isWhole, findSequenceFrom, findSequence}
 
 abbrev pub small : List Desc
 small =
@@ -26,5 +26,5 @@ values-found = refl
 
 pub sequences-found :
     map (λ (vs : List ℕ). findSequence vs (items small)) ((0x41 ∷ 0x30A ∷ []) ∷ (0x41 ∷ []) ∷ (0xC5 ∷ []) ∷ [] ∷ []) ≡ At 1 ∷ Nothing ∷ At 2 ∷ Nothing ∷ []
-unfolding seek goesOn isWhole
+unfolding findSequenceFrom goesOn isWhole
 sequences-found = refl

@@ -5,11 +5,11 @@ use Prim.Native.Nat.{ℕ, zero, suc}
 use native.Mathlib.Omega.{arith}
 use Rattle.table.specs.declared.Item.{Item}
 use Rattle.table.specs.declared.Item.the-variants.{Single, Start, Value, End}
-use Rattle.table.specs.Grammar.{Seq, Desc, each, seqs, described, itemsOf, items}
+use Rattle.table.specs.Meaning.{Seq, Desc, each, seqs, described, itemsOf, items}
 use Rattle.lookup.specs.declared.Walked.{Walked}
 use Rattle.lookup.specs.declared.Walked.the-variants.{Found as Got, Nothing as NoItem}
-use Rattle.lookup.specs.Lookup.{itemAt}
-use Rattle.lookup.specs.Listing.{Nth, ItemIs}
+use Rattle.lookup.specs.Reading.{itemAt}
+use Rattle.lookup.specs.Meaning.{Nth, ItemIs}
 use Rattle.lookup.proofs.Turns.{Inner}
 
 -- item k of a list

@@ -1,3 +1,3 @@
 -- Looking things up in a table, and what it is for a description to list something.
-pub mod Lookup
-pub mod Listing
+pub mod Meaning
+pub mod Reading

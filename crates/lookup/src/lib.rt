@@ -2,8 +2,8 @@
 // Definitions: specs/Lookup.antt. They hold on any tail, as far as it can be read.
 ghost use mathlib.Core.Path.{_≡_};
 ghost use lib.ListN.{drop};
-ghost use Rattle.table.specs.Steps.{itemsIn};
-ghost use Rattle.lookup.specs.Lookup.{itemAt, findValue, findSequence, goesOn, isWhole};
+ghost use Rattle.table.specs.Reading.{itemsIn};
+ghost use Rattle.lookup.specs.Reading.{itemAt, findValue, findSequence, goesOn, isWhole};
 use coding::Coding;
 use table::Item;
 use table::Step;
@@ -34,7 +34,7 @@ pub fn item_at(c: Coding, tail: &[u8], g: usize, k: usize) -> Walked
             Step::Value(v, next) => {
                 if glyphs == 0 {
                     if left == 0 {
-                        return Walked::Found(table::told_as(inside, v));
+                        return Walked::Found(table::value_item(inside, v));
                     }
                     left -= 1;
                 }

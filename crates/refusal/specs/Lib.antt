@@ -1,2 +1,2 @@
 -- The refusals' numbers and places.
-pub mod Refusals
+pub mod Meaning

@@ -1,6 +1,6 @@
 // Inner layer: every refusal of document 01: why, and where. Definitions: specs/Refusals.antt.
 ghost use mathlib.Core.Path.{_≡_};
-ghost use Rattle.refusal.specs.Refusals.{numberOf, refusal};
+ghost use Rattle.refusal.specs.Meaning.{numberOf, refusal};
 
 // Why a call is refused: the rows of document 01's table.
 pub enum Reason {

@@ -1,23 +1,22 @@
 -- The stages of the check one by one: what each is where it refuses or passes, and what is known of a font that passed.
-use mathlib.Core.Path.{_≡_, refl, sym, _∙_, ap, subst}
+use mathlib.Core.Path.{_≡_, sym, _∙_, ap, subst}
 use mathlib.Core.List.{List}
 use mathlib.Core.Bool.{Bool, true, false}
 use Prim.Native.Nat.{ℕ, _+_, _≤_, _<_}
 use native.Mathlib.Omega.{arith}
 use lib.Dec.{ltb}
-use lib.ListN.{length, getD, drop, length-drop}
+use lib.ListN.{length, getD, length-drop}
 use borrow.Author.Tests.{lt-ltb, le-ltb, ltb-false, eqb-true, not-false}
-use Rattle.base.specs.Choice.{pick, when}
-use Rattle.base.specs.Bytes.{Bytes}
+use Rattle.base.specs.Meaning.{pick, Bytes}
+use Rattle.base.specs.Reading.{when}
 use Rattle.base.proofs.Chain.{chain}
 use Rattle.base.proofs.Parts.{bytes-drop}
-use Rattle.refusal.specs.Refusals.{refusal}
-use Rattle.refusal.specs.declared.Refusal.{Refusal}
+use Rattle.refusal.specs.Meaning.{refusal}
 use Rattle.refusal.specs.declared.Reason.the-variants.{TooLong, BodyCut, Entry, Trailing}
 use Rattle.coding.specs.declared.Coding.{Coding}
 use Rattle.table.specs.declared.TableAnswer.{TableAnswer}
 use Rattle.table.specs.declared.TableAnswer.the-variants.{Complete, Cut, Bad, Trailing as Over}
-use Rattle.table.specs.Check.{tableOf, placeOf}
+use Rattle.table.specs.Reading.{tableOf, tablePlace}
 use Rattle.table.proofs.Meaning.{place-within}
 use Rattle.header.specs.declared.Kind.{Kind}
 use Rattle.header.specs.declared.Kind.the-variants.{Psf1, Psf2, Vfont2}
@@ -26,7 +25,7 @@ use Rattle.header.specs.declared.Checked.{Checked}
 use Rattle.header.specs.declared.Checked.the-variants.{Sound, Refused}
 use Rattle.header.specs.Meaning.{limit}
 use Rattle.header.specs.Reading.{saysOf}
-use Rattle.header.specs.Bounds.{Described, Placed}
+use Rattle.header.specs.Bounds.{Placed}
 use Rattle.header.proofs.Known.{never, passes, described}
 use Rattle.entries.specs.declared.Scan.{Scan}
 use Rattle.entries.specs.declared.Scan.the-variants.{BrokenAt, Greatest}
@@ -64,7 +63,7 @@ unfolding entriesOf
 entries-of s f k e = rw e
 
 -- 10 to 12: a table's place lies in the tail, and so is an offset within the file
-pub place-fits : (s : List ℕ) (f : Font) → Bytes s → Placed s f → (c : Coding) → f .end + placeOf (tableOf c (f .count) (tailOf s f)) ≤ length s
+pub place-fits : (s : List ℕ) (f : Font) → Bytes s → Placed s f → (c : Coding) → f .end + tablePlace (tableOf c (f .count) (tailOf s f)) ≤ length s
 place-fits s f y p c =
     omega (arith, p .7, place-within c (f .count) (tailOf s f) (bytes-drop (f .end) s y), length-drop (f .end) s)
 

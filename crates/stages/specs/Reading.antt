@@ -5,12 +5,13 @@ use mathlib.Core.List.{List}
 use mathlib.Core.Bool.{not}
 use lib.Dec.{ltb, eqb}
 use lib.ListN.{length}
-use Rattle.base.specs.Choice.{pick, when}
-use Rattle.refusal.specs.Refusals.{refusal}
+use Rattle.base.specs.Meaning.{pick}
+use Rattle.base.specs.Reading.{when}
+use Rattle.refusal.specs.Meaning.{refusal}
 use Rattle.refusal.specs.declared.Reason.the-variants.{TooLong, BodyCut, Entry, TableCut, TableBad, Trailing}
 use Rattle.table.specs.declared.TableAnswer.{TableAnswer}
 use Rattle.table.specs.declared.TableAnswer.the-variants.{Complete, Cut, Bad, Trailing as Over}
-use Rattle.table.specs.Check.{tableOf}
+use Rattle.table.specs.Reading.{tableOf}
 use Rattle.header.specs.declared.Kind.{Kind}
 use Rattle.header.specs.declared.Kind.the-variants.{Psf1, Psf2, Vfont2}
 use Rattle.header.specs.declared.Font.{Font}

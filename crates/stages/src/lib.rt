@@ -12,7 +12,7 @@ ghost use lib.ListN.{length};
 ghost use Rattle.header.specs.declared.Kind.the-variants.{Vfont2};
 ghost use Rattle.header.specs.Bounds.{Placed};
 ghost use Rattle.entries.specs.Reading.{scanOf};
-ghost use Rattle.table.specs.Check.{tableOf};
+ghost use Rattle.table.specs.Reading.{tableOf};
 ghost use Rattle.stages.specs.Meaning.{codingOf, tailOf};
 ghost use Rattle.stages.specs.Reading.{sized, greatestOf, scanned, entriesOf, answered, tailed, throughBody, throughEntries, checkOf};
 ghost use Rattle.stages.specs.Bounds.{CheckedPlaced};

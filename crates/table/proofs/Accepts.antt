@@ -7,7 +7,7 @@ use native.Mathlib.Omega.{arith}
 use lib.ListN.{length}
 use Rattle.table.specs.declared.Item.{Item}
 use Rattle.table.specs.declared.Item.the-variants.{Single, Start, Value, End}
-use Rattle.table.specs.Grammar.{Seq, Desc, each, seqs, items}
+use Rattle.table.specs.Meaning.{Seq, Desc, each, seqs, items}
 
 -- where in a description: among its singles, just after a start mark, or in a sequence with a value
 pub data Phase : Type 0 where

@@ -7,13 +7,14 @@ use Prim.Native.Nat.{ℕ, zero, suc, _+_, _-_, _≤_, _<_}
 use native.Mathlib.Omega.{arith}
 use lib.ListN.{length, take, drop, length-append, length-drop}
 use lib.Seq.{take-append-add, take-append-le, take-at, length-take-le}
-use Rattle.base.specs.Bytes.{Bytes}
+use Rattle.base.specs.Meaning.{Bytes}
 use Rattle.base.proofs.Parts.{bytes-drop, bytes-take}
 use Rattle.token.specs.declared.Token.{Token}
 use Rattle.token.specs.declared.Token.the-variants.{Value as TokenValue, Start as TokenStart, End as TokenEnd, Cut as TokenCut, Bad as TokenBad}
 use Rattle.token.proofs.Stopping.{Begun}
 use Rattle.coding.specs.declared.Coding.{Coding}
-use Rattle.coding.specs.Coding.{readToken, markLen, valueOf, valueBytes, startBytes, endBytes}
+use Rattle.coding.specs.Reading.{readToken, markLen}
+use Rattle.coding.specs.Meaning.{valueOf, valueBytes, startBytes, endBytes}
 use Rattle.coding.proofs.Codings.{coded, stopping, mark-small}
 use Rattle.table.specs.declared.Item.{Item}
 use Rattle.table.specs.declared.Item.the-variants.{Single, Start, Value, End}
@@ -21,9 +22,8 @@ use Rattle.table.specs.declared.Step.{Step}
 use Rattle.table.specs.declared.Step.the-variants.{Start as StepStart, End as StepEnd, Cut as StepCut, Bad as StepBad}
 use Rattle.table.specs.declared.TableAnswer.{TableAnswer}
 use Rattle.table.specs.declared.TableAnswer.the-variants.{Complete, Cut as TableCut, Bad as TableBad, Trailing}
-use Rattle.table.specs.Grammar.{endsIn, itemBytes, bytes, OfCoding}
-use Rattle.table.specs.Steps.{stepOf, stepsFrom}
-use Rattle.table.specs.Check.{checkSteps}
+use Rattle.table.specs.Reading.{endsIn, stepOf, stepsFrom, checkSteps}
+use Rattle.table.specs.Meaning.{itemBytes, bytes, OfCoding}
 use Rattle.table.proofs.Accepts.{Phase, singles, opened, filled, Accepts}
 use Rattle.table.proofs.Stepping.{first, item-front}
 use Rattle.table.proofs.Moves.{isOpened, ended, ended-more, Move, single, first-value, other-value, first-start, other-start, end-singles, end-sequences, moved}

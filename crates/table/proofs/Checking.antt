@@ -10,8 +10,7 @@ use Rattle.coding.specs.declared.Coding.{Coding}
 use Rattle.table.specs.declared.Step.{Step}
 use Rattle.table.specs.declared.Step.the-variants.{Value as StepValue, Start as StepStart, End as StepEnd, Cut as StepCut, Bad as StepBad}
 use Rattle.table.specs.declared.TableAnswer.the-variants.{Complete, Cut as TableCut, Bad as TableBad, Trailing}
-use Rattle.table.specs.Steps.{stepsFrom, stepsAt}
-use Rattle.table.specs.Check.{checkSteps, tableOf}
+use Rattle.table.specs.Reading.{stepsFrom, stepsAt, checkSteps, tableOf}
 
 -- what holds of every successor holds of every number but 0
 nonzero : (P : ℕ → Type 0) → ((m : ℕ) → P (suc m)) → (n : ℕ) → (n ≡ 0 → ⊥) → P n

@@ -7,7 +7,7 @@ use lib.Seq.{take-at, drop-at}
 use Rattle.coding.specs.declared.Coding.{Coding}
 use Rattle.table.specs.declared.Item.{Item}
 use Rattle.table.specs.declared.Item.the-variants.{Single, Start, Value, End}
-use Rattle.table.specs.Grammar.{Seq, Desc, each, seqs, described, itemsOf, items, itemBytes, bytes, OfCoding, encode, startOf, Readable}
+use Rattle.table.specs.Meaning.{Seq, Desc, each, seqs, described, itemsOf, items, itemBytes, bytes, OfCoding, encode, startOf, Readable}
 
 each-append : (f : ℕ → Item) (vs : List ℕ) (j k : List Item) → each f vs (j ++ k) ≡ each f vs j ++ k
 each-append f [] j k = refl

@@ -9,15 +9,16 @@ use Rattle.base.proofs.Parts.{rest-all}
 use Rattle.token.specs.declared.Token.{Token}
 use Rattle.token.specs.declared.Token.the-variants.{Value as TokenValue, Start as TokenStart, End as TokenEnd}
 use Rattle.utf8.specs.declared.Read.{Read}
-use Rattle.utf8.specs.Utf8.{readValue, asToken, readUtf8}
+use Rattle.utf8.specs.Reading.{readValue, asToken, readUtf8}
 use Rattle.utf8.proofs.First.{ascii, as-start, as-end, no-mark}
-use Rattle.ucs2.specs.Ucs2.{readUcs2}
+use Rattle.ucs2.specs.Reading.{readUcs2}
 use Rattle.coding.specs.declared.Coding.{Coding}
 use Rattle.coding.specs.declared.Coding.the-variants.{Utf8, Ucs2}
-use Rattle.coding.specs.Coding.{readToken, markLen}
+use Rattle.coding.specs.Reading.{readToken, markLen}
 use Rattle.table.specs.declared.Step.{Step}
 use Rattle.table.specs.declared.Step.the-variants.{Value as StepValue, Start as StepStart, End as StepEnd, Cut as StepCut, Bad as StepBad}
-use Rattle.table.specs.Steps.{stepOf, stepAt, StepFits, StepSays}
+use Rattle.table.specs.Reading.{stepOf, stepAt}
+use Rattle.table.specs.Bounds.{StepFits, StepSays}
 use Rattle.table.proofs.Stepping.{token-says}
 
 -- what a step at a place is to be: the defined one, and what it says

@@ -4,14 +4,12 @@ use mathlib.Core.Logic.{_⊎_, _↔_, inl, inr}
 use mathlib.Core.List.{List, _∷_, _++_}
 use Prim.Native.Nat.{ℕ, _≤_, _<_}
 use lib.ListN.{length, take, drop}
-use Rattle.base.specs.Bytes.{Bytes}
+use Rattle.base.specs.Meaning.{Bytes}
 use Rattle.coding.specs.declared.Coding.{Coding}
 use Rattle.table.specs.declared.Item.{Item}
 use Rattle.table.specs.declared.TableAnswer.the-variants.{Complete, Cut, Bad, Trailing}
-use Rattle.table.specs.Grammar.{Desc, itemsOf, items, endsIn, bytes, encode, startOf, Readable}
-use Rattle.table.specs.Steps.{itemsIn}
-use Rattle.table.specs.Check.{tableOf, placeOf}
-use Rattle.table.specs.Table.{IsTable, Completable, LongestStart, InGlyph}
+use Rattle.table.specs.Meaning.{Desc, itemsOf, items, bytes, encode, startOf, Readable, IsTable, Completable, LongestStart, InGlyph}
+use Rattle.table.specs.Reading.{endsIn, itemsIn, tableOf, tablePlace}
 use Rattle.table.proofs.Reading.{unique, items-back}
 use Rattle.table.proofs.EndToEnd.{described-append, encode-cons}
 use Rattle.table.proofs.EndToEnd as end-to-end
@@ -88,5 +86,5 @@ pub trailing-exactly : (c : Coding) (n : ℕ) (s : List ℕ) (k : ℕ) → Bytes
 trailing-exactly c n s k y = (trailing-over c n s k y, λ h. over-trailing c n s k (h .1) (h .2))
 
 -- no place is past the tail's end
-pub place-within : (c : Coding) (n : ℕ) (s : List ℕ) → Bytes s → placeOf (tableOf c n s) ≤ length s
+pub place-within : (c : Coding) (n : ℕ) (s : List ℕ) → Bytes s → tablePlace (tableOf c n s) ≤ length s
 place-within = within-tail

@@ -6,13 +6,12 @@ use mathlib.Core.List.{List, [], _∷_}
 use Prim.Native.Nat.{ℕ, zero, suc, _+_}
 use native.Mathlib.Omega.{arith}
 use Rattle.coding.specs.declared.Coding.{Coding}
-use Rattle.coding.specs.Coding.{valueOf}
+use Rattle.coding.specs.Meaning.{valueOf}
 use Rattle.table.specs.declared.Item.{Item}
 use Rattle.table.specs.declared.Item.the-variants.{Single, Start, Value, End}
 use Rattle.table.specs.declared.Step.{Step}
-use Rattle.table.specs.Grammar.{endsIn, OfCoding}
-use Rattle.table.specs.Steps.{toldAs, told}
-use Rattle.table.specs.Check.{checkSteps}
+use Rattle.table.specs.Reading.{endsIn, valueItem, stepItems, checkSteps}
+use Rattle.table.specs.Meaning.{OfCoding}
 use Rattle.table.proofs.Accepts.{Phase, singles, opened, filled, Accepts}
 use Rattle.table.proofs.Stepping.{stepFor}
 
@@ -47,36 +46,36 @@ module _ (c : Coding) where
   pub record Move (n : ℕ) (p : Phase) (n' : ℕ) (p' : Phase) (i : Item) : Type 0 where
     pub of : OfCoding c (i ∷ [])
     pub checked : (e g at next : ℕ) (xs : List Step) → checkSteps e g n (isOpened p) at (stepFor c next i ∷ xs) ≡ checkSteps e (ended i g) n' (isOpened p') next xs
-    pub tells : (next : ℕ) (xs : List Step) → told (isInside p) (stepFor c next i ∷ xs) ≡ i ∷ told (isInside p') xs
+    pub tells : (next : ℕ) (xs : List Step) → stepItems (isInside p) (stepFor c next i ∷ xs) ≡ i ∷ stepItems (isInside p') xs
     pub accepts : (is : List Item) → Accepts n' p' is → Accepts n p (i ∷ is)
 
   module _ (n : ℕ) where
     pub single : (v : ℕ) → valueOf c v → Move (suc n) singles (suc n) singles (Single v)
-    unfolding checkSteps told toldAs
+    unfolding checkSteps stepItems valueItem
     single v u = record { of = (u, tt); checked = λ e g at next xs. refl; tells = λ next xs. refl; accepts = λ is a. a }
 
     pub first-value : (v : ℕ) → valueOf c v → Move (suc n) opened (suc n) filled (Value v)
-    unfolding checkSteps told toldAs
+    unfolding checkSteps stepItems valueItem
     first-value v u = record { of = (u, tt); checked = λ e g at next xs. refl; tells = λ next xs. refl; accepts = λ is a. a }
 
     pub other-value : (v : ℕ) → valueOf c v → Move (suc n) filled (suc n) filled (Value v)
-    unfolding checkSteps told toldAs
+    unfolding checkSteps stepItems valueItem
     other-value v u = record { of = (u, tt); checked = λ e g at next xs. refl; tells = λ next xs. refl; accepts = λ is a. a }
 
     pub first-start : Move (suc n) singles (suc n) opened Start
-    unfolding checkSteps told
+    unfolding checkSteps stepItems
     first-start = record { of = tt; checked = λ e g at next xs. refl; tells = λ next xs. refl; accepts = λ is a. a }
 
     pub other-start : Move (suc n) filled (suc n) opened Start
-    unfolding checkSteps told
+    unfolding checkSteps stepItems
     other-start = record { of = tt; checked = λ e g at next xs. refl; tells = λ next xs. refl; accepts = λ is a. a }
 
     pub end-singles : Move (suc n) singles n singles End
-    unfolding checkSteps told
+    unfolding checkSteps stepItems
     end-singles = record { of = tt; checked = λ e g at next xs. refl; tells = λ next xs. refl; accepts = λ is a. a }
 
     pub end-sequences : Move (suc n) filled n singles End
-    unfolding checkSteps told
+    unfolding checkSteps stepItems
     end-sequences = record { of = tt; checked = λ e g at next xs. refl; tells = λ next xs. refl; accepts = λ is a. a }
 
   -- the move of the first of accepted items

@@ -7,7 +7,7 @@ use Prim.Native.Nat.{ℕ, zero, suc, _+_, _-_, _≤_, _<_}
 use native.Mathlib.Omega.{arith}
 use lib.ListN.{length, take, length-append, length-take}
 use lib.Seq.{take-at, take-take, take-all, take-length, length-take-le}
-use Rattle.base.specs.Bytes.{Bytes}
+use Rattle.base.specs.Meaning.{Bytes}
 use Rattle.base.proofs.Tests.{below}
 use Rattle.coding.specs.declared.Coding.{Coding}
 use Rattle.table.specs.declared.Item.{Item}
@@ -15,10 +15,8 @@ use Rattle.table.specs.declared.Step.{Step}
 use Rattle.table.specs.declared.Step.the-variants.{Value as StepValue, Start as StepStart, End as StepEnd, Cut as StepCut, Bad as StepBad}
 use Rattle.table.specs.declared.TableAnswer.{TableAnswer}
 use Rattle.table.specs.declared.TableAnswer.the-variants.{Complete, Cut as TableCut, Bad as TableBad, Trailing}
-use Rattle.table.specs.Grammar.{Desc, items, endsIn, bytes, OfCoding, encode, startOf, Readable}
-use Rattle.table.specs.Steps.{stepsFrom}
-use Rattle.table.specs.Check.{checkSteps, tableOf}
-use Rattle.table.specs.Table.{IsTable, Completable, LongestStart, InGlyph}
+use Rattle.table.specs.Meaning.{Desc, items, bytes, OfCoding, encode, startOf, Readable, IsTable, Completable, LongestStart, InGlyph}
+use Rattle.table.specs.Reading.{endsIn, stepsFrom, checkSteps, tableOf}
 use Rattle.table.proofs.EndToEnd.{bytes-of-append, items-append, encode-append, of-append, of-left, start-before, readable-before}
 use Rattle.table.proofs.Reading.{items-bytes}
 use Rattle.table.proofs.Places.{complete-table, table-complete, cut-short, short-cut, bad-broken, broken-bad, trailing-over, over-trailing, cut-before}

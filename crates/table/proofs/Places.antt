@@ -7,17 +7,15 @@ use Prim.Native.Nat.{ℕ, suc, _+_, _≤_, _<_}
 use native.Mathlib.Omega.{arith}
 use lib.ListN.{length, take, drop, take-append-drop}
 use lib.Seq.{take-take, take-length, drop-cons, length-take-le}
-use Rattle.base.specs.Bytes.{Bytes}
+use Rattle.base.specs.Meaning.{Bytes}
 use Rattle.base.proofs.Parts.{bytes-right}
 use Rattle.base.proofs.Tests.{below}
 use Rattle.coding.specs.declared.Coding.{Coding}
 use Rattle.table.specs.declared.Item.{Item}
 use Rattle.table.specs.declared.TableAnswer.{TableAnswer}
 use Rattle.table.specs.declared.TableAnswer.the-variants.{Complete, Cut as TableCut, Bad as TableBad, Trailing}
-use Rattle.table.specs.Grammar.{Desc, items, endsIn, bytes, OfCoding, encode, Readable}
-use Rattle.table.specs.Steps.{stepsFrom}
-use Rattle.table.specs.Check.{checkSteps, tableOf, placeOf}
-use Rattle.table.specs.Table.{IsTable, Completable, LongestStart}
+use Rattle.table.specs.Meaning.{Desc, items, bytes, OfCoding, encode, Readable, IsTable, Completable, LongestStart}
+use Rattle.table.specs.Reading.{endsIn, stepsFrom, checkSteps, tableOf, tablePlace}
 use Rattle.table.proofs.Accepts.{singles, Accepts, accepts-items, accepted-items}
 use Rattle.table.proofs.Answers.{walk, Read, More, Stops, Says, answer-told, atOver, passes, stops-before}
 use Rattle.table.proofs.Reading.{items-bytes}
@@ -159,10 +157,10 @@ module _ (c : Coding) (n : ℕ) where
         go (TableBad j g) e = (g, e ∙ ap (λ (x : ℕ). TableBad x g) (one-longest j k (bad-broken j g y e .0) l))
         go (Trailing j) e = let r = trailing-over j y e in absurd (f (subst (λ (x : ℕ). IsTable c n (take x s)) (one-longest j k (r .0) l) (r .2)))
 
-    pub within-tail : Bytes s → placeOf (tableOf c n s) ≤ length s
+    pub within-tail : Bytes s → tablePlace (tableOf c n s) ≤ length s
     within-tail y = go (tableOf c n s) refl
       where
-        go : (a : TableAnswer) → tableOf c n s ≡ a → placeOf a ≤ length s
+        go : (a : TableAnswer) → tableOf c n s ≡ a → tablePlace a ≤ length s
         go Complete e = omega arith
         go (TableCut k g) e = let r = cut-short k g y e .0 in omega arith
         go (TableBad k g) e = let r = bad-broken k g y e .1 in omega arith

@@ -3,30 +3,30 @@ use mathlib.Core.Path.{_≡_, refl, sym, _∙_, ap}
 use mathlib.Core.List.{List, [], _∷_}
 use Prim.Native.Nat.{ℕ, _+_}
 use lib.ListN.{length}
-use Rattle.base.specs.Bytes.{Bytes}
+use Rattle.base.specs.Meaning.{Bytes}
 use Rattle.base.proofs.Parts.{bytes-append}
 use Rattle.coding.specs.declared.Coding.{Coding}
-use Rattle.coding.specs.Coding.{valueBytes, startBytes, endBytes}
+use Rattle.coding.specs.Meaning.{valueBytes, startBytes, endBytes}
 use Rattle.coding.proofs.Codings.{coded}
 use Rattle.table.specs.declared.Item.{Item}
 use Rattle.table.specs.declared.Item.the-variants.{Single, Start, Value, End}
-use Rattle.table.specs.Grammar.{Desc, items, itemBytes, bytes, OfCoding, encode, Readable}
-use Rattle.table.specs.Steps.{stepsFrom, told, itemsIn}
+use Rattle.table.specs.Meaning.{Desc, items, itemBytes, bytes, OfCoding, encode, Readable}
+use Rattle.table.specs.Reading.{stepsFrom, stepItems, itemsIn}
 use Rattle.table.proofs.Accepts.{Phase, singles, Accepts, accepts-items, items-inj}
 use Rattle.table.proofs.Moves.{isInside, moved}
 use Rattle.table.proofs.Stepping.{item-front}
 
 module _ (c : Coding) where
-  nothing-left : (p : Phase) (at : ℕ) → told (isInside p) (stepsFrom c at 0 []) ≡ []
-  unfolding told stepsFrom
+  nothing-left : (p : Phase) (at : ℕ) → stepItems (isInside p) (stepsFrom c at 0 []) ≡ []
+  unfolding stepItems stepsFrom
   nothing-left p at = refl
 
   -- accepted items, written, are read again
-  read-back : (is : List Item) (n : ℕ) (p : Phase) (at : ℕ) → OfCoding c is → Accepts n p is → told (isInside p) (stepsFrom c at 0 (bytes c is)) ≡ is
+  read-back : (is : List Item) (n : ℕ) (p : Phase) (at : ℕ) → OfCoding c is → Accepts n p is → stepItems (isInside p) (stepsFrom c at 0 (bytes c is)) ≡ is
   read-back [] n p at o a = nothing-left p at
   read-back (i ∷ is) n p at o a =
       let m = moved c n p i is o a in
-      ap (told (isInside p)) (item-front c i at (bytes c is) (m .move .of))
+      ap (stepItems (isInside p)) (item-front c i at (bytes c is) (m .move .of))
       ∙ m .move .tells (at + length (itemBytes c i)) (stepsFrom c (at + length (itemBytes c i)) 0 (bytes c is))
       ∙ ap (λ (x : List Item). i ∷ x) (read-back is (m .left) (m .phase) (at + length (itemBytes c i)) (m .rest-of) (m .rest))
 

@@ -9,14 +9,16 @@ use Rattle.token.specs.declared.Token.{Token}
 use Rattle.token.specs.declared.Token.the-variants.{Value as TokenValue, Start as TokenStart, End as TokenEnd, Cut as TokenCut, Bad as TokenBad}
 use Rattle.token.proofs.Sized.{Sized}
 use Rattle.coding.specs.declared.Coding.{Coding}
-use Rattle.coding.specs.Coding.{readToken, markLen, valueOf, valueBytes, startBytes, endBytes}
+use Rattle.coding.specs.Reading.{readToken, markLen}
+use Rattle.coding.specs.Meaning.{valueOf, valueBytes, startBytes, endBytes}
 use Rattle.coding.proofs.Codings.{coded, stopping, token-sized, mark-small}
 use Rattle.table.specs.declared.Item.{Item}
 use Rattle.table.specs.declared.Item.the-variants.{Single, Start, Value, End}
 use Rattle.table.specs.declared.Step.{Step}
 use Rattle.table.specs.declared.Step.the-variants.{Value as StepValue, Start as StepStart, End as StepEnd, Cut as StepCut, Bad as StepBad}
-use Rattle.table.specs.Grammar.{itemBytes, OfCoding}
-use Rattle.table.specs.Steps.{stepOf, stepAt, onward, stepsFrom, stepsAt, StepSays}
+use Rattle.table.specs.Meaning.{itemBytes, OfCoding}
+use Rattle.table.specs.Reading.{stepOf, stepAt, afterStep, stepsFrom, stepsAt}
+use Rattle.table.specs.Bounds.{StepSays}
 
 module _ (c : Coding) where
   -- bytes that belong to the step before
@@ -30,13 +32,13 @@ module _ (c : Coding) where
   to-next at next t h = let e : suc at + (next - suc at) ≡ next = omega arith in rw e at (skip (next - suc at) (suc at) t)
 
   pub first : (at b : ℕ) (t : List ℕ) (x : Step) → stepOf (markLen c) at (readToken c (b ∷ t)) ≡ x →
-      stepsFrom c at 0 (b ∷ t) ≡ x ∷ onward x (λ next. stepsFrom c (suc at) (next - suc at) t)
+      stepsFrom c at 0 (b ∷ t) ≡ x ∷ afterStep x (λ next. stepsFrom c (suc at) (next - suc at) t)
   unfolding stepsFrom
   first at b t x e = rw e
 
   -- at a place of a list
   module _ (s : List ℕ) (i : ℕ) (h : i < length s) where
-    here : (x : Step) → stepAt c s i ≡ x → stepsAt c s i ≡ x ∷ onward x (λ next. stepsFrom c (suc i) (next - suc i) (drop (suc i) s))
+    here : (x : Step) → stepAt c s i ≡ x → stepsAt c s i ≡ x ∷ afterStep x (λ next. stepsFrom c (suc i) (next - suc i) (drop (suc i) s))
     here x e = rw (drop-cons s i 0 h) (first i (getD s i 0) (drop (suc i) s) x (rw (drop-cons s i 0 h) at e))
 
     there : (next : ℕ) → i < next → stepsFrom c (suc i) (next - suc i) (drop (suc i) s) ≡ stepsAt c s next
@@ -74,7 +76,7 @@ module _ (c : Coding) where
 
   -- bytes x in front, which are one step
   front : (at : ℕ) (x y : List ℕ) (w : Step) → 1 ≤ length x → stepOf (markLen c) at (readToken c (x ++ y)) ≡ w →
-      ((f : ℕ → List Step) → onward w f ≡ f (at + length x)) → stepsFrom c at 0 (x ++ y) ≡ w ∷ stepsFrom c (at + length x) 0 y
+      ((f : ℕ → List Step) → afterStep w f ≡ f (at + length x)) → stepsFrom c at 0 (x ++ y) ≡ w ∷ stepsFrom c (at + length x) 0 y
   front at [] y w h e f = absurd (omega arith)
   front at (b ∷ x) y w h e f =
       let l : at + suc (length x) - suc at ≡ length x = omega arith in

@@ -6,17 +6,16 @@ use mathlib.Core.Logic.{inl, inr}
 use Prim.Native.Nat.{ℕ}
 use native.Mathlib.Omega.{arith}
 use lib.ListN.{length}
-use Rattle.utf8.specs.Utf8.{readUtf8, readValue, leadOf, conts}
-use Rattle.utf8.specs.Scalar.{utf8Bytes}
-use Rattle.ucs2.specs.Ucs2.{readUcs2}
-use Rattle.ucs2.specs.Word.{isWord}
+use Rattle.utf8.specs.Reading.{readUtf8, readValue, leadOf, conts}
+use Rattle.utf8.specs.Meaning.{utf8Bytes}
+use Rattle.ucs2.specs.Reading.{readUcs2, isWord}
 use Rattle.coding.specs.declared.Coding.{Coding}
 use Rattle.coding.specs.declared.Coding.the-variants.{Utf8, Ucs2}
-use Rattle.coding.specs.Coding.{readToken, markLen, valueOf, valueBytes, startBytes, endBytes}
+use Rattle.coding.specs.Reading.{readToken, markLen}
+use Rattle.coding.specs.Meaning.{valueOf, valueBytes, startBytes, endBytes}
 use Rattle.table.specs.declared.TableAnswer.the-variants.{Complete}
-use Rattle.table.specs.Grammar.{Seq, Desc, encode, Readable}
-use Rattle.table.specs.Steps.{stepsFrom}
-use Rattle.table.specs.Check.{checkSteps, tableOf, numberOf, placeOf}
+use Rattle.table.specs.Meaning.{Seq, Desc, encode, Readable}
+use Rattle.table.specs.Reading.{stepsFrom, checkSteps, tableOf, tableNumber, tablePlace}
 
 -- what a case expects: the reading, or a refusal's number and place
 pub data Expected : Type 0 where
@@ -31,7 +30,7 @@ pub record Case : Type 0 where
 
 abbrev pub Meets : Coding → ℕ → List ℕ → Expected → Type 0
 Meets c n s (reads ds) = (tableOf c n s ≡ Complete) × (length ds ≡ n) × (encode c ds ≡ s) × Readable c ds
-Meets c n s (refused number place) = (numberOf (tableOf c n s) ≡ number) × (placeOf (tableOf c n s) ≡ place)
+Meets c n s (refused number place) = (tableNumber (tableOf c n s) ≡ number) × (tablePlace (tableOf c n s) ≡ place)
 
 abbrev pub AllMeet : List Case → Type 0
 AllMeet [] = Unit {0}

@@ -4,8 +4,9 @@ ghost use mathlib.Core.Path.{_≡_};
 ghost use Prim.Native.Nat.{_-_, _≤_};
 ghost use Rattle.table.specs.declared.TableAnswer.the-variants.{Bad as TableBad};
 ghost use Rattle.coding.specs.declared.Coding.the-variants.{Utf8, Ucs2};
-ghost use Rattle.table.specs.Steps.{stepOf, stepAt, StepFits, StepSays, toldAs};
-ghost use Rattle.table.specs.Check.{tableOf};
+ghost use Rattle.table.specs.Reading.{stepOf, stepAt, valueItem};
+ghost use Rattle.table.specs.Bounds.{StepFits, StepSays};
+ghost use Rattle.table.specs.Reading.{tableOf};
 use coding::Coding;
 use token::Token;
 use utf8::Read;
@@ -111,8 +112,8 @@ pub fn next_step(c: Coding, s: &[u8], at: usize) -> Step
 }
 
 // A value as an item: before the first start mark of its description it is a single.
-pub fn told_as(inside: bool, v: u32) -> Item
-    ensures { λ r. ⌜ r ≡ toldAs inside v ⌝ }
+pub fn value_item(inside: bool, v: u32) -> Item
+    ensures { λ r. ⌜ r ≡ valueItem inside v ⌝ }
 {
     if inside {
         return Item::Value(v);

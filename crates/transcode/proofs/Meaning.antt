@@ -9,14 +9,13 @@ use lib.ListN.{length}
 use Rattle.coding.specs.declared.Coding.{Coding}
 use Rattle.table.specs.declared.Item.{Item}
 use Rattle.table.specs.declared.Item.the-variants.{Single, Start, Value, End}
-use Rattle.table.specs.Grammar.{Desc, items, endsIn, bytes, OfCoding, encode, Readable}
-use Rattle.table.specs.Steps.{stepsFrom}
-use Rattle.table.specs.Table.{InGlyph}
+use Rattle.table.specs.Meaning.{Desc, items, bytes, OfCoding, encode, Readable, InGlyph}
+use Rattle.table.specs.Reading.{endsIn, stepsFrom}
 use Rattle.table.proofs.Meaning.{items-read, glyph-of-item}
 use Rattle.transcode.specs.declared.Measured.{Measured}
 use Rattle.transcode.specs.declared.Measured.the-variants.{Length, Uncarried}
-use Rattle.transcode.specs.Transcode.{measure, tableLen, recoded}
-use Rattle.transcode.specs.Carrying.{FirstUncarried}
+use Rattle.transcode.specs.Reading.{measure, tableLen, recoded}
+use Rattle.transcode.specs.Meaning.{FirstUncarried}
 use Rattle.transcode.proofs.Measuring.{Said, same-place, measured, uncarried-measured}
 
 -- an item among items of a coding

@@ -1,47 +1,48 @@
 -- The length of a table in another coding, item by item: every value is carried and it is the length of their bytes, or it is the
 -- place of the first that isn't.
-use mathlib.Core.Path.{_≡_, refl, sym, _∙_, ap, subst}
+use mathlib.Core.Path.{_≡_, refl, _∙_, ap}
 use mathlib.Core.Bool.{Bool, true, false}
 use mathlib.Core.List.{List, [], _∷_, _++_}
-use Prim.Native.Nat.{ℕ, suc, _+_, _≤_, _<_}
+use Prim.Native.Nat.{ℕ, suc, _+_}
 use native.Mathlib.Omega.{arith}
 use lib.ListN.{length, length-append}
-use Rattle.base.specs.Choice.{when}
+use Rattle.base.specs.Reading.{when}
 use Rattle.coding.specs.declared.Coding.{Coding}
-use Rattle.coding.specs.Coding.{valueOf, carriesOf, valueBytes, startBytes, endBytes, markLen}
+use Rattle.coding.specs.Meaning.{valueOf, valueBytes, startBytes, endBytes}
+use Rattle.coding.specs.Reading.{carriesOf, markLen}
 use Rattle.coding.proofs.Written.{carries-exactly, carries-no, start-len, end-len}
 use Rattle.table.specs.declared.Item.{Item}
 use Rattle.table.specs.declared.Item.the-variants.{Single, Start, Value, End}
 use Rattle.table.specs.declared.Step.{Step}
 use Rattle.table.specs.declared.Step.the-variants.{Value as StepValue, Start as StepStart, End as StepEnd, Cut as StepCut, Bad as StepBad}
-use Rattle.table.specs.Grammar.{endsIn, itemBytes, bytes, OfCoding}
-use Rattle.table.specs.Steps.{stepsFrom, toldAs, told, itemsIn}
+use Rattle.table.specs.Reading.{endsIn, stepsFrom, valueItem, stepItems}
+use Rattle.table.specs.Meaning.{itemBytes, bytes, OfCoding}
 use Rattle.table.proofs.Stepping.{item-front}
 use Rattle.table.proofs.Moves.{ended, ended-more}
 use Rattle.transcode.specs.declared.Measured.{Measured}
 use Rattle.transcode.specs.declared.Measured.the-variants.{Length, Uncarried}
-use Rattle.transcode.specs.Transcode.{measure, tableLen, recoded}
-use Rattle.transcode.specs.Carrying.{FirstUncarried}
-use Rattle.transcode.proofs.Turns.{value-more, value-not, start-more, end-more, blind}
+use Rattle.transcode.specs.Reading.{measure, tableLen, recoded}
+use Rattle.transcode.specs.Meaning.{FirstUncarried}
+use Rattle.transcode.proofs.Turns.{value-more, value-not, start-more, end-more}
 
 never : {A : Type 0} (k g m : ℕ) → Uncarried k g ≡ Length m → A
 never k g m e = let z : _≡_ {A = ℕ} 0 1 = cc in absurd (omega arith)
 
--- whatever the steps are, a length that is told is that of their bytes
-told-length : (to : Coding) (g at n m : ℕ) (i : Bool) (xs : List Step) → measure to g at n xs ≡ Length m → m ≡ n + length (bytes to (told i xs))
-unfolding measure told toldAs when
+-- whatever the steps are, a length that is stepItems is that of their bytes
+told-length : (to : Coding) (g at n m : ℕ) (i : Bool) (xs : List Step) → measure to g at n xs ≡ Length m → m ≡ n + length (bytes to (stepItems i xs))
+unfolding measure stepItems valueItem when
 told-length to g at n m i [] e = let h : n ≡ m = cc in omega arith
 told-length to g at n m i (StepValue v next ∷ xs) e = go i (carriesOf to v) (λ j q. told-length to g next (n + length (valueBytes to v)) m j xs q) e
   where
-    go : (i : Bool) (t : Bool) → ((j : Bool) → measure to g next (n + length (valueBytes to v)) xs ≡ Length m → m ≡ n + length (valueBytes to v) + length (bytes to (told j xs))) →
-        when t (measure to g next (n + length (valueBytes to v)) xs) (Uncarried at g) ≡ Length m → m ≡ n + length (bytes to (told i (StepValue v next ∷ xs)))
-    go false true f q = omega (arith, f false q, length-append (valueBytes to v) (bytes to (told false xs)))
-    go true true f q = omega (arith, f true q, length-append (valueBytes to v) (bytes to (told true xs)))
+    go : (i : Bool) (t : Bool) → ((j : Bool) → measure to g next (n + length (valueBytes to v)) xs ≡ Length m → m ≡ n + length (valueBytes to v) + length (bytes to (stepItems j xs))) →
+        when t (measure to g next (n + length (valueBytes to v)) xs) (Uncarried at g) ≡ Length m → m ≡ n + length (bytes to (stepItems i (StepValue v next ∷ xs)))
+    go false true f q = omega (arith, f false q, length-append (valueBytes to v) (bytes to (stepItems false xs)))
+    go true true f q = omega (arith, f true q, length-append (valueBytes to v) (bytes to (stepItems true xs)))
     go i false f q = never at g m q
 told-length to g at n m i (StepStart next ∷ xs) e =
-    omega (arith, told-length to g next (n + markLen to) m true xs e, start-len to, length-append (startBytes to) (bytes to (told true xs)))
+    omega (arith, told-length to g next (n + markLen to) m true xs e, start-len to, length-append (startBytes to) (bytes to (stepItems true xs)))
 told-length to g at n m i (StepEnd next ∷ xs) e =
-    omega (arith, told-length to (suc g) next (n + markLen to) m false xs e, end-len to, length-append (endBytes to) (bytes to (told false xs)))
+    omega (arith, told-length to (suc g) next (n + markLen to) m false xs e, end-len to, length-append (endBytes to) (bytes to (stepItems false xs)))
 told-length to g at n m i (StepCut ∷ xs) e = let h : n ≡ m = cc in omega arith
 told-length to g at n m i (StepBad k ∷ xs) e = let h : n ≡ m = cc in omega arith
 

@@ -2,23 +2,20 @@
 use mathlib.Core.Path.{_≡_, refl, sym, _∙_, ap}
 use mathlib.Core.Bool.{Bool, true, false}
 use mathlib.Core.List.{List, [], _∷_, _++_}
-use Prim.Native.Nat.{ℕ, suc, _+_, _-_, _≤_, _<_}
+use Prim.Native.Nat.{ℕ, suc, _+_, _-_, _≤_}
 use native.Mathlib.Omega.{arith}
-use lib.ListN.{length, take, drop}
-use Rattle.base.specs.Choice.{when}
+use lib.ListN.{length}
+use Rattle.base.specs.Reading.{when}
 use Rattle.coding.specs.declared.Coding.{Coding}
-use Rattle.coding.specs.Coding.{carriesOf, valueBytes, startBytes, endBytes, markLen}
-use Rattle.coding.proofs.Written.{start-len, end-len}
-use Rattle.table.specs.declared.Item.{Item}
-use Rattle.table.specs.declared.Item.the-variants.{Single, Start, Value, End}
+use Rattle.coding.specs.Reading.{carriesOf, markLen}
+use Rattle.coding.specs.Meaning.{valueBytes, startBytes, endBytes}
 use Rattle.table.specs.declared.Step.{Step}
 use Rattle.table.specs.declared.Step.the-variants.{Value as StepValue, Start as StepStart, End as StepEnd, Cut as StepCut, Bad as StepBad}
-use Rattle.table.specs.Grammar.{bytes}
-use Rattle.table.specs.Steps.{stepsFrom, stepsAt, toldAs, told}
+use Rattle.table.specs.Meaning.{bytes}
+use Rattle.table.specs.Reading.{stepsFrom, stepsAt, valueItem, stepItems}
 use Rattle.table.proofs.Telling.{told-past}
-use Rattle.transcode.specs.declared.Measured.{Measured}
 use Rattle.transcode.specs.declared.Measured.the-variants.{Length, Uncarried}
-use Rattle.transcode.specs.Transcode.{measure, tableLen, recoded}
+use Rattle.transcode.specs.Reading.{measure, tableLen, recoded}
 
 -- the length, by the first step
 module _ (to : Coding) (g at n : ℕ) (xs ys : List Step) where
@@ -46,7 +43,7 @@ module _ (to : Coding) (g at n : ℕ) (xs ys : List Step) where
   unfolding measure
   bad-no-more k e = rw e
 
-  -- a value in front, where a length is told: the coding carries it
+  -- a value in front, where a length is stepItems: the coding carries it
   pub value-carried : (v next m : ℕ) → xs ≡ StepValue v next ∷ ys → measure to g at n xs ≡ Length m → carriesOf to v ≡ true
   value-carried v next m e q = go (carriesOf to v) refl
     where
@@ -54,7 +51,7 @@ module _ (to : Coding) (g at n : ℕ) (xs ys : List Step) where
       go true c = c
       go false c = let u : Uncarried at g ≡ Length m = sym (value-not v next e c) ∙ q in let z : _≡_ {A = ℕ} 0 1 = cc in absurd (omega arith)
 
--- a length that is told does not depend on how many descriptions are complete
+-- a length that is stepItems does not depend on how many descriptions are complete
 pub any-glyph : (to : Coding) (g h at n m : ℕ) (xs : List Step) → measure to g at n xs ≡ Length m → measure to h at n xs ≡ Length m
 unfolding measure when
 any-glyph to g h at n m [] e = e
@@ -75,8 +72,8 @@ past-no-more from to s g at n h = rw (lib.ListN.drop-of-length-le s h)
 
 -- the bytes don't tell a single from a value in a sequence
 module _ (to : Coding) where
-  pub blind : (i j : Bool) (xs : List Step) → bytes to (told i xs) ≡ bytes to (told j xs)
-  unfolding told toldAs
+  pub blind : (i j : Bool) (xs : List Step) → bytes to (stepItems i xs) ≡ bytes to (stepItems j xs)
+  unfolding stepItems valueItem
   blind i j [] = refl
   blind false false (StepValue v next ∷ xs) = refl
   blind false true (StepValue v next ∷ xs) = ap (λ (z : List ℕ). valueBytes to v ++ z) (blind false true xs)
@@ -89,30 +86,30 @@ module _ (to : Coding) where
 
   -- the bytes, by the first step
   module _ (xs ys : List Step) where
-    pub value-bytes : (v next : ℕ) → xs ≡ StepValue v next ∷ ys → bytes to (told false xs) ≡ valueBytes to v ++ bytes to (told false ys)
-    unfolding told toldAs
+    pub value-bytes : (v next : ℕ) → xs ≡ StepValue v next ∷ ys → bytes to (stepItems false xs) ≡ valueBytes to v ++ bytes to (stepItems false ys)
+    unfolding stepItems valueItem
     value-bytes v next e = rw e
 
-    pub start-bytes : (next : ℕ) → xs ≡ StepStart next ∷ ys → bytes to (told false xs) ≡ startBytes to ++ bytes to (told false ys)
-    unfolding told
+    pub start-bytes : (next : ℕ) → xs ≡ StepStart next ∷ ys → bytes to (stepItems false xs) ≡ startBytes to ++ bytes to (stepItems false ys)
+    unfolding stepItems
     start-bytes next e = rw e (ap (λ (z : List ℕ). startBytes to ++ z) (blind true false ys))
 
-    pub end-bytes : (next : ℕ) → xs ≡ StepEnd next ∷ ys → bytes to (told false xs) ≡ endBytes to ++ bytes to (told false ys)
-    unfolding told
+    pub end-bytes : (next : ℕ) → xs ≡ StepEnd next ∷ ys → bytes to (stepItems false xs) ≡ endBytes to ++ bytes to (stepItems false ys)
+    unfolding stepItems
     end-bytes next e = rw e
 
-    pub cut-bytes : xs ≡ StepCut ∷ ys → bytes to (told false xs) ≡ []
-    unfolding told
+    pub cut-bytes : xs ≡ StepCut ∷ ys → bytes to (stepItems false xs) ≡ []
+    unfolding stepItems
     cut-bytes e = rw e
 
-    pub bad-bytes : (k : ℕ) → xs ≡ StepBad k ∷ ys → bytes to (told false xs) ≡ []
-    unfolding told
+    pub bad-bytes : (k : ℕ) → xs ≡ StepBad k ∷ ys → bytes to (stepItems false xs) ≡ []
+    unfolding stepItems
     bad-bytes k e = rw e
 
-  pub past-bytes : (from : Coding) (s : List ℕ) (at : ℕ) → length s ≤ at → bytes to (told false (stepsAt from s at)) ≡ []
+  pub past-bytes : (from : Coding) (s : List ℕ) (at : ℕ) → length s ≤ at → bytes to (stepItems false (stepsAt from s at)) ≡ []
   past-bytes from s at h = ap (bytes to) (told-past from s false at h)
 
-pub recoded-from : (from to : Coding) (s : List ℕ) → recoded from to s ≡ bytes to (told false (stepsAt from s 0))
+pub recoded-from : (from to : Coding) (s : List ℕ) → recoded from to s ≡ bytes to (stepItems false (stepsAt from s 0))
 unfolding recoded
 recoded-from from to s = refl
 

@@ -1,3 +1,4 @@
 -- A table's items written in another coding.
-pub mod Transcode
-pub mod Carrying
+pub mod Meaning
+pub mod Reading
+pub mod Bounds

@@ -8,13 +8,13 @@ use native.Mathlib.Omega.{arith}
 use lib.ListN.{drop}
 use lib.Dec.{eqb}
 use borrow.Author.Tests.{eqb-true, eqb-false}
-use Rattle.base.specs.Bytes.{Bytes}
+use Rattle.base.specs.Meaning.{Bytes}
 use Rattle.base.proofs.Tests.{by-test, below}
 use Rattle.token.specs.declared.Token.{Token}
 use Rattle.token.specs.declared.Token.the-variants.{Value, Start, End, Cut, Bad}
 use Rattle.token.proofs.Coded.{Coded}
-use Rattle.ucs2.specs.Ucs2.{readUcs2, word}
-use Rattle.ucs2.specs.Word.{wordBytes, Word, isWord}
+use Rattle.ucs2.specs.Reading.{readUcs2, word, isWord}
+use Rattle.ucs2.specs.Meaning.{wordBytes, Word}
 use Rattle.ucs2.proofs.Words.{word-exactly}
 
 -- what a word is read as, taken back: a value, or a mark that is no value

@@ -6,10 +6,9 @@ use Prim.Native.Nat.{ℕ, _≤_, _<_}
 use native.Mathlib.Omega.{arith}
 use lib.ListN.{length}
 use borrow.Author.Tests.{eq-eqb, ne-eqb}
-use Rattle.base.specs.Numbers.{le16}
+use Rattle.base.specs.Meaning.{le16}
 use Rattle.token.specs.declared.Token.the-variants.{Value, Start, End, Cut}
-use Rattle.ucs2.specs.Ucs2.{readUcs2, word}
-use Rattle.ucs2.specs.Word.{isWord}
+use Rattle.ucs2.specs.Reading.{readUcs2, word, isWord}
 
 pub short : (s : List ℕ) → length s < 2 → Cut ≡ readUcs2 s
 unfolding readUcs2

@@ -7,8 +7,7 @@ use lib.Dec.{eqb}
 use Rattle.base.proofs.Tests.{by-test}
 use Rattle.token.specs.declared.Token.{Token}
 use Rattle.token.proofs.Sized.{Sized}
-use Rattle.ucs2.specs.Ucs2.{readUcs2}
-use Rattle.ucs2.specs.Word.{isWord}
+use Rattle.ucs2.specs.Reading.{readUcs2, isWord}
 
 pub read-sized : (s : List ℕ) → Sized 2 (length s) (readUcs2 s)
 unfolding readUcs2

@@ -5,13 +5,13 @@ use Prim.Native.Nat.{ℕ, _+_, _*_, _<_}
 use native.Mathlib.Omega.{arith}
 use lib.Dec.{eqb}
 use Rattle.base.proofs.Lists.{same2}
-use Rattle.base.specs.Bytes.{Bytes}
+use Rattle.base.specs.Meaning.{Bytes}
 use Rattle.base.proofs.Tests.{by-test}
 use Rattle.token.specs.declared.Token.{Token}
 use Rattle.token.specs.declared.Token.the-variants.{Value, Start, End, Cut, Bad}
 use Rattle.token.proofs.Stopping.{Begun, Stopping}
-use Rattle.ucs2.specs.Ucs2.{readUcs2, word}
-use Rattle.ucs2.specs.Word.{wordBytes, Word, isWord}
+use Rattle.ucs2.specs.Reading.{readUcs2, word, isWord}
+use Rattle.ucs2.specs.Meaning.{wordBytes, Word}
 
 abbrev NoStop : Token → Type 0
 NoStop (Value v l) = Unit {0}

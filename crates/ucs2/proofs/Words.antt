@@ -4,7 +4,8 @@ use mathlib.Core.Bool.{true}
 use mathlib.Core.Logic.{_↔_}
 use Prim.Native.Nat.{ℕ}
 use borrow.Author.Tests.{lt-ltb, ltb-true}
-use Rattle.ucs2.specs.Word.{Word, isWord}
+use Rattle.ucs2.specs.Meaning.{Word}
+use Rattle.ucs2.specs.Reading.{isWord}
 
 pub word-exactly : (v : ℕ) → (isWord v ≡ true) ↔ Word v
 unfolding isWord

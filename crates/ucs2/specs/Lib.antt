@@ -1,3 +1,3 @@
 -- Reading and writing one value in PSF1's two bytes.
-pub mod Ucs2
-pub mod Word
+pub mod Meaning
+pub mod Reading

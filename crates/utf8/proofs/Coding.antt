@@ -2,21 +2,20 @@
 use mathlib.Core.Path.{_≡_, refl, sym, _∙_, ap}
 use mathlib.Core.List.{List, [], _∷_}
 use mathlib.Core.Logic.{inl, inr}
-use Prim.Native.Nat.{ℕ, zero, suc, _+_, _-_, _*_, _%_, _≤_, _<_}
+use Prim.Native.Nat.{ℕ, _-_, _≤_, _<_}
 use native.Mathlib.Omega.{arith}
 use lib.ListN.{length, drop}
 use lib.Dec.{ltb, eqb}
 use borrow.Author.Tests.{eqb-true, eqb-false, ltb-true}
-use Rattle.base.specs.Choice.{within}
-use Rattle.base.specs.Bytes.{Bytes}
+use Rattle.base.specs.Meaning.{Bytes}
 use Rattle.base.proofs.Tests.{by-test}
 use Rattle.token.specs.declared.Token.{Token}
 use Rattle.token.specs.declared.Token.the-variants.{Value, Start, End, Cut, Bad}
 use Rattle.token.proofs.Coded.{Coded}
 use Rattle.utf8.specs.declared.Read.{Read}
 use Rattle.utf8.specs.declared.Read.the-variants.{Value as ReadValue, Cut as ReadCut, Bad as ReadBad}
-use Rattle.utf8.specs.Utf8.{readValue, asToken, readUtf8}
-use Rattle.utf8.specs.Scalar.{utf8Bytes, Scalar}
+use Rattle.utf8.specs.Reading.{readValue, asToken, readUtf8}
+use Rattle.utf8.specs.Meaning.{utf8Bytes, Scalar}
 use Rattle.utf8.proofs.Writing.{value-read}
 use Rattle.utf8.proofs.Reading.{Written, value-of}
 

@@ -1,18 +1,19 @@
 -- What one more byte does to `conts`: at a place of the whole list, by the test of its bounds; and behind the bytes before it.
-use mathlib.Core.Path.{_≡_, refl, sym, _∙_, ap}
+use mathlib.Core.Path.{_≡_, refl, sym, _∙_}
 use mathlib.Core.Bool.{Bool, true, false, _&&_}
 use mathlib.Core.List.{List, [], _∷_}
 use Prim.Native.Nat.{ℕ, zero, suc, _+_, _-_, _*_, _≤_, _<_}
-use native.Mathlib.Numerals.{add-one}
 use native.Mathlib.Omega.{arith}
 use lib.ListN.{length, getD, drop, drop-of-length-le}
 use lib.Seq.{drop-cons, drop-drop}
 use lib.Dec.{leb}
 use borrow.Author.Tests.{le-leb, lt-leb, leb-true}
-use Rattle.base.specs.Choice.{pick, within}
+use Rattle.base.specs.Meaning.{pick}
+use Rattle.base.specs.Reading.{within}
 use Rattle.utf8.specs.declared.Read.{Read}
 use Rattle.utf8.specs.declared.Read.the-variants.{Value, Cut, Bad}
-use Rattle.utf8.specs.Utf8.{conts, Reached}
+use Rattle.utf8.specs.Reading.{conts}
+use Rattle.utf8.specs.Bounds.{Reached}
 
 -- one byte
 module _ (s : List ℕ) (k lo hi v : ℕ) where

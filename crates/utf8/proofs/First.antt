@@ -1,18 +1,18 @@
 -- `readValue` and `readUtf8` by the length of the list and its first element.
-use mathlib.Core.Path.{_≡_, refl, sym, _∙_, ap}
+use mathlib.Core.Path.{_≡_, refl, _∙_, ap}
 use mathlib.Core.List.{List, [], _∷_}
-use Prim.Native.Nat.{ℕ, suc, _-_, _%_, _<_, _≤_}
+use Prim.Native.Nat.{ℕ, suc, _-_, _%_, _<_}
 use native.Mathlib.Omega.{arith}
 use lib.ListN.{length, getD, drop}
 use lib.Dec.{eqb}
 use borrow.Author.Tests.{eq-eqb, ne-eqb}
-use Rattle.base.specs.Choice.{pick}
+use Rattle.base.specs.Meaning.{pick}
 use Rattle.token.specs.declared.Token.the-variants.{Value as TokenValue, Start, End, Cut as TokenCut, Bad as TokenBad}
 use Rattle.utf8.specs.declared.Lead.{Lead}
 use Rattle.utf8.specs.declared.Read.{Read}
 use Rattle.utf8.specs.declared.Read.the-variants.{Value, Cut, Bad}
 use Rattle.utf8.proofs.Rows.{row-1}
-use Rattle.utf8.specs.Utf8.{conts, leadOf, readValue, asToken, readUtf8}
+use Rattle.utf8.specs.Reading.{conts, leadOf, readValue, asToken, readUtf8}
 
 pub no-bytes : (s : List ℕ) → length s ≡ 0 → Cut ≡ readValue s
 unfolding readValue

@@ -1,4 +1,4 @@
--- What is read in UTF-8 was written: from the first byte's row to the value and its bytes.
+-- What is read in UTF-8 was written: from the first byte's leadRow to the value and its bytes.
 use mathlib.Core.Path.{_≡_, refl, sym, _∙_, ap}
 use mathlib.Core.List.{List, [], _∷_, _++_}
 use mathlib.Core.Bool.{Bool, true, false, _&&_}
@@ -10,13 +10,13 @@ use lib.Seq.{drop-at}
 use lib.Dec.{leb}
 use borrow.Author.Tests.{leb-true}
 use Rattle.base.proofs.Lists.{same2, same3, same4}
-use Rattle.base.specs.Choice.{pick}
+use Rattle.base.specs.Meaning.{pick}
 use Rattle.base.proofs.Tests.{below}
 use Rattle.token.specs.declared.Token.the-variants.{Value as TokenValue, Bad as TokenBad}
 use Rattle.utf8.specs.declared.Read.the-variants.{Value, Bad}
 use Rattle.utf8.specs.declared.Lead.{Lead}
-use Rattle.utf8.specs.Utf8.{row, leadOf, conts, readUtf8}
-use Rattle.utf8.specs.Scalar.{utf8Bytes, Scalar}
+use Rattle.utf8.specs.Reading.{leadRow, leadOf, conts, readUtf8}
+use Rattle.utf8.specs.Meaning.{utf8Bytes, Scalar}
 use Rattle.utf8.proofs.Rows.{row-1, row-2, row-3a, row-3b, row-3c, row-3d, row-4a, row-4b, row-4c, row-x, row-y}
 use Rattle.utf8.proofs.First.{as-bad, as-value, back-value}
 use Rattle.utf8.proofs.Writing.{bytes1, bytes2, bytes3, bytes4}
@@ -65,7 +65,7 @@ back2 b t v l g h e =
     rw (k .same)
     (written (b ∷ k .byte ∷ []) (k .rest) v l (bytes2 v (omega arith) (omega arith) ∙ same2 _ _ _ _ (omega arith) (omega arith)) (f .1) (inl (omega arith)))
 
--- three bytes and four, with what their row says of the second
+-- three bytes and four, with what their leadRow says of the second
 record Took3 (lo hi x : ℕ) (t : List ℕ) (v l : ℕ) : Type 0 where
   c : ℕ
   d : ℕ
@@ -149,7 +149,7 @@ back4 b t v l lo hi k g h i j m u =
     rw (k .same)
     (written (b ∷ k .c ∷ k .d ∷ k .f ∷ []) (k .rest) v l (bytes4 v m ∙ same4 _ _ _ _ _ _ _ _ (omega arith) (omega arith) (omega arith) (omega arith)) (k .long) (inr (omega arith, u)))
 
--- from the first byte's row
+-- from the first byte's leadRow
 module _ (b : ℕ) (t : List ℕ) (v l : ℕ) (e : readUtf8 (b ∷ t) ≡ TokenValue v l) (h : b < 254) where
   by-row : (r : Lead) → r ≡ leadOf b → (r .len ≡ 0 → ⊥) → conts (r .len - 1) (r .lo) (r .hi) (b % r .modulus) 1 t ≡ Value v l
   by-row r q z = back-value _ v l (as-value (b ∷ t) (omega arith) (λ p. omega arith) (λ p. omega arith) r q z ∙ e)
@@ -186,14 +186,14 @@ module _ (b : ℕ) (t : List ℕ) (v l : ℕ) (e : readUtf8 (b ∷ t) ≡ TokenV
     where
       by : (b < 0x80) ⊎ (0x80 ≤ b) → (b < 0xC2) ⊎ (0xC2 ≤ b) → (b < 0xE0) ⊎ (0xE0 ≤ b) → (b < 0xE1) ⊎ (0xE1 ≤ b) → (b < 0xED) ⊎ (0xED ≤ b) →
           (b < 0xEE) ⊎ (0xEE ≤ b) → (b < 0xF0) ⊎ (0xF0 ≤ b) → (b < 0xF1) ⊎ (0xF1 ≤ b) → (b < 0xF4) ⊎ (0xF4 ≤ b) → (b < 0xF5) ⊎ (0xF5 ≤ b) → Written (b ∷ t) v l
-      by (inl x) _ _ _ _ _ _ _ _ _ = back1 b t v l 0x80 0xBF x (by-row (row 1 128 0x80 0xBF) (row-1 b (omega arith) x) (λ p. omega arith))
-      by (inr y) (inl x) _ _ _ _ _ _ _ _ = no-row (row 0 1 0x80 0xBF) (row-x b y x) refl
-      by (inr _) (inr y) (inl x) _ _ _ _ _ _ _ = back2 b t v l y x (by-row (row 2 32 0x80 0xBF) (row-2 b y x) (λ p. omega arith))
-      by (inr _) (inr _) (inr y) (inl x) _ _ _ _ _ _ = w3a (took3 _ _ _ _ _ _ (by-row (row 3 16 0xA0 0xBF) (row-3a b y x) (λ p. omega arith))) (omega arith)
-      by (inr _) (inr _) (inr _) (inr y) (inl x) _ _ _ _ _ = w3b (took3 _ _ _ _ _ _ (by-row (row 3 16 0x80 0xBF) (row-3b b y x) (λ p. omega arith))) y x
-      by (inr _) (inr _) (inr _) (inr _) (inr y) (inl x) _ _ _ _ = w3c (took3 _ _ _ _ _ _ (by-row (row 3 16 0x80 0x9F) (row-3c b y x) (λ p. omega arith))) (omega arith)
-      by (inr _) (inr _) (inr _) (inr _) (inr _) (inr y) (inl x) _ _ _ = w3d (took3 _ _ _ _ _ _ (by-row (row 3 16 0x80 0xBF) (row-3d b y x) (λ p. omega arith))) y x
-      by (inr _) (inr _) (inr _) (inr _) (inr _) (inr _) (inr y) (inl x) _ _ = w4a (took4 _ _ _ _ _ _ (by-row (row 4 8 0x90 0xBF) (row-4a b y x) (λ p. omega arith))) (omega arith)
-      by (inr _) (inr _) (inr _) (inr _) (inr _) (inr _) (inr _) (inr y) (inl x) _ = w4b (took4 _ _ _ _ _ _ (by-row (row 4 8 0x80 0xBF) (row-4b b y x) (λ p. omega arith))) y x
-      by (inr _) (inr _) (inr _) (inr _) (inr _) (inr _) (inr _) (inr _) (inr y) (inl x) = w4c (took4 _ _ _ _ _ _ (by-row (row 4 8 0x80 0x8F) (row-4c b y x) (λ p. omega arith))) (omega arith)
-      by (inr _) (inr _) (inr _) (inr _) (inr _) (inr _) (inr _) (inr _) (inr _) (inr y) = no-row (row 0 1 0x80 0xBF) (row-y b y (omega arith)) refl
+      by (inl x) _ _ _ _ _ _ _ _ _ = back1 b t v l 0x80 0xBF x (by-row (leadRow 1 128 0x80 0xBF) (row-1 b (omega arith) x) (λ p. omega arith))
+      by (inr y) (inl x) _ _ _ _ _ _ _ _ = no-row (leadRow 0 1 0x80 0xBF) (row-x b y x) refl
+      by (inr _) (inr y) (inl x) _ _ _ _ _ _ _ = back2 b t v l y x (by-row (leadRow 2 32 0x80 0xBF) (row-2 b y x) (λ p. omega arith))
+      by (inr _) (inr _) (inr y) (inl x) _ _ _ _ _ _ = w3a (took3 _ _ _ _ _ _ (by-row (leadRow 3 16 0xA0 0xBF) (row-3a b y x) (λ p. omega arith))) (omega arith)
+      by (inr _) (inr _) (inr _) (inr y) (inl x) _ _ _ _ _ = w3b (took3 _ _ _ _ _ _ (by-row (leadRow 3 16 0x80 0xBF) (row-3b b y x) (λ p. omega arith))) y x
+      by (inr _) (inr _) (inr _) (inr _) (inr y) (inl x) _ _ _ _ = w3c (took3 _ _ _ _ _ _ (by-row (leadRow 3 16 0x80 0x9F) (row-3c b y x) (λ p. omega arith))) (omega arith)
+      by (inr _) (inr _) (inr _) (inr _) (inr _) (inr y) (inl x) _ _ _ = w3d (took3 _ _ _ _ _ _ (by-row (leadRow 3 16 0x80 0xBF) (row-3d b y x) (λ p. omega arith))) y x
+      by (inr _) (inr _) (inr _) (inr _) (inr _) (inr _) (inr y) (inl x) _ _ = w4a (took4 _ _ _ _ _ _ (by-row (leadRow 4 8 0x90 0xBF) (row-4a b y x) (λ p. omega arith))) (omega arith)
+      by (inr _) (inr _) (inr _) (inr _) (inr _) (inr _) (inr _) (inr y) (inl x) _ = w4b (took4 _ _ _ _ _ _ (by-row (leadRow 4 8 0x80 0xBF) (row-4b b y x) (λ p. omega arith))) y x
+      by (inr _) (inr _) (inr _) (inr _) (inr _) (inr _) (inr _) (inr _) (inr y) (inl x) = w4c (took4 _ _ _ _ _ _ (by-row (leadRow 4 8 0x80 0x8F) (row-4c b y x) (λ p. omega arith))) (omega arith)
+      by (inr _) (inr _) (inr _) (inr _) (inr _) (inr _) (inr _) (inr _) (inr _) (inr y) = no-row (leadRow 0 1 0x80 0xBF) (row-y b y (omega arith)) refl

@@ -1,4 +1,4 @@
--- The rows of Table 3-7: what `leadOf` is at each byte of a row's range, and what holds of every row.
+-- The rows of Table 3-7: what `leadOf` is at each byte of a row's range, and what holds of every leadRow.
 use mathlib.Core.Path.{_≡_, sym}
 use mathlib.Core.Bool.{Bool, _&&_}
 use Prim.Native.Nat.{ℕ, _+_, _≤_, _<_}
@@ -7,7 +7,7 @@ use lib.Dec.{T, eqb, leb, ltb, eqb→eq, leb→le, ltb→lt}
 use Rattle.base.proofs.Tests.{and-left, and-right}
 use Rattle.base.proofs.Ranged.{every, ranged}
 use Rattle.utf8.specs.declared.Lead.{Lead}
-use Rattle.utf8.specs.Utf8.{row, leadOf}
+use Rattle.utf8.specs.Reading.{leadRow, leadOf}
 
 abbrev sameLead : Lead → Lead → Bool
 sameLead a b = eqb (a .len) (b .len) && (eqb (a .modulus) (b .modulus) && (eqb (a .lo) (b .lo) && eqb (a .hi) (b .hi)))
@@ -26,56 +26,56 @@ same-lead a b t =
     let r = eqb→eq (a .hi) (b .hi) (and-right y z v) in
     λ i. record { len = p i; modulus = o i; lo = q i; hi = r i }
 
--- a row of the table holds at each byte from lo on, n of them
+-- a leadRow of the table holds at each byte from lo on, n of them
 leads : (lo n : ℕ) (r : Lead) → T (every (λ b. sameLead (leadOf b) r) lo n) → (b : ℕ) → lo ≤ b → b < lo + n → r ≡ leadOf b
 leads lo n r t b h k = sym (same-lead (leadOf b) r (ranged (λ x. sameLead (leadOf x) r) n lo t b h k))
 
 -- the rows, each over its range
-pub row-1 : (b : ℕ) → 0 ≤ b → b < 128 → row 1 128 128 191 ≡ leadOf b
+pub row-1 : (b : ℕ) → 0 ≤ b → b < 128 → leadRow 1 128 128 191 ≡ leadOf b
 unfolding leadOf
-row-1 b g h = leads 0 128 (row 1 128 128 191) tt b g h
+row-1 b g h = leads 0 128 (leadRow 1 128 128 191) tt b g h
 
-pub row-2 : (b : ℕ) → 194 ≤ b → b < 224 → row 2 32 128 191 ≡ leadOf b
+pub row-2 : (b : ℕ) → 194 ≤ b → b < 224 → leadRow 2 32 128 191 ≡ leadOf b
 unfolding leadOf
-row-2 b g h = leads 194 30 (row 2 32 128 191) tt b g h
+row-2 b g h = leads 194 30 (leadRow 2 32 128 191) tt b g h
 
-pub row-3a : (b : ℕ) → 224 ≤ b → b < 225 → row 3 16 160 191 ≡ leadOf b
+pub row-3a : (b : ℕ) → 224 ≤ b → b < 225 → leadRow 3 16 160 191 ≡ leadOf b
 unfolding leadOf
-row-3a b g h = leads 224 1 (row 3 16 160 191) tt b g h
+row-3a b g h = leads 224 1 (leadRow 3 16 160 191) tt b g h
 
-pub row-3b : (b : ℕ) → 225 ≤ b → b < 237 → row 3 16 128 191 ≡ leadOf b
+pub row-3b : (b : ℕ) → 225 ≤ b → b < 237 → leadRow 3 16 128 191 ≡ leadOf b
 unfolding leadOf
-row-3b b g h = leads 225 12 (row 3 16 128 191) tt b g h
+row-3b b g h = leads 225 12 (leadRow 3 16 128 191) tt b g h
 
-pub row-3c : (b : ℕ) → 237 ≤ b → b < 238 → row 3 16 128 159 ≡ leadOf b
+pub row-3c : (b : ℕ) → 237 ≤ b → b < 238 → leadRow 3 16 128 159 ≡ leadOf b
 unfolding leadOf
-row-3c b g h = leads 237 1 (row 3 16 128 159) tt b g h
+row-3c b g h = leads 237 1 (leadRow 3 16 128 159) tt b g h
 
-pub row-3d : (b : ℕ) → 238 ≤ b → b < 240 → row 3 16 128 191 ≡ leadOf b
+pub row-3d : (b : ℕ) → 238 ≤ b → b < 240 → leadRow 3 16 128 191 ≡ leadOf b
 unfolding leadOf
-row-3d b g h = leads 238 2 (row 3 16 128 191) tt b g h
+row-3d b g h = leads 238 2 (leadRow 3 16 128 191) tt b g h
 
-pub row-4a : (b : ℕ) → 240 ≤ b → b < 241 → row 4 8 144 191 ≡ leadOf b
+pub row-4a : (b : ℕ) → 240 ≤ b → b < 241 → leadRow 4 8 144 191 ≡ leadOf b
 unfolding leadOf
-row-4a b g h = leads 240 1 (row 4 8 144 191) tt b g h
+row-4a b g h = leads 240 1 (leadRow 4 8 144 191) tt b g h
 
-pub row-4b : (b : ℕ) → 241 ≤ b → b < 244 → row 4 8 128 191 ≡ leadOf b
+pub row-4b : (b : ℕ) → 241 ≤ b → b < 244 → leadRow 4 8 128 191 ≡ leadOf b
 unfolding leadOf
-row-4b b g h = leads 241 3 (row 4 8 128 191) tt b g h
+row-4b b g h = leads 241 3 (leadRow 4 8 128 191) tt b g h
 
-pub row-4c : (b : ℕ) → 244 ≤ b → b < 245 → row 4 8 128 143 ≡ leadOf b
+pub row-4c : (b : ℕ) → 244 ≤ b → b < 245 → leadRow 4 8 128 143 ≡ leadOf b
 unfolding leadOf
-row-4c b g h = leads 244 1 (row 4 8 128 143) tt b g h
+row-4c b g h = leads 244 1 (leadRow 4 8 128 143) tt b g h
 
-pub row-x : (b : ℕ) → 128 ≤ b → b < 194 → row 0 1 128 191 ≡ leadOf b
+pub row-x : (b : ℕ) → 128 ≤ b → b < 194 → leadRow 0 1 128 191 ≡ leadOf b
 unfolding leadOf
-row-x b g h = leads 128 66 (row 0 1 128 191) tt b g h
+row-x b g h = leads 128 66 (leadRow 0 1 128 191) tt b g h
 
-pub row-y : (b : ℕ) → 245 ≤ b → b < 256 → row 0 1 128 191 ≡ leadOf b
+pub row-y : (b : ℕ) → 245 ≤ b → b < 256 → leadRow 0 1 128 191 ≡ leadOf b
 unfolding leadOf
-row-y b g h = leads 245 11 (row 0 1 128 191) tt b g h
+row-y b g h = leads 245 11 (leadRow 0 1 128 191) tt b g h
 
--- what holds of every byte's row
+-- what holds of every byte's leadRow
 pub record Fine (l : Lead) : Type 0 where
   pub few : l .len ≤ 4
   pub some : 0 < l .modulus

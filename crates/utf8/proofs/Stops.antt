@@ -9,16 +9,16 @@ use lib.ListN.{length, take}
 use lib.Seq.{drop-length}
 use lib.Dec.{leb, eqb, leb→le}
 use borrow.Author.Tests.{eqb-false, leb-true}
-use Rattle.base.specs.Choice.{pick, within}
-use Rattle.base.specs.Bytes.{Bytes}
+use Rattle.base.specs.Meaning.{pick, Bytes}
+use Rattle.base.specs.Reading.{within}
 use Rattle.base.proofs.Ranged.{ranged}
 use Rattle.token.specs.declared.Token.{Token}
 use Rattle.token.specs.declared.Token.the-variants.{Value as TokenValue, Start, End, Cut as TokenCut, Bad as TokenBad}
 use Rattle.token.proofs.Stopping.{Begun, Stopping}
 use Rattle.utf8.specs.declared.Read.{Read}
 use Rattle.utf8.specs.declared.Read.the-variants.{Value, Cut, Bad}
-use Rattle.utf8.specs.Utf8.{leadOf, conts, readValue, asToken, readUtf8}
-use Rattle.utf8.specs.Scalar.{utf8Bytes, Scalar}
+use Rattle.utf8.specs.Reading.{leadOf, conts, readValue, asToken, readUtf8}
+use Rattle.utf8.specs.Meaning.{utf8Bytes, Scalar}
 use Rattle.utf8.proofs.First.{as-value, back-cut, back-bad}
 use Rattle.utf8.proofs.Conts.{reached}
 use Rattle.utf8.proofs.Writing.{further}

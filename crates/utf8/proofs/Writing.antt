@@ -1,5 +1,5 @@
 -- What is written in UTF-8 is read: the bytes of each length of value, and the reader on them.
-use mathlib.Core.Path.{_≡_, refl, sym, _∙_, ap}
+use mathlib.Core.Path.{_≡_, sym, _∙_, ap}
 use mathlib.Core.List.{List, [], _∷_, _++_}
 use mathlib.Core.Logic.{_⊎_, inl, inr}
 use Prim.Native.Nat.{ℕ, suc, _+_, _-_, _*_, _/_, _%_, _≤_, _<_}
@@ -8,8 +8,8 @@ use lib.ListN.{length}
 use borrow.Author.Tests.{le-leb, lt-ltb, le-ltb}
 use Rattle.base.proofs.Tests.{below}
 use Rattle.token.specs.declared.Token.the-variants.{Value}
-use Rattle.utf8.specs.Utf8.{row, leadOf, conts, asToken, readUtf8}
-use Rattle.utf8.specs.Scalar.{utf8Bytes, Scalar}
+use Rattle.utf8.specs.Reading.{leadRow, leadOf, conts, asToken, readUtf8}
+use Rattle.utf8.specs.Meaning.{utf8Bytes, Scalar}
 use Rattle.utf8.proofs.Rows.{row-1, row-2, row-3a, row-3b, row-3c, row-3d, row-4a, row-4b, row-4c}
 use Rattle.utf8.proofs.Conts.{reached}
 use Rattle.utf8.proofs.First.{as-value}
@@ -42,27 +42,27 @@ further n lo hi v k b s g h = rw (le-leb lo b g, le-leb b hi h)
 
 -- a value of n bytes, read
 module _ (b : ℕ) (h : b < 254) (m lo hi : ℕ) where
-  read1 : (s : List ℕ) (v : ℕ) → v ≡ b % m → row 1 m lo hi ≡ leadOf b → readUtf8 (b ∷ s) ≡ Value v 1
-  read1 s v w e = sym (as-value (b ∷ s) (omega arith) (λ p. omega arith) (λ p. omega arith) (row 1 m lo hi) e (λ p. omega arith)) ∙ ap asToken (reached lo hi (b % m) 1 s) ∙ rw w
+  read1 : (s : List ℕ) (v : ℕ) → v ≡ b % m → leadRow 1 m lo hi ≡ leadOf b → readUtf8 (b ∷ s) ≡ Value v 1
+  read1 s v w e = sym (as-value (b ∷ s) (omega arith) (λ p. omega arith) (λ p. omega arith) (leadRow 1 m lo hi) e (λ p. omega arith)) ∙ ap asToken (reached lo hi (b % m) 1 s) ∙ rw w
 
-  read2 : (c : ℕ) (s : List ℕ) (v : ℕ) → v ≡ b % m * 64 + (c - 0x80) → row 2 m lo hi ≡ leadOf b → lo ≤ c → c ≤ hi → readUtf8 (b ∷ c ∷ s) ≡ Value v 2
+  read2 : (c : ℕ) (s : List ℕ) (v : ℕ) → v ≡ b % m * 64 + (c - 0x80) → leadRow 2 m lo hi ≡ leadOf b → lo ≤ c → c ≤ hi → readUtf8 (b ∷ c ∷ s) ≡ Value v 2
   read2 c s v w e p q =
-      sym (as-value (b ∷ c ∷ s) (omega arith) (λ p. omega arith) (λ p. omega arith) (row 2 m lo hi) e (λ p. omega arith))
+      sym (as-value (b ∷ c ∷ s) (omega arith) (λ p. omega arith) (λ p. omega arith) (leadRow 2 m lo hi) e (λ p. omega arith))
       ∙ ap asToken (further 0 lo hi (b % m) 1 c s p q
       ∙ reached 0x80 0xBF (b % m * 64 + (c - 0x80)) 2 s) ∙ rw w
 
-  read3 : (c d : ℕ) (s : List ℕ) (v : ℕ) → v ≡ (b % m * 64 + (c - 0x80)) * 64 + (d - 0x80) → row 3 m lo hi ≡ leadOf b → lo ≤ c → c ≤ hi → 0x80 ≤ d → d ≤ 0xBF →
+  read3 : (c d : ℕ) (s : List ℕ) (v : ℕ) → v ≡ (b % m * 64 + (c - 0x80)) * 64 + (d - 0x80) → leadRow 3 m lo hi ≡ leadOf b → lo ≤ c → c ≤ hi → 0x80 ≤ d → d ≤ 0xBF →
       readUtf8 (b ∷ c ∷ d ∷ s) ≡ Value v 3
   read3 c d s v w e p q p' q' =
-      sym (as-value (b ∷ c ∷ d ∷ s) (omega arith) (λ p. omega arith) (λ p. omega arith) (row 3 m lo hi) e (λ p. omega arith))
+      sym (as-value (b ∷ c ∷ d ∷ s) (omega arith) (λ p. omega arith) (λ p. omega arith) (leadRow 3 m lo hi) e (λ p. omega arith))
       ∙ ap asToken (further 1 lo hi (b % m) 1 c (d ∷ s) p q
       ∙ further 0 0x80 0xBF (b % m * 64 + (c - 0x80)) 2 d s p' q'
       ∙ reached 0x80 0xBF ((b % m * 64 + (c - 0x80)) * 64 + (d - 0x80)) 3 s) ∙ rw w
 
-  read4 : (c d f : ℕ) (s : List ℕ) (v : ℕ) → v ≡ ((b % m * 64 + (c - 0x80)) * 64 + (d - 0x80)) * 64 + (f - 0x80) → row 4 m lo hi ≡ leadOf b → lo ≤ c → c ≤ hi → 0x80 ≤ d → d ≤ 0xBF → 0x80 ≤ f → f ≤ 0xBF →
+  read4 : (c d f : ℕ) (s : List ℕ) (v : ℕ) → v ≡ ((b % m * 64 + (c - 0x80)) * 64 + (d - 0x80)) * 64 + (f - 0x80) → leadRow 4 m lo hi ≡ leadOf b → lo ≤ c → c ≤ hi → 0x80 ≤ d → d ≤ 0xBF → 0x80 ≤ f → f ≤ 0xBF →
       readUtf8 (b ∷ c ∷ d ∷ f ∷ s) ≡ Value v 4
   read4 c d f s v w e p q p' q' p'' q'' =
-      sym (as-value (b ∷ c ∷ d ∷ f ∷ s) (omega arith) (λ p. omega arith) (λ p. omega arith) (row 4 m lo hi) e (λ p. omega arith))
+      sym (as-value (b ∷ c ∷ d ∷ f ∷ s) (omega arith) (λ p. omega arith) (λ p. omega arith) (leadRow 4 m lo hi) e (λ p. omega arith))
       ∙ ap asToken (further 2 lo hi (b % m) 1 c (d ∷ f ∷ s) p q
       ∙ further 1 0x80 0xBF (b % m * 64 + (c - 0x80)) 2 d (f ∷ s) p' q'
       ∙ further 0 0x80 0xBF ((b % m * 64 + (c - 0x80)) * 64 + (d - 0x80)) 3 f s p'' q''
@@ -80,7 +80,7 @@ three v s g h u = rw (bytes3 v g h) (by (below v 0x1000) (below v 0xD000) (below
     b : ℕ
     b = 0xE0 + v / 4096
 
-    at : (lo hi : ℕ) → row 3 16 lo hi ≡ leadOf (0xE0 + v / 4096) → lo ≤ 0x80 + v / 64 % 64 → 0x80 + v / 64 % 64 ≤ hi →
+    at : (lo hi : ℕ) → leadRow 3 16 lo hi ≡ leadOf (0xE0 + v / 4096) → lo ≤ 0x80 + v / 64 % 64 → 0x80 + v / 64 % 64 ≤ hi →
         readUtf8 ((0xE0 + v / 4096) ∷ (0x80 + v / 64 % 64) ∷ (0x80 + v % 64) ∷ s) ≡ Value v 3
     at lo hi e p q = read3 (0xE0 + v / 4096) (omega arith) 16 lo hi (0x80 + v / 64 % 64) (0x80 + v % 64) s v (omega arith) e p q (omega arith) (omega arith)
 
@@ -95,7 +95,7 @@ three v s g h u = rw (bytes3 v g h) (by (below v 0x1000) (below v 0xD000) (below
 four : (v : ℕ) (s : List ℕ) → 0x10000 ≤ v → v < 0x110000 → readUtf8 (utf8Bytes v ++ s) ≡ Value v (length (utf8Bytes v))
 four v s g h = rw (bytes4 v g) (by (below v 0x40000) (below v 0x100000))
   where
-    at : (lo hi : ℕ) → row 4 8 lo hi ≡ leadOf (0xF0 + v / 262144) → lo ≤ 0x80 + v / 4096 % 64 → 0x80 + v / 4096 % 64 ≤ hi →
+    at : (lo hi : ℕ) → leadRow 4 8 lo hi ≡ leadOf (0xF0 + v / 262144) → lo ≤ 0x80 + v / 4096 % 64 → 0x80 + v / 4096 % 64 ≤ hi →
         readUtf8 ((0xF0 + v / 262144) ∷ (0x80 + v / 4096 % 64) ∷ (0x80 + v / 64 % 64) ∷ (0x80 + v % 64) ∷ s) ≡ Value v 4
     at lo hi e p q =
         let x : v / 4096 ≡ v / 64 / 64 = omega arith in

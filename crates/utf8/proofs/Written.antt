@@ -1,20 +1,20 @@
 -- The rows of Table 3-6 one by one, and the test for a value.
-use mathlib.Core.Path.{_≡_, refl, sym, _∙_, ap}
+use mathlib.Core.Path.{_≡_, refl, sym, _∙_}
 use mathlib.Core.Logic.{_⊎_, _↔_, inl, inr}
-use mathlib.Core.Bool.{Bool, true, false}
+use mathlib.Core.Bool.{true, false}
 use mathlib.Core.List.{List, [], _∷_}
 use Prim.Native.Nat.{ℕ, _+_, _/_, _%_, _<_, _≤_}
 use native.Mathlib.Omega.{arith}
 use lib.Dec.{ltb}
 use lib.ListN.{length}
 use lib.Seq.{sets}
-use Rattle.base.specs.Over.{over}
+use Rattle.base.specs.Meaning.{over}
 use Rattle.base.proofs.Over.{stores}
 use borrow.Author.Tests.{lt-ltb, le-ltb, ltb-true}
-use Rattle.base.specs.Choice.{pick, when}
 use Rattle.base.proofs.Tests.{below}
 use Rattle.base.proofs.Chain.{chain}
-use Rattle.utf8.specs.Scalar.{Scalar, isScalar, utf8Bytes}
+use Rattle.utf8.specs.Meaning.{Scalar, utf8Bytes}
+use Rattle.utf8.specs.Reading.{isScalar}
 
 module _ (v : ℕ) where
   pub one-byte : v < 0x80 → v ∷ [] ≡ utf8Bytes v

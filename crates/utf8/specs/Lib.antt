@@ -1,3 +1,4 @@
 -- Reading and writing one value in UTF-8.
-pub mod Utf8
-pub mod Scalar
+pub mod Meaning
+pub mod Reading
+pub mod Bounds

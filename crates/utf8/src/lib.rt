@@ -3,10 +3,12 @@
 ghost use mathlib.Core.Path.{_≡_};
 ghost use Prim.Native.Nat.{_+_, _-_, _*_, _≤_, _<_};
 ghost use lib.ListN.{length, drop};
-ghost use Rattle.base.specs.Choice.{within};
-ghost use Rattle.base.specs.Over.{over};
-ghost use Rattle.utf8.specs.Utf8.{leadOf, readValue, readUtf8, conts, Reached};
-ghost use Rattle.utf8.specs.Scalar.{Scalar, isScalar, utf8Bytes};
+ghost use Rattle.base.specs.Reading.{within};
+ghost use Rattle.base.specs.Meaning.{over};
+ghost use Rattle.utf8.specs.Reading.{leadOf, readValue, readUtf8, conts};
+ghost use Rattle.utf8.specs.Bounds.{Reached};
+ghost use Rattle.utf8.specs.Meaning.{Scalar, utf8Bytes};
+ghost use Rattle.utf8.specs.Reading.{isScalar};
 use base::wide;
 use token::Token;
 

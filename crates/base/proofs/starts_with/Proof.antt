@@ -1,15 +1,13 @@
 -- `base::starts_with` meets its contract: the bytes passed agree. Assumes nothing.
 use borrow.Author.Needs.{needs}
 use native.Mathlib.Omega.{arith}
-use mathlib.Core.Path.{_≡_, sym, _∙_}
+use mathlib.Core.Path.{_≡_, _∙_}
 use Prim.Native.Nat.{_-_, _≤_}
 use lib.ListN.{length, drop}
-use Rattle.base.specs.Begins.{startsWith}
+use Rattle.base.specs.Reading.{startsWith}
 use Rattle.base.proofs.Begins.{begins-whole, begins-short, begins-other, begins-next}
 use Rattle.base.proofs.starts_with.Statement.{statement}
 use Rattle.base.proofs.starts_with.Tie as tie
-use Rattle.base.proofs.starts_with.Reads as reads
-use Rattle.base.proofs.starts_with.Lts as lts
 
 abbrev Inv-loop : tie.InvT-loop
 Inv-loop s m i₀ i = (i ≤ length m) × (startsWith (drop i m) (drop i s) ≡ startsWith m s)

@@ -4,8 +4,6 @@ use mathlib.Core.Path.{_≡_}
 use native.Mathlib.Omega.{arith}
 use Rattle.bitmap.proofs.bit_of.Statement.{statement}
 use Rattle.bitmap.proofs.bit_of.Tie as tie
-use Rattle.bitmap.proofs.bit_of.Reads as reads
-use Rattle.bitmap.proofs.bit_of.Lts as lts
 
 returns : tie.Need-returns
 returns c = rw (c .match .keys1)

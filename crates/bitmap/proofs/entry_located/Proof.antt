@@ -1,16 +1,9 @@
 -- `bitmap::entry_located` meets its contract: what the entry says. Assumes that it stands in the file.
-use native.Mathlib.Omega.{arith}
-use mathlib.Core.Path.{_≡_, refl, sym, _∙_, ap}
-use Rattle.bitmap.specs.declared.Located.the-variants.{Found, Refused as NotLocated}
+use mathlib.Core.Path.{sym, _∙_, ap}
+use Rattle.bitmap.specs.declared.Located.the-variants.{Refused as NotLocated}
 use borrow.Author.Needs.{needs}
 use Rattle.bitmap.proofs.entry_located.Statement.{statement}
 use Rattle.bitmap.proofs.entry_located.Tie as tie
-use Rattle.bitmap.proofs.entry_located.Reads as reads
-use Rattle.bitmap.proofs.entry_located.Lts as lts
-use Rattle.base.proofs.get32.Reads as get32-reads
-use Rattle.base.proofs.size.Reads as size-reads
-use Rattle.entries.proofs.entry_at.Reads as entry-at-reads
-use Rattle.refusal.proofs.refuse.Reads as refuse-reads
 
 entry-at-requires : tie.Need-entry-at-requires
 entry-at-requires c κs = search needs

@@ -1,14 +1,11 @@
 -- `bitmap::even_metrics` meets its contract: small numbers are the same with a sign. Assumes a height and a width up to 255.
 use native.Mathlib.Omega.{arith}
-use mathlib.Core.Path.{_≡_, refl, sym, _∙_, ap}
 use lib.IntN.{pos}
 use mir.Syntax.{w32}
 use mir.Facts.{toZ-pos}
 use borrow.Author.Needs.{needs}
 use Rattle.bitmap.proofs.even_metrics.Statement.{statement}
 use Rattle.bitmap.proofs.even_metrics.Tie as tie
-use Rattle.bitmap.proofs.even_metrics.Reads as reads
-use Rattle.bitmap.proofs.even_metrics.Lts as lts
 
 cast-t3 : tie.Need-cast-t3
 cast-t3 c = search needs

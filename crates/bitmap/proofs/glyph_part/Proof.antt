@@ -1,11 +1,8 @@
 -- `bitmap::glyph_part` meets its contract: where the bitmap was found. Assumes nothing.
-use mathlib.Core.Path.{_≡_, sym, _∙_, ap}
+use mathlib.Core.Path.{sym, _∙_}
 use borrow.Author.Needs.{needs}
 use Rattle.bitmap.proofs.glyph_part.Statement.{statement}
 use Rattle.bitmap.proofs.glyph_part.Tie as tie
-use Rattle.bitmap.proofs.glyph_part.Reads as reads
-use Rattle.bitmap.proofs.glyph_part.Lts as lts
-use Rattle.bitmap.proofs.locate.Reads as locate-reads
 
 locate-requires : tie.Need-locate-requires
 locate-requires c κs = search needs

@@ -1,16 +1,10 @@
 -- `bitmap::kind_metrics` meets its contract: by the font's kind. Assumes one of the font's glyphs.
-use native.Mathlib.Omega.{arith}
-use mathlib.Core.Path.{_≡_, refl, sym, _∙_, ap}
-use Rattle.header.specs.declared.Kind.the-variants.{Psf1, Psf2, Vfont2}
+use mathlib.Core.Path.{sym, _∙_, ap}
 use Rattle.bitmap.specs.Meaning.{kindMetrics}
 use Rattle.bitmap.proofs.Places.{entry-inside}
 use borrow.Author.Needs.{needs}
 use Rattle.bitmap.proofs.kind_metrics.Statement.{statement}
 use Rattle.bitmap.proofs.kind_metrics.Tie as tie
-use Rattle.bitmap.proofs.kind_metrics.Reads as reads
-use Rattle.bitmap.proofs.kind_metrics.Lts as lts
-use Rattle.bitmap.proofs.even_metrics.Reads as even-metrics-reads
-use Rattle.entries.proofs.metrics_at.Reads as metrics-at-reads
 
 enum-told : tie.Need-enum-told
 enum-told c = search needs

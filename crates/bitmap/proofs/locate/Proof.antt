@@ -1,6 +1,6 @@
 -- `bitmap::locate` meets its contract: the font's kind says where the bitmap stands. Assumes `Placed`.
 use native.Mathlib.Omega.{arith}
-use mathlib.Core.Path.{_≡_, refl, sym, _∙_, ap, subst}
+use mathlib.Core.Path.{sym, _∙_, ap, subst}
 use Rattle.bitmap.specs.declared.Located.the-variants.{Found, Refused as NotLocated}
 use Rattle.header.specs.declared.Kind.the-variants.{Psf1, Psf2, Vfont2}
 use Rattle.bitmap.specs.Bounds.{LocatedInside}
@@ -8,11 +8,6 @@ use Rattle.bitmap.proofs.Places.{known, located-inside, even-start, ent
 use borrow.Author.Needs.{needs}
 use Rattle.bitmap.proofs.locate.Statement.{statement}
 use Rattle.bitmap.proofs.locate.Tie as tie
-use Rattle.bitmap.proofs.locate.Reads as reads
-use Rattle.bitmap.proofs.locate.Lts as lts
-use Rattle.bitmap.proofs.entry_located.Reads as entry-located-reads
-use Rattle.bitmap.proofs.even_bitmap.Reads as even-bitmap-reads
-use Rattle.refusal.proofs.refuse.Reads as refuse-reads
 
 enum-told : tie.Need-enum-told
 enum-told c = search needs

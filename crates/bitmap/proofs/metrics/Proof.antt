@@ -1,16 +1,11 @@
 -- `bitmap::metrics` meets its contract: where the bitmap was found, the glyph's metrics. Assumes `Placed`.
-use native.Mathlib.Omega.{arith}
-use mathlib.Core.Path.{_≡_, refl, sym, _∙_, ap}
+use mathlib.Core.Path.{sym, _∙_, ap}
 use Rattle.bitmap.specs.declared.GlyphMetrics.the-variants.{Is}
 use Rattle.bitmap.specs.Reading.{metricsOf}
 use Rattle.bitmap.proofs.Places.{found-below}
 use borrow.Author.Needs.{needs}
 use Rattle.bitmap.proofs.metrics.Statement.{statement}
 use Rattle.bitmap.proofs.metrics.Tie as tie
-use Rattle.bitmap.proofs.metrics.Reads as reads
-use Rattle.bitmap.proofs.metrics.Lts as lts
-use Rattle.bitmap.proofs.kind_metrics.Reads as kind-metrics-reads
-use Rattle.bitmap.proofs.locate.Reads as locate-reads
 
 locate-requires : tie.Need-locate-requires
 locate-requires c κs = search needs

@@ -1,12 +1,8 @@
 -- `bitmap::pixel_at` meets its contract: where the bitmap was found, its pixel. Assumes nothing.
-use mathlib.Core.Path.{_≡_, sym, _∙_, ap}
+use mathlib.Core.Path.{sym, _∙_}
 use borrow.Author.Needs.{needs}
 use Rattle.bitmap.proofs.pixel_at.Statement.{statement}
 use Rattle.bitmap.proofs.pixel_at.Tie as tie
-use Rattle.bitmap.proofs.pixel_at.Reads as reads
-use Rattle.bitmap.proofs.pixel_at.Lts as lts
-use Rattle.bitmap.proofs.locate.Reads as locate-reads
-use Rattle.bitmap.proofs.pixel_of.Reads as pixel-of-reads
 
 locate-requires : tie.Need-locate-requires
 locate-requires c κs = search needs

@@ -1,16 +1,11 @@
 -- `bitmap::pixel_of` meets its contract: the pixel's byte stands in its row. Assumes that the bitmap stands in the file.
 use native.Mathlib.Omega.{arith}
-use mathlib.Core.Path.{_≡_, refl, sym, _∙_, ap}
-use Rattle.bitmap.specs.declared.Pixel.the-variants.{Bit, Refused as NoPixel}
-use Rattle.bitmap.proofs.Places.{row-fits, row-read, row-below, pixel-inside, pixel-read, pixel-beside, pixel-below}
+use mathlib.Core.Path.{_∙_, ap}
+use Rattle.bitmap.specs.declared.Pixel.the-variants.{Refused as NoPixel}
+use Rattle.bitmap.proofs.Places.{row-fits, pixel-inside, pixel-read, pixel-beside, pixel-below}
 use borrow.Author.Needs.{needs}
 use Rattle.bitmap.proofs.pixel_of.Statement.{statement}
 use Rattle.bitmap.proofs.pixel_of.Tie as tie
-use Rattle.bitmap.proofs.pixel_of.Reads as reads
-use Rattle.bitmap.proofs.pixel_of.Lts as lts
-use Rattle.bitmap.proofs.bit_of.Reads as bit-of-reads
-use Rattle.header.proofs.row_bytes.Reads as row-bytes-reads
-use Rattle.refusal.proofs.refuse.Reads as refuse-reads
 
 row-bytes-requires : tie.Need-row-bytes-requires
 row-bytes-requires c κs = search needs

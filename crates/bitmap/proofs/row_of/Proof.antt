@@ -1,15 +1,11 @@
 -- `bitmap::row_of` meets its contract: the row stands in the bitmap. Assumes that the bitmap stands in the file.
 use native.Mathlib.Omega.{arith}
-use mathlib.Core.Path.{_≡_, refl, sym, _∙_, ap}
-use Rattle.bitmap.specs.declared.Part.the-variants.{At, Refused as NoPart}
-use Rattle.bitmap.proofs.Places.{row-fits, row-read, row-below, pixel-inside, pixel-read, pixel-beside, pixel-below}
+use mathlib.Core.Path.{_∙_, ap}
+use Rattle.bitmap.specs.declared.Part.the-variants.{Refused as NoPart}
+use Rattle.bitmap.proofs.Places.{row-fits, row-read, row-below}
 use borrow.Author.Needs.{needs}
 use Rattle.bitmap.proofs.row_of.Statement.{statement}
 use Rattle.bitmap.proofs.row_of.Tie as tie
-use Rattle.bitmap.proofs.row_of.Reads as reads
-use Rattle.bitmap.proofs.row_of.Lts as lts
-use Rattle.header.proofs.row_bytes.Reads as row-bytes-reads
-use Rattle.refusal.proofs.refuse.Reads as refuse-reads
 
 row-bytes-requires : tie.Need-row-bytes-requires
 row-bytes-requires c κs = search needs

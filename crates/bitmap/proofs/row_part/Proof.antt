@@ -1,12 +1,8 @@
 -- `bitmap::row_part` meets its contract: where the bitmap was found, its row. Assumes nothing.
-use mathlib.Core.Path.{_≡_, sym, _∙_, ap}
+use mathlib.Core.Path.{sym, _∙_}
 use borrow.Author.Needs.{needs}
 use Rattle.bitmap.proofs.row_part.Statement.{statement}
 use Rattle.bitmap.proofs.row_part.Tie as tie
-use Rattle.bitmap.proofs.row_part.Reads as reads
-use Rattle.bitmap.proofs.row_part.Lts as lts
-use Rattle.bitmap.proofs.locate.Reads as locate-reads
-use Rattle.bitmap.proofs.row_of.Reads as row-of-reads
 
 locate-requires : tie.Need-locate-requires
 locate-requires c κs = search needs

@@ -1,6 +1,6 @@
 -- `coding::mark_len` meets its contract: by cases on the coding.
 use borrow.Author.Needs.{needs}
-use Rattle.coding.specs.Coding.{markLen}
+use Rattle.coding.specs.Reading.{markLen}
 use Rattle.coding.proofs.mark_len.Statement.{statement}
 use Rattle.coding.proofs.mark_len.Tie as tie
 

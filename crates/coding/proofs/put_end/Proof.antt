@@ -1,13 +1,11 @@
 -- `coding::put_end` meets its contract: the mark's bytes stored. Assumes nothing.
 use Rattle.coding.proofs.Written.{stored, utf8-end, ucs2-end}
 use lib.ListN.{length, length-set}
-use mathlib.Core.Path.{_≡_, ap, sym, _∙_, refl}
+use mathlib.Core.Path.{ap}
 use native.Mathlib.Omega.{arith}
 use borrow.Author.Needs.{needs}
 use Rattle.coding.proofs.put_end.Statement.{statement}
 use Rattle.coding.proofs.put_end.Tie as tie
-use Rattle.coding.proofs.put_end.Reads as reads
-use Rattle.coding.proofs.put_end.Lts as lts
 
 enum-told : tie.Need-enum-told
 enum-told c = search needs

@@ -1,13 +1,11 @@
 -- `coding::put_start` meets its contract: the mark's bytes stored. Assumes nothing.
 use Rattle.coding.proofs.Written.{stored, utf8-start, ucs2-start}
 use lib.ListN.{length, length-set}
-use mathlib.Core.Path.{_≡_, ap, sym, _∙_, refl}
+use mathlib.Core.Path.{ap}
 use native.Mathlib.Omega.{arith}
 use borrow.Author.Needs.{needs}
 use Rattle.coding.proofs.put_start.Statement.{statement}
 use Rattle.coding.proofs.put_start.Tie as tie
-use Rattle.coding.proofs.put_start.Reads as reads
-use Rattle.coding.proofs.put_start.Lts as lts
 
 enum-told : tie.Need-enum-told
 enum-told c = search needs

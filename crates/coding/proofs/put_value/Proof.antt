@@ -1,15 +1,11 @@
 -- `coding::put_value` meets its contract: each coding's writer. Assumes nothing.
 use Rattle.coding.proofs.Written.{utf8-value, ucs2-value, utf8-scalar, ucs2-word, renamed}
-use lib.ListN.{length, length-set}
-use mathlib.Core.Path.{_≡_, ap, sym, _∙_, refl}
+use lib.ListN.{length}
+use mathlib.Core.Path.{ap, refl}
 use native.Mathlib.Omega.{arith}
 use borrow.Author.Needs.{needs}
 use Rattle.coding.proofs.put_value.Statement.{statement}
 use Rattle.coding.proofs.put_value.Tie as tie
-use Rattle.coding.proofs.put_value.Reads as reads
-use Rattle.coding.proofs.put_value.Lts as lts
-use Rattle.ucs2.proofs.put_ucs2.Reads as put-ucs2-reads
-use Rattle.utf8.proofs.put_utf8.Reads as put-utf8-reads
 
 enum-told : tie.Need-enum-told
 enum-told c = search needs

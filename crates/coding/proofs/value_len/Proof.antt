@@ -1,14 +1,11 @@
 -- `coding::value_len` meets its contract: each coding's length. Assumes nothing.
 use Rattle.coding.proofs.Written.{utf8-value, ucs2-value}
-use lib.ListN.{length, length-set}
-use mathlib.Core.Path.{_≡_, ap, sym, _∙_, refl}
+use lib.ListN.{length}
+use mathlib.Core.Path.{ap, _∙_}
 use native.Mathlib.Omega.{arith}
 use borrow.Author.Needs.{needs}
 use Rattle.coding.proofs.value_len.Statement.{statement}
 use Rattle.coding.proofs.value_len.Tie as tie
-use Rattle.coding.proofs.value_len.Reads as reads
-use Rattle.coding.proofs.value_len.Lts as lts
-use Rattle.utf8.proofs.len_utf8.Reads as len-utf8-reads
 
 enum-told : tie.Need-enum-told
 enum-told c = search needs

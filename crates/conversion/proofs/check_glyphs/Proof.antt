@@ -1,16 +1,11 @@
 -- `conversion::check_glyphs` meets its contract: by the conversion. Assumes `Placed`, of a font of the conversion's kind.
-use native.Mathlib.Omega.{arith}
-use mathlib.Core.Path.{_≡_, refl, sym, _∙_, ap}
+use mathlib.Core.Path.{_∙_, ap}
 use Rattle.conversion.proofs.Cases as cases
 use Rattle.conversion.specs.declared.Conversion.the-variants.{Psf1ToPsf2, Psf2ToPsf1, Psf2ToVfont2, Vfont2ToPsf2}
 use Rattle.conversion.specs.Meaning.{sourceKind}
 use borrow.Author.Needs.{needs}
 use Rattle.conversion.proofs.check_glyphs.Statement.{statement}
 use Rattle.conversion.proofs.check_glyphs.Tie as tie
-use Rattle.conversion.proofs.check_glyphs.Reads as reads
-use Rattle.conversion.proofs.check_glyphs.Lts as lts
-use Rattle.conversion.proofs.suits_psf1.Reads as suits-psf1-reads
-use Rattle.conversion.proofs.suits_psf2.Reads as suits-psf2-reads
 
 enum-told : tie.Need-enum-told
 enum-told c = search needs

@@ -1,8 +1,7 @@
 -- `conversion::first_uneven` meets its contract: the entries passed are even. Assumes that the entries stand in the file.
-use borrow.Author.Needs.{needs}
 use native.Mathlib.Omega.{arith}
-use mathlib.Core.Path.{_≡_, refl, sym, _∙_, ap}
-use Prim.Native.Nat.{ℕ, _+_, _-_, _*_, _≤_, _<_}
+use mathlib.Core.Path.{_≡_, sym, _∙_}
+use Prim.Native.Nat.{_+_, _-_, _≤_}
 use Rattle.conversion.proofs.Cases as cases
 use lib.ListN.{length}
 use native.Mathlib.Nat.{sub-zero, mul-le-mul-right}
@@ -10,9 +9,6 @@ use Rattle.entries.specs.Meaning.{entryAt}
 use Rattle.conversion.specs.Reading.{evenness}
 use Rattle.conversion.proofs.first_uneven.Statement.{statement}
 use Rattle.conversion.proofs.first_uneven.Tie as tie
-use Rattle.conversion.proofs.first_uneven.Reads as reads
-use Rattle.conversion.proofs.first_uneven.Lts as lts
-use Rattle.conversion.proofs.is_even.Reads as is-even-reads
 
 abbrev Inv-loop : tie.InvT-loop
 Inv-loop file height width n start i₀ at₀ i at =

@@ -1,14 +1,11 @@
 -- `conversion::fit` meets its contract: both cases. Assumes nothing.
 use native.Mathlib.Omega.{arith}
-use mathlib.Core.Path.{_≡_, refl, sym, _∙_, ap}
+use mathlib.Core.Path.{_∙_, ap}
 use Rattle.conversion.proofs.Cases as cases
-use Rattle.conversion.specs.declared.Prepared.the-variants.{Ready, Refused as Unprepared}
+use Rattle.conversion.specs.declared.Prepared.the-variants.{Refused as Unprepared}
 use borrow.Author.Needs.{needs}
 use Rattle.conversion.proofs.fit.Statement.{statement}
 use Rattle.conversion.proofs.fit.Tie as tie
-use Rattle.conversion.proofs.fit.Reads as reads
-use Rattle.conversion.proofs.fit.Lts as lts
-use Rattle.refusal.proofs.refuse.Reads as refuse-reads
 
 refuse-requires : tie.Need-refuse-requires
 refuse-requires c κs = search needs

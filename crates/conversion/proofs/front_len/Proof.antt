@@ -1,18 +1,11 @@
 -- `conversion::front_len` meets its contract: header, entries and bitmaps. Assumes a font within the formats' bounds.
 use native.Mathlib.Omega.{arith}
-use mathlib.Core.Path.{_≡_, refl, sym, _∙_, ap}
-use Prim.Native.Nat.{ℕ, _+_, _-_, _*_, _≤_, _<_}
+use Prim.Native.Nat.{_-_, _≤_}
 use Rattle.conversion.proofs.Cases as cases
 use native.Mathlib.Nat.{mul-le-mul}
 use borrow.Author.Needs.{needs}
 use Rattle.conversion.proofs.front_len.Statement.{statement}
 use Rattle.conversion.proofs.front_len.Tie as tie
-use Rattle.conversion.proofs.front_len.Reads as reads
-use Rattle.conversion.proofs.front_len.Lts as lts
-use Rattle.conversion.proofs.entry_len.Reads as entry-len-reads
-use Rattle.conversion.proofs.header_len.Reads as header-len-reads
-use Rattle.conversion.proofs.target_of.Reads as target-of-reads
-use Rattle.header.proofs.glyph_bytes.Reads as glyph-bytes-reads
 
 target-of-requires : tie.Need-target-of-requires
 target-of-requires c κs = search needs

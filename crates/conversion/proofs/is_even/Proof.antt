@@ -1,15 +1,10 @@
 -- `conversion::is_even` meets its contract: each field in its order. Assumes nothing.
 use Rattle.conversion.proofs.Cases as cases
-use mathlib.Core.Path.{_≡_, ap, sym, _∙_, refl}
+use mathlib.Core.Path.{_∙_}
 use native.Mathlib.Omega.{arith}
 use borrow.Author.Needs.{needs}
 use Rattle.conversion.proofs.is_even.Statement.{statement}
 use Rattle.conversion.proofs.is_even.Tie as tie
-use Rattle.conversion.proofs.is_even.Reads as reads
-use Rattle.conversion.proofs.is_even.Lts as lts
-use Rattle.base.proofs.get16.Reads as get16-reads
-use Rattle.base.proofs.get32.Reads as get32-reads
-use Rattle.base.proofs.size.Reads as size-reads
 
 add-get32 : tie.Need-add-get32
 add-get32 c = search needs

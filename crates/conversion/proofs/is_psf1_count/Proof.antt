@@ -1,11 +1,8 @@
 -- `conversion::is_psf1_count` meets its contract: both counts. Assumes nothing.
 use Rattle.conversion.proofs.Cases as cases
-use mathlib.Core.Path.{_≡_, ap, sym, _∙_, refl}
 use native.Mathlib.Omega.{arith}
 use Rattle.conversion.proofs.is_psf1_count.Statement.{statement}
 use Rattle.conversion.proofs.is_psf1_count.Tie as tie
-use Rattle.conversion.proofs.is_psf1_count.Reads as reads
-use Rattle.conversion.proofs.is_psf1_count.Lts as lts
 
 returns : tie.Need-returns
 returns c = cases.count-256 (c .before .args .n) (omega arith)

@@ -1,24 +1,16 @@
 -- `conversion::measured` meets its contract: the table's length, or the first value that can't be carried. Assumes `Placed`.
-use Rattle.conversion.specs.Reading.{fitting}
+use Rattle.conversion.specs.Reading.{fitting, measuredOf, measuredThen}
 use native.Mathlib.Omega.{arith}
-use mathlib.Core.Path.{_≡_, refl, sym, _∙_, ap}
-use Prim.Native.Nat.{ℕ, _+_, _-_, _*_, _≤_, _<_}
-use Rattle.conversion.proofs.Cases as cases
-use Rattle.conversion.specs.declared.Prepared.the-variants.{Ready, Refused as Unprepared}
-use lib.ListN.{length, take, drop, length-take, length-drop}
+use mathlib.Core.Path.{_≡_, sym, _∙_, ap}
+use Prim.Native.Nat.{ℕ, _+_, _-_}
+use Rattle.conversion.specs.declared.Prepared.the-variants.{Refused as Unprepared}
+use lib.ListN.{length, take, drop}
 use denote.Ref.{now}
 use Rattle.base.proofs.Parts.{rest-all, rest-length}
 use Rattle.stages.specs.Meaning.{tailOf}
-use Rattle.conversion.specs.Reading.{measuredOf, measuredThen}
 use borrow.Author.Needs.{needs}
 use Rattle.conversion.proofs.measured.Statement.{statement}
 use Rattle.conversion.proofs.measured.Tie as tie
-use Rattle.conversion.proofs.measured.Reads as reads
-use Rattle.conversion.proofs.measured.Lts as lts
-use Rattle.conversion.proofs.fit.Reads as fit-reads
-use Rattle.conversion.proofs.front_len.Reads as front-len-reads
-use Rattle.conversion.proofs.table_len.Reads as table-len-reads
-use Rattle.refusal.proofs.refuse.Reads as refuse-reads
 
 told : (c : tie.After-table-len) → c .table-len .result ≡ measuredOf (c .before .before .before .args .c) (tailOf (now (c .before .before .before .args .file)) (c .before .before .before .args .f))
 told c =

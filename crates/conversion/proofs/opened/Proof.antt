@@ -1,16 +1,10 @@
 -- `conversion::opened` meets its contract: the font's own refusal, then its kind. Assumes nothing.
-use native.Mathlib.Omega.{arith}
-use mathlib.Core.Path.{_≡_, refl, sym, _∙_, ap}
+use mathlib.Core.Path.{sym, _∙_, ap}
 use Rattle.conversion.proofs.Cases as cases
-use Rattle.header.specs.declared.Checked.the-variants.{Sound, Refused}
+use Rattle.header.specs.declared.Checked.the-variants.{Refused}
 use borrow.Author.Needs.{needs}
 use Rattle.conversion.proofs.opened.Statement.{statement}
 use Rattle.conversion.proofs.opened.Tie as tie
-use Rattle.conversion.proofs.opened.Reads as reads
-use Rattle.conversion.proofs.opened.Lts as lts
-use Rattle.conversion.proofs.same_kind.Reads as same-kind-reads
-use Rattle.refusal.proofs.refuse.Reads as refuse-reads
-use Rattle.stages.proofs.check.Reads as check-reads
 
 check-requires : tie.Need-check-requires
 check-requires c κs = search needs

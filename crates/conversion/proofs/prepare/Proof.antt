@@ -1,17 +1,11 @@
 -- `conversion::prepare` meets its contract: the font's own and 17, then 18 to 20. Assumes nothing.
-use native.Mathlib.Omega.{arith}
-use mathlib.Core.Path.{_≡_, refl, sym, _∙_, ap}
+use mathlib.Core.Path.{sym, _∙_, ap}
 use Rattle.conversion.proofs.Cases as cases
 use Rattle.header.specs.declared.Kind.{Kind}
 use Rattle.conversion.specs.Reading.{openedOf}
 use borrow.Author.Needs.{needs}
 use Rattle.conversion.proofs.prepare.Statement.{statement}
 use Rattle.conversion.proofs.prepare.Tie as tie
-use Rattle.conversion.proofs.prepare.Reads as reads
-use Rattle.conversion.proofs.prepare.Lts as lts
-use Rattle.conversion.proofs.opened.Reads as opened-reads
-use Rattle.conversion.proofs.prepare_font.Reads as prepare-font-reads
-use Rattle.conversion.proofs.source_of.Reads as source-of-reads
 
 source-of-requires : tie.Need-source-of-requires
 source-of-requires c κs = search needs

@@ -1,14 +1,9 @@
 -- `conversion::prepare_font` meets its contract: 18, then 19 and 20. Assumes `Placed`, of a font of the conversion's kind.
-use native.Mathlib.Omega.{arith}
-use mathlib.Core.Path.{_≡_, refl, sym, _∙_, ap}
+use mathlib.Core.Path.{sym, _∙_}
 use Rattle.conversion.proofs.Cases as cases
 use borrow.Author.Needs.{needs}
 use Rattle.conversion.proofs.prepare_font.Statement.{statement}
 use Rattle.conversion.proofs.prepare_font.Tie as tie
-use Rattle.conversion.proofs.prepare_font.Reads as reads
-use Rattle.conversion.proofs.prepare_font.Lts as lts
-use Rattle.conversion.proofs.check_glyphs.Reads as check-glyphs-reads
-use Rattle.conversion.proofs.measured.Reads as measured-reads
 
 check-glyphs-requires : tie.Need-check-glyphs-requires
 check-glyphs-requires c κs = search needs

@@ -1,16 +1,11 @@
 -- `conversion::suits_psf1` meets its contract: each return is one case of the definition. Assumes nothing.
 use borrow.Author.Needs.{needs}
-use native.Mathlib.Omega.{arith}
-use mathlib.Core.Path.{_≡_, refl, sym, _∙_, ap}
+use mathlib.Core.Path.{sym, _∙_, ap}
 use Rattle.conversion.proofs.Cases as cases
-use Rattle.conversion.specs.declared.Suits.the-variants.{Yes, Refused as Unsuited}
+use Rattle.conversion.specs.declared.Suits.the-variants.{Refused as Unsuited}
 use borrow.Author.Tests.{not-true, not-false}
 use Rattle.conversion.proofs.suits_psf1.Statement.{statement}
 use Rattle.conversion.proofs.suits_psf1.Tie as tie
-use Rattle.conversion.proofs.suits_psf1.Reads as reads
-use Rattle.conversion.proofs.suits_psf1.Lts as lts
-use Rattle.conversion.proofs.is_psf1_count.Reads as is-psf1-count-reads
-use Rattle.refusal.proofs.refuse.Reads as refuse-reads
 
 is-psf1-count-requires : tie.Need-is-psf1-count-requires
 is-psf1-count-requires c κs = search needs

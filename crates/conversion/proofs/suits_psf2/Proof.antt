@@ -1,19 +1,15 @@
 -- `conversion::suits_psf2` meets its contract: the first entry that is not even. Assumes `Placed`, of a vfont2 font.
 use native.Mathlib.Omega.{arith}
-use mathlib.Core.Path.{_≡_, refl, sym, _∙_, ap, subst}
-use Prim.Native.Nat.{ℕ, _+_, _-_, _*_, _≤_, _<_}
+use mathlib.Core.Path.{sym, _∙_, ap, subst}
+use Prim.Native.Nat.{_-_, _≤_}
 use Rattle.conversion.proofs.Cases as cases
-use Rattle.conversion.specs.declared.Suits.the-variants.{Yes, Refused as Unsuited}
+use Rattle.conversion.specs.declared.Suits.the-variants.{Refused as Unsuited}
 use Rattle.header.specs.declared.Kind.{Kind}
 use Rattle.header.specs.Bounds.{KindPlaced}
 use Rattle.conversion.specs.Reading.{evenSuits}
 use borrow.Author.Needs.{needs}
 use Rattle.conversion.proofs.suits_psf2.Statement.{statement}
 use Rattle.conversion.proofs.suits_psf2.Tie as tie
-use Rattle.conversion.proofs.suits_psf2.Reads as reads
-use Rattle.conversion.proofs.suits_psf2.Lts as lts
-use Rattle.conversion.proofs.first_uneven.Reads as first-uneven-reads
-use Rattle.refusal.proofs.refuse.Reads as refuse-reads
 
 first-uneven-requires : tie.Need-first-uneven-requires
 first-uneven-requires c κs = let p = c .before .pre .0 in let d = subst (λ (k : Kind). KindPlaced (c .before .args .f) k) (c .before .pre .1) (p .8) in omega (arith, d .0, p .6, p .7)

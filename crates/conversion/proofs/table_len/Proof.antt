@@ -1,17 +1,11 @@
 -- `conversion::table_len` meets its contract: by the conversion. Assumes a tail no longer than a file.
 use native.Mathlib.Omega.{arith}
-use mathlib.Core.Path.{_≡_, refl, sym, _∙_, ap}
+use mathlib.Core.Path.{_∙_}
 use Rattle.conversion.specs.declared.Conversion.the-variants.{Psf1ToPsf2, Psf2ToPsf1, Psf2ToVfont2, Vfont2ToPsf2}
-use Prim.Native.Nat.{ℕ}
-use mathlib.Core.List.{List}
-use Rattle.conversion.specs.declared.Conversion.{Conversion}
 use Rattle.conversion.proofs.Cases.{measured-is as told}
 use borrow.Author.Needs.{needs}
 use Rattle.conversion.proofs.table_len.Statement.{statement}
 use Rattle.conversion.proofs.table_len.Tie as tie
-use Rattle.conversion.proofs.table_len.Reads as reads
-use Rattle.conversion.proofs.table_len.Lts as lts
-use Rattle.transcode.proofs.table_len.Reads as table-len-reads
 
 enum-told : tie.Need-enum-told
 enum-told c = search needs

@@ -2,17 +2,12 @@
 use Rattle.base.proofs.Parts.{bytes-of}
 use Rattle.convert.proofs.Asks.{ready-placed, ready-table, ready-length, ready-stands, ready-long}
 use native.Mathlib.Omega.{arith}
-use mathlib.Core.Path.{_≡_, refl, sym, _∙_, ap}
-use Rattle.convert.specs.declared.Converted.the-variants.{Wrote, Refused}
+use mathlib.Core.Path.{sym, _∙_, ap}
+use Rattle.convert.specs.declared.Converted.the-variants.{Refused}
 use Rattle.convert.proofs.Cases as cases
 use borrow.Author.Needs.{needs}
 use Rattle.convert.proofs.convert.Statement.{statement}
 use Rattle.convert.proofs.convert.Tie as tie
-use Rattle.convert.proofs.convert.Reads as reads
-use Rattle.convert.proofs.convert.Lts as lts
-use Rattle.conversion.proofs.prepare.Reads as prepare-reads
-use Rattle.convert.proofs.write_font.Reads as write-font-reads
-use Rattle.refusal.proofs.refuse.Reads as refuse-reads
 
 prepare-requires : tie.Need-prepare-requires
 prepare-requires c κs = search needs

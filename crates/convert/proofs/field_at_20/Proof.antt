@@ -1,15 +1,13 @@
 -- `convert::field_at_20` meets its contract: by the kind. Assumes small numbers.
 use native.Mathlib.Omega.{arith}
-use mathlib.Core.Path.{_≡_, refl, sym, _∙_, ap}
-use Prim.Native.Nat.{ℕ, _+_, _-_, _*_, _≤_, _<_}
+use mathlib.Core.Path.{_≡_, refl}
+use Prim.Native.Nat.{ℕ, _-_, _≤_}
 use native.Mathlib.Nat.{mul-le-mul}
-use Rattle.header.specs.declared.Kind.the-variants.{Psf1, Psf2, Vfont2}
+use Rattle.header.specs.declared.Kind.the-variants.{Psf1, Psf2}
 use Rattle.convert.proofs.Cases.{no-vfont2}
 use borrow.Author.Needs.{needs}
 use Rattle.convert.proofs.field_at_20.Statement.{statement}
 use Rattle.convert.proofs.field_at_20.Tie as tie
-use Rattle.convert.proofs.field_at_20.Reads as reads
-use Rattle.convert.proofs.field_at_20.Lts as lts
 
 enum-told : tie.Need-enum-told
 enum-told c = search needs

@@ -1,22 +1,16 @@
 -- `convert::put_table` meets its contract: by the conversion. Assumes a table that can be carried, and room.
 use Rattle.conversion.proofs.Cases.{measured-is}
-use native.Mathlib.Omega.{arith}
-use mathlib.Core.Path.{_≡_, refl, sym, _∙_, ap, subst}
-use Prim.Native.Nat.{ℕ, _+_, _-_, _*_, _≤_, _<_}
-use Rattle.conversion.specs.declared.Conversion.the-variants.{Psf1ToPsf2, Psf2ToPsf1, Psf2ToVfont2, Vfont2ToPsf2}
+use mathlib.Core.Path.{sym, _∙_, ap, subst}
+use Prim.Native.Nat.{_-_, _≤_}
+use Rattle.conversion.specs.declared.Conversion.the-variants.{Psf1ToPsf2, Psf2ToPsf1}
 use lib.ListN.{length}
-use Rattle.base.specs.Over.{over}
+use Rattle.base.specs.Meaning.{over}
 use Rattle.transcode.specs.declared.Measured.the-variants.{Length}
 use Rattle.conversion.specs.declared.Conversion.{Conversion}
 use Rattle.conversion.specs.Meaning.{tableIn}
-use Rattle.conversion.specs.Reading.{measuredOf}
 use borrow.Author.Needs.{needs}
 use Rattle.convert.proofs.put_table.Statement.{statement}
 use Rattle.convert.proofs.put_table.Tie as tie
-use Rattle.convert.proofs.put_table.Reads as reads
-use Rattle.convert.proofs.put_table.Lts as lts
-use Rattle.base.proofs.copy.Reads as copy-reads
-use Rattle.transcode.proofs.write_table.Reads as write-table-reads
 
 enum-told : tie.Need-enum-told
 enum-told c = search needs

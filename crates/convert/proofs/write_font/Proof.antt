@@ -1,7 +1,7 @@
 -- `convert::write_font` meets its contract: header, entries, bitmaps and table, one behind the other. Assumes a font that the conversion is ready for, and room.
 use mathlib.Core.List.{List, [], _++_}
 use lib.ListN.{length, length-append}
-use Rattle.base.specs.Over.{over}
+use Rattle.base.specs.Meaning.{over}
 use Rattle.base.proofs.Over.{over-none, behind}
 use Rattle.base.proofs.Parts.{rest-all}
 use Rattle.transcode.specs.declared.Measured.the-variants.{Length}
@@ -14,23 +14,12 @@ use Rattle.conversion.specs.Reading.{measuredOf}
 use Rattle.convert.proofs.Cases as cases
 use native.Mathlib.Omega.{arith}
 use mathlib.Core.Path.{_≡_, refl, sym, _∙_, ap, subst}
-use Prim.Native.Nat.{ℕ, _+_, _-_, _*_, _≤_, _<_}
+use Prim.Native.Nat.{ℕ, _+_, _-_, _*_, _≤_}
 use native.Mathlib.Nat.{mul-le-mul}
 use Rattle.conversion.proofs.Cases.{front-is}
 use borrow.Author.Needs.{needs}
 use Rattle.convert.proofs.write_font.Statement.{statement}
 use Rattle.convert.proofs.write_font.Tie as tie
-use Rattle.convert.proofs.write_font.Reads as reads
-use Rattle.convert.proofs.write_font.Lts as lts
-use Rattle.conversion.proofs.entry_len.Reads as entry-len-reads
-use Rattle.conversion.proofs.header_len.Reads as header-len-reads
-use Rattle.conversion.proofs.target_of.Reads as target-of-reads
-use Rattle.convert.proofs.field_at_20.Reads as field-at-20-reads
-use Rattle.convert.proofs.put_table.Reads as put-table-reads
-use Rattle.header.proofs.glyph_bytes.Reads as glyph-bytes-reads
-use Rattle.layout.proofs.put_dispatch.Reads as put-dispatch-reads
-use Rattle.layout.proofs.put_glyphs.Reads as put-glyphs-reads
-use Rattle.layout.proofs.put_header.Reads as put-header-reads
 
 target-of-requires : tie.Need-target-of-requires
 target-of-requires c κs = search needs

@@ -5,11 +5,6 @@ use Rattle.entries.specs.Meaning.{colsAt}
 use borrow.Author.Needs.{needs}
 use Rattle.entries.proofs.cols_at.Statement.{statement}
 use Rattle.entries.proofs.cols_at.Tie as tie
-use Rattle.entries.proofs.cols_at.Reads as reads
-use Rattle.entries.proofs.cols_at.Lts as lts
-use Rattle.base.proofs.get16.Reads as get16-reads
-use Rattle.base.proofs.size.Reads as size-reads
-use Rattle.entries.proofs.span.Reads as span-reads
 
 add-get16 : tie.Need-add-get16
 add-get16 c = search needs

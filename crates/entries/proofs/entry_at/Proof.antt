@@ -1,17 +1,10 @@
 -- `entries::entry_at` meets its contract: each return is one case of the rule. Assumes nothing.
-use mathlib.Core.Path.{_≡_, _∙_}
+use mathlib.Core.Path.{_∙_}
 use native.Mathlib.Omega.{arith}
 use Rattle.entries.proofs.Cases as cases
 use borrow.Author.Needs.{needs}
 use Rattle.entries.proofs.entry_at.Statement.{statement}
 use Rattle.entries.proofs.entry_at.Tie as tie
-use Rattle.entries.proofs.entry_at.Reads as reads
-use Rattle.entries.proofs.entry_at.Lts as lts
-use Rattle.base.proofs.get32.Reads as get32-reads
-use Rattle.base.proofs.size.Reads as size-reads
-use Rattle.entries.proofs.cols_at.Reads as cols-at-reads
-use Rattle.header.proofs.glyph_bytes.Reads as glyph-bytes-reads
-use Rattle.entries.proofs.rows_at.Reads as rows-at-reads
 
 add-get32 : tie.Need-add-get32
 add-get32 c = search needs

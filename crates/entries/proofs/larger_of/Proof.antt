@@ -2,8 +2,6 @@
 use borrow.Author.Tests.{lt-ltb, le-ltb}
 use Rattle.entries.proofs.larger_of.Statement.{statement}
 use Rattle.entries.proofs.larger_of.Tie as tie
-use Rattle.entries.proofs.larger_of.Reads as reads
-use Rattle.entries.proofs.larger_of.Lts as lts
 
 returns : tie.Need-returns
 returns c = rw (lt-ltb _ _ (c .if1 .taken))

@@ -1,15 +1,9 @@
 -- `entries::metrics_at` meets its contract: five numbers of two bytes. Assumes that the entry stands in the file.
-use native.Mathlib.Omega.{arith}
-use mathlib.Core.Path.{_≡_, refl, sym, _∙_, ap}
 use Rattle.entries.specs.Meaning.{metricsAt}
 use Rattle.entries.proofs.Machine.{field-kept}
 use borrow.Author.Needs.{needs}
 use Rattle.entries.proofs.metrics_at.Statement.{statement}
 use Rattle.entries.proofs.metrics_at.Tie as tie
-use Rattle.entries.proofs.metrics_at.Reads as reads
-use Rattle.entries.proofs.metrics_at.Lts as lts
-use Rattle.base.proofs.get16.Reads as get16-reads
-use Rattle.entries.proofs.signed.Reads as signed-reads
 
 add-get16 : tie.Need-add-get16
 add-get16 c = search needs

@@ -5,11 +5,6 @@ use Rattle.entries.specs.Meaning.{rowsAt}
 use borrow.Author.Needs.{needs}
 use Rattle.entries.proofs.rows_at.Statement.{statement}
 use Rattle.entries.proofs.rows_at.Tie as tie
-use Rattle.entries.proofs.rows_at.Reads as reads
-use Rattle.entries.proofs.rows_at.Lts as lts
-use Rattle.base.proofs.get16.Reads as get16-reads
-use Rattle.base.proofs.size.Reads as size-reads
-use Rattle.entries.proofs.span.Reads as span-reads
 
 add-get16 : tie.Need-add-get16
 add-get16 c = search needs

@@ -4,16 +4,12 @@ use Rattle.entries.specs.Meaning.{entryAt}
 use Rattle.entries.specs.Reading.{scanOf}
 use lib.ListN.{length}
 use native.Mathlib.Nat.{sub-zero}
-use Prim.Native.Nat.{_+_, _-_, _*_, _≤_}
-use mathlib.Core.Path.{_≡_, sym, _∙_, ap}
+use Prim.Native.Nat.{_+_, _-_, _≤_}
+use mathlib.Core.Path.{_≡_, sym, _∙_}
 use borrow.Author.Needs.{needs}
 use native.Mathlib.Omega.{arith}
 use Rattle.entries.proofs.scan_entries.Statement.{statement}
 use Rattle.entries.proofs.scan_entries.Tie as tie
-use Rattle.entries.proofs.scan_entries.Reads as reads
-use Rattle.entries.proofs.scan_entries.Lts as lts
-use Rattle.entries.proofs.entry_at.Reads as entry-at-reads
-use Rattle.entries.proofs.larger_of.Reads as larger-of-reads
 
 abbrev Inv-loop : tie.InvT-loop
 Inv-loop file total n start i₀ at₀ height₀ width₀ i at height width = (i ≤ n) × (entryAt start n ≤ length file) × (at ≡ entryAt start i) × (scanOf file total start (n - i) i height width ≡ scanOf file total start n 0 0 0)

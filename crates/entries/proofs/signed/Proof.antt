@@ -1,6 +1,6 @@
 -- `entries::signed` meets its contract: below 32768 the number itself, else less 65536. Assumes a number of two bytes.
 use native.Mathlib.Omega.{arith}
-use mathlib.Core.Path.{_≡_, refl, sym, _∙_, ap}
+use mathlib.Core.Path.{sym, _∙_}
 use mir.Syntax.{w32}
 use mir.Facts.{toZ-ofZ, toZ-pos}
 use Rattle.entries.proofs.Sums.{low, high}
@@ -8,8 +8,6 @@ use Rattle.entries.proofs.Machine.{minus, minus-fits}
 use borrow.Author.Needs.{needs}
 use Rattle.entries.proofs.signed.Statement.{statement}
 use Rattle.entries.proofs.signed.Tie as tie
-use Rattle.entries.proofs.signed.Reads as reads
-use Rattle.entries.proofs.signed.Lts as lts
 
 cast-result : tie.Need-cast-result
 cast-result c = search needs

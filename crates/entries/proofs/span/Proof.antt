@@ -4,9 +4,6 @@ use native.Mathlib.Omega.{arith}
 use borrow.Author.Needs.{needs}
 use Rattle.entries.proofs.span.Statement.{statement}
 use Rattle.entries.proofs.span.Tie as tie
-use Rattle.entries.proofs.span.Reads as reads
-use Rattle.entries.proofs.span.Lts as lts
-use Rattle.entries.proofs.raised.Reads as raised-reads
 
 raised-requires : tie.Need-raised-requires
 raised-requires c κs = search needs

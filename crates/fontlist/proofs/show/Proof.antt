@@ -1,16 +1,11 @@
 -- `fontlist::show` meets its contract: what is written stands within the buffer. Assumes nothing.
 use native.Mathlib.Omega.{arith}
-use mathlib.Core.Path.{_≡_, sym, _∙_}
+use mathlib.Core.Path.{sym, _∙_}
 use lib.Seq.{length-take-le}
-use lib.ListN.{length, take}
 use Rattle.listing.proofs.Meaning.{listed-inside}
 use borrow.Author.Needs.{needs}
 use Rattle.fontlist.proofs.show.Statement.{statement}
 use Rattle.fontlist.proofs.show.Tie as tie
-use Rattle.fontlist.proofs.show.Reads as reads
-use Rattle.fontlist.proofs.show.Lts as lts
-use Rattle.io.proofs.write_all.Reads as write-all-reads
-use Rattle.listing.proofs.list.Reads as list-reads
 
 list-requires : tie.Need-list-requires
 list-requires c κs = search needs

@@ -8,8 +8,6 @@ use borrow.Author.Needs.{needs}
 use native.Mathlib.Omega.{arith}
 use Rattle.fonts.proofs.any_high.Statement.{statement}
 use Rattle.fonts.proofs.any_high.Tie as tie
-use Rattle.fonts.proofs.any_high.Reads as reads
-use Rattle.fonts.proofs.any_high.Lts as lts
 
 abbrev Inv-loop : tie.InvT-loop
 Inv-loop vs i₀ i = (i ≤ length vs) × (anyHigh (drop i vs) ≡ anyHigh vs)

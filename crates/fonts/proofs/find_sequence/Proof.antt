@@ -1,13 +1,9 @@
 -- `fonts::find_sequence` meets its contract: the font's own refusal, or the lookup's answer. Assumes nothing.
 use Rattle.fonts.specs.Reading.{sequenceGlyph}
-use mathlib.Core.Path.{_≡_, sym, _∙_, ap}
+use mathlib.Core.Path.{sym, _∙_}
 use borrow.Author.Needs.{needs}
 use Rattle.fonts.proofs.find_sequence.Statement.{statement}
 use Rattle.fonts.proofs.find_sequence.Tie as tie
-use Rattle.fonts.proofs.find_sequence.Reads as reads
-use Rattle.fonts.proofs.find_sequence.Lts as lts
-use Rattle.stages.proofs.check.Reads as check-reads
-use Rattle.fonts.proofs.sequence_on.Reads as sequence-on-reads
 
 check-requires : tie.Need-check-requires
 check-requires c κs = search needs

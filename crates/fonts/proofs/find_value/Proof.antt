@@ -1,13 +1,9 @@
 -- `fonts::find_value` meets its contract: the font's own refusal, or the lookup's answer. Assumes nothing.
 use Rattle.fonts.specs.Reading.{valueGlyph}
-use mathlib.Core.Path.{_≡_, sym, _∙_, ap}
+use mathlib.Core.Path.{sym, _∙_}
 use borrow.Author.Needs.{needs}
 use Rattle.fonts.proofs.find_value.Statement.{statement}
 use Rattle.fonts.proofs.find_value.Tie as tie
-use Rattle.fonts.proofs.find_value.Reads as reads
-use Rattle.fonts.proofs.find_value.Lts as lts
-use Rattle.stages.proofs.check.Reads as check-reads
-use Rattle.fonts.proofs.value_on.Reads as value-on-reads
 
 check-requires : tie.Need-check-requires
 check-requires c κs = search needs

@@ -1,13 +1,10 @@
 -- `fonts::glyph` meets its contract: the part that the second call names. Assumes nothing.
 use Rattle.fonts.proofs.Views.{view-at, view-none}
 use native.Mathlib.Omega.{arith}
-use mathlib.Core.Path.{_≡_, sym, _∙_, ap}
+use mathlib.Core.Path.{sym, _∙_}
 use borrow.Author.Needs.{needs}
 use Rattle.fonts.proofs.glyph.Statement.{statement}
 use Rattle.fonts.proofs.glyph.Tie as tie
-use Rattle.fonts.proofs.glyph.Reads as reads
-use Rattle.fonts.proofs.glyph.Lts as lts
-use Rattle.fonts.proofs.glyph_part.Reads as glyph-part-reads
 
 glyph-part-requires : tie.Need-glyph-part-requires
 glyph-part-requires c κs = search needs

@@ -1,13 +1,9 @@
 -- `fonts::glyph_part` meets its contract: the font's own refusal, or the bitmap's answer. Assumes nothing.
 use Rattle.fonts.specs.Reading.{glyphPartOf}
-use mathlib.Core.Path.{_≡_, sym, _∙_, ap}
+use mathlib.Core.Path.{sym, _∙_}
 use borrow.Author.Needs.{needs}
 use Rattle.fonts.proofs.glyph_part.Statement.{statement}
 use Rattle.fonts.proofs.glyph_part.Tie as tie
-use Rattle.fonts.proofs.glyph_part.Reads as reads
-use Rattle.fonts.proofs.glyph_part.Lts as lts
-use Rattle.bitmap.proofs.glyph_part.Reads as glyph-part-reads
-use Rattle.stages.proofs.check.Reads as check-reads
 
 check-requires : tie.Need-check-requires
 check-requires c κs = search needs

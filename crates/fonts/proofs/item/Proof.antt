@@ -1,13 +1,9 @@
 -- `fonts::item` meets its contract: the font's own refusal, or the walk's answer. Assumes nothing.
 use Rattle.fonts.specs.Reading.{itemOf}
-use mathlib.Core.Path.{_≡_, sym, _∙_, ap}
+use mathlib.Core.Path.{sym, _∙_}
 use borrow.Author.Needs.{needs}
 use Rattle.fonts.proofs.item.Statement.{statement}
 use Rattle.fonts.proofs.item.Tie as tie
-use Rattle.fonts.proofs.item.Reads as reads
-use Rattle.fonts.proofs.item.Lts as lts
-use Rattle.stages.proofs.check.Reads as check-reads
-use Rattle.fonts.proofs.item_on.Reads as item-on-reads
 
 check-requires : tie.Need-check-requires
 check-requires c κs = search needs

@@ -1,16 +1,10 @@
 -- `fonts::item_on` meets its contract: NO TABLE, then what the walk found. Assumes `Placed`.
-use native.Mathlib.Omega.{arith}
-use mathlib.Core.Path.{_≡_, refl, sym, _∙_, ap}
-use Rattle.fonts.specs.declared.Walk.the-variants.{Is, Refused as NoWalk}
+use mathlib.Core.Path.{_∙_, ap}
+use Rattle.fonts.specs.declared.Walk.the-variants.{Refused as NoWalk}
 use Rattle.fonts.proofs.Answers.{item-told, item-bare}
 use borrow.Author.Needs.{needs}
 use Rattle.fonts.proofs.item_on.Statement.{statement}
 use Rattle.fonts.proofs.item_on.Tie as tie
-use Rattle.fonts.proofs.item_on.Reads as reads
-use Rattle.fonts.proofs.item_on.Lts as lts
-use Rattle.lookup.proofs.item_at.Reads as item-at-reads
-use Rattle.refusal.proofs.refuse.Reads as refuse-reads
-use Rattle.stages.proofs.coding_of.Reads as coding-of-reads
 
 coding-of-requires : tie.Need-coding-of-requires
 coding-of-requires c κs = search needs

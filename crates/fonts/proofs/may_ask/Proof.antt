@@ -1,12 +1,8 @@
 -- `fonts::may_ask` meets its contract: not empty, and no value above 10FFFF. Assumes nothing.
 use Rattle.fonts.proofs.Answers.{ask-empty, ask-some}
-use mathlib.Core.Path.{_≡_, sym, _∙_}
 use borrow.Author.Needs.{needs}
 use Rattle.fonts.proofs.may_ask.Statement.{statement}
 use Rattle.fonts.proofs.may_ask.Tie as tie
-use Rattle.fonts.proofs.may_ask.Reads as reads
-use Rattle.fonts.proofs.may_ask.Lts as lts
-use Rattle.fonts.proofs.any_high.Reads as any-high-reads
 
 returns : tie.Need-returns
 returns c = ask-empty (c .before .before .args .vs .now) (c .if1 .taken)

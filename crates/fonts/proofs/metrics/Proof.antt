@@ -1,14 +1,9 @@
 -- `fonts::metrics` meets its contract: the font's own refusal, or the glyph's metrics. Assumes nothing.
-use native.Mathlib.Omega.{arith}
-use mathlib.Core.Path.{_≡_, refl, sym, _∙_, ap}
+use mathlib.Core.Path.{sym, _∙_}
 use Rattle.fonts.specs.Reading.{glyphMetricsOf}
 use borrow.Author.Needs.{needs}
 use Rattle.fonts.proofs.metrics.Statement.{statement}
 use Rattle.fonts.proofs.metrics.Tie as tie
-use Rattle.fonts.proofs.metrics.Reads as reads
-use Rattle.fonts.proofs.metrics.Lts as lts
-use Rattle.bitmap.proofs.metrics.Reads as metrics-reads
-use Rattle.stages.proofs.check.Reads as check-reads
 
 check-requires : tie.Need-check-requires
 check-requires c κs = search needs

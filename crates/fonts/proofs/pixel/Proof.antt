@@ -1,13 +1,9 @@
 -- `fonts::pixel` meets its contract: the font's own refusal, or the bitmap's answer. Assumes nothing.
 use Rattle.fonts.specs.Reading.{pixelAt}
-use mathlib.Core.Path.{_≡_, sym, _∙_, ap}
+use mathlib.Core.Path.{sym, _∙_}
 use borrow.Author.Needs.{needs}
 use Rattle.fonts.proofs.pixel.Statement.{statement}
 use Rattle.fonts.proofs.pixel.Tie as tie
-use Rattle.fonts.proofs.pixel.Reads as reads
-use Rattle.fonts.proofs.pixel.Lts as lts
-use Rattle.bitmap.proofs.pixel_at.Reads as pixel-at-reads
-use Rattle.stages.proofs.check.Reads as check-reads
 
 check-requires : tie.Need-check-requires
 check-requires c κs = search needs

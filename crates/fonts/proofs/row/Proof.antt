@@ -1,13 +1,10 @@
 -- `fonts::row` meets its contract: the part that the second call names. Assumes nothing.
 use Rattle.fonts.proofs.Views.{view-at, view-none}
 use native.Mathlib.Omega.{arith}
-use mathlib.Core.Path.{_≡_, sym, _∙_, ap}
+use mathlib.Core.Path.{sym, _∙_}
 use borrow.Author.Needs.{needs}
 use Rattle.fonts.proofs.row.Statement.{statement}
 use Rattle.fonts.proofs.row.Tie as tie
-use Rattle.fonts.proofs.row.Reads as reads
-use Rattle.fonts.proofs.row.Lts as lts
-use Rattle.fonts.proofs.row_part.Reads as row-part-reads
 
 row-part-requires : tie.Need-row-part-requires
 row-part-requires c κs = search needs

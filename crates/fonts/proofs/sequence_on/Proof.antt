@@ -1,17 +1,10 @@
 -- `fonts::sequence_on` meets its contract: NO TABLE, then ASK, then what the lookup found. Assumes `Placed`.
-use native.Mathlib.Omega.{arith}
-use mathlib.Core.Path.{_≡_, refl, sym, _∙_, ap}
-use Rattle.fonts.specs.declared.Lookup.the-variants.{Glyph, Refused as NoLookup}
+use mathlib.Core.Path.{_∙_, ap}
+use Rattle.fonts.specs.declared.Lookup.the-variants.{Refused as NoLookup}
 use Rattle.fonts.proofs.Answers.{sequence-told, sequence-ask, sequence-bare}
 use borrow.Author.Needs.{needs}
 use Rattle.fonts.proofs.sequence_on.Statement.{statement}
 use Rattle.fonts.proofs.sequence_on.Tie as tie
-use Rattle.fonts.proofs.sequence_on.Reads as reads
-use Rattle.fonts.proofs.sequence_on.Lts as lts
-use Rattle.fonts.proofs.may_ask.Reads as may-ask-reads
-use Rattle.lookup.proofs.find_sequence.Reads as find-sequence-reads
-use Rattle.refusal.proofs.refuse.Reads as refuse-reads
-use Rattle.stages.proofs.coding_of.Reads as coding-of-reads
 
 may-ask-requires : tie.Need-may-ask-requires
 may-ask-requires c κs = search needs

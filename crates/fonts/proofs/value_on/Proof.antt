@@ -1,16 +1,10 @@
 -- `fonts::value_on` meets its contract: NO TABLE, then ASK, then what the lookup found. Assumes `Placed`.
-use native.Mathlib.Omega.{arith}
-use mathlib.Core.Path.{_≡_, refl, sym, _∙_, ap}
-use Rattle.fonts.specs.declared.Lookup.the-variants.{Glyph, Refused as NoLookup}
+use mathlib.Core.Path.{_∙_, ap}
+use Rattle.fonts.specs.declared.Lookup.the-variants.{Refused as NoLookup}
 use Rattle.fonts.proofs.Answers.{value-told, value-high, value-bare}
 use borrow.Author.Needs.{needs}
 use Rattle.fonts.proofs.value_on.Statement.{statement}
 use Rattle.fonts.proofs.value_on.Tie as tie
-use Rattle.fonts.proofs.value_on.Reads as reads
-use Rattle.fonts.proofs.value_on.Lts as lts
-use Rattle.lookup.proofs.find_value.Reads as find-value-reads
-use Rattle.refusal.proofs.refuse.Reads as refuse-reads
-use Rattle.stages.proofs.coding_of.Reads as coding-of-reads
 
 refuse-requires : tie.Need-refuse-requires
 refuse-requires c κs = search needs

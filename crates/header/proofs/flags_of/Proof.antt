@@ -2,8 +2,6 @@
 use Rattle.header.proofs.Written.{flags-yes, flags-no}
 use Rattle.header.proofs.flags_of.Statement.{statement}
 use Rattle.header.proofs.flags_of.Tie as tie
-use Rattle.header.proofs.flags_of.Reads as reads
-use Rattle.header.proofs.flags_of.Lts as lts
 
 returns : tie.Need-returns
 returns c = flags-yes (c .before .args .table) (c .if1 .taken)

@@ -6,9 +6,6 @@ use native.Mathlib.Omega.{arith}
 use borrow.Author.Needs.{needs}
 use Rattle.header.proofs.glyph_bytes.Statement.{statement}
 use Rattle.header.proofs.glyph_bytes.Tie as tie
-use Rattle.header.proofs.glyph_bytes.Reads as reads
-use Rattle.header.proofs.glyph_bytes.Lts as lts
-use Rattle.header.proofs.row_bytes.Reads as row-bytes-reads
 
 row-bytes-requires : tie.Need-row-bytes-requires
 row-bytes-requires c κs = search needs

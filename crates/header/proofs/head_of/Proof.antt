@@ -1,16 +1,11 @@
 -- `header::head_of` meets its contract: each return is one case of the definition. Assumes nothing.
 use borrow.Author.Needs.{needs}
 use native.Mathlib.Omega.{arith}
-use mathlib.Core.Path.{_≡_, refl, sym, _∙_, ap}
+use mathlib.Core.Path.{_∙_, ap}
 use Rattle.header.proofs.Cases as cases
-use Rattle.header.specs.declared.Head.the-variants.{Read, Refused as NoHead}
+use Rattle.header.specs.declared.Head.the-variants.{Refused as NoHead}
 use Rattle.header.proofs.head_of.Statement.{statement}
 use Rattle.header.proofs.head_of.Tie as tie
-use Rattle.header.proofs.head_of.Reads as reads
-use Rattle.header.proofs.head_of.Lts as lts
-use Rattle.base.proofs.get32.Reads as get32-reads
-use Rattle.base.proofs.size.Reads as size-reads
-use Rattle.refusal.proofs.refuse.Reads as refuse-reads
 
 refuse-requires : tie.Need-refuse-requires
 refuse-requires c κs = search needs

@@ -1,12 +1,9 @@
 -- `header::kind_of` meets its contract: each return is one case of the definition. Assumes nothing.
-use mathlib.Core.Path.{_≡_, refl, sym, _∙_, ap}
+use mathlib.Core.Path.{sym, _∙_}
 use Rattle.header.proofs.Cases as cases
 use borrow.Author.Needs.{needs}
 use Rattle.header.proofs.kind_of.Statement.{statement}
 use Rattle.header.proofs.kind_of.Tie as tie
-use Rattle.header.proofs.kind_of.Reads as reads
-use Rattle.header.proofs.kind_of.Lts as lts
-use Rattle.base.proofs.starts_with.Reads as starts-with-reads
 
 slice-aggregate-starts-with : tie.Need-slice-aggregate-starts-with
 slice-aggregate-starts-with c = search needs

@@ -1,17 +1,12 @@
 -- `header::put_fields` meets its contract: four numbers, one behind the other. Assumes room.
 use borrow.Author.Needs.{needs}
-use native.Mathlib.Omega.{arith}
-use mathlib.Core.Path.{_≡_, refl, sym, _∙_, ap}
-use Prim.Native.Nat.{ℕ}
-use mathlib.Core.List.{List, [], _∷_, _++_}
-use Rattle.base.specs.Numbers.{bytes32}
+use mathlib.Core.Path.{refl}
+use mathlib.Core.List.{[], _++_}
+use Rattle.base.specs.Meaning.{bytes32}
 use Rattle.base.proofs.Over.{over-none, behind}
 use Rattle.header.specs.Meaning.{fields}
 use Rattle.header.proofs.put_fields.Statement.{statement}
 use Rattle.header.proofs.put_fields.Tie as tie
-use Rattle.header.proofs.put_fields.Reads as reads
-use Rattle.header.proofs.put_fields.Lts as lts
-use Rattle.base.proofs.put32.Reads as put32-reads
 
 cast-put32 : tie.Need-cast-put32
 cast-put32 c = search needs

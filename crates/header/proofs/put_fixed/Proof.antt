@@ -1,19 +1,13 @@
 -- `header::put_fixed` meets its contract: three numbers, one behind the other. Assumes room.
 use borrow.Author.Needs.{needs}
-use native.Mathlib.Omega.{arith}
-use mathlib.Core.Path.{_≡_, refl, sym, _∙_, ap}
+use mathlib.Core.Path.{refl, _∙_, ap}
 use Prim.Native.Nat.{ℕ}
-use mathlib.Core.List.{List, [], _∷_, _++_}
-use Rattle.base.specs.Numbers.{bytes32}
-use Rattle.base.specs.Over.{over}
+use mathlib.Core.List.{List, [], _++_}
+use Rattle.base.specs.Meaning.{bytes32, over}
 use Rattle.base.proofs.Over.{over-none, behind}
 use Rattle.header.proofs.Written.{fixed-flags}
 use Rattle.header.proofs.put_fixed.Statement.{statement}
 use Rattle.header.proofs.put_fixed.Tie as tie
-use Rattle.header.proofs.put_fixed.Reads as reads
-use Rattle.header.proofs.put_fixed.Lts as lts
-use Rattle.base.proofs.put32.Reads as put32-reads
-use Rattle.header.proofs.flags_of.Reads as flags-of-reads
 
 sub-put32 : tie.Need-sub-put32
 sub-put32 c = search needs

@@ -2,19 +2,11 @@
 use Rattle.header.specs.declared.Kind.the-variants.{Psf1, Psf2, Vfont2}
 use Rattle.header.specs.declared.Named.the-variants.{Is, Unknown}
 use borrow.Author.Needs.{needs}
-use native.Mathlib.Omega.{arith}
-use mathlib.Core.Path.{_≡_, refl, sym, _∙_, ap}
+use mathlib.Core.Path.{sym, _∙_, ap}
 use Rattle.header.proofs.Cases as cases
-use Rattle.header.specs.declared.Checked.the-variants.{Sound, Refused}
+use Rattle.header.specs.declared.Checked.the-variants.{Refused}
 use Rattle.header.proofs.says.Statement.{statement}
 use Rattle.header.proofs.says.Tie as tie
-use Rattle.header.proofs.says.Reads as reads
-use Rattle.header.proofs.says.Lts as lts
-use Rattle.header.proofs.Psf1.says.Reads as Psf1-says-reads
-use Rattle.header.proofs.Psf2.says.Reads as Psf2-says-reads
-use Rattle.header.proofs.Vfont2.says.Reads as Vfont2-says-reads
-use Rattle.header.proofs.kind_of.Reads as kind-of-reads
-use Rattle.refusal.proofs.refuse.Reads as refuse-reads
 
 kind-of-requires : tie.Need-kind-of-requires
 kind-of-requires c κs = search needs

@@ -1,12 +1,8 @@
 -- `lavandol::converted_answer` meets its contract: by cases on the conversion. Assumes nothing.
-use mathlib.Core.Path.{_≡_, sym, _∙_, ap}
+use mathlib.Core.Path.{_∙_}
 use borrow.Author.Needs.{needs}
 use Rattle.lavandol.proofs.converted_answer.Statement.{statement}
 use Rattle.lavandol.proofs.converted_answer.Tie as tie
-use Rattle.lavandol.proofs.converted_answer.Reads as reads
-use Rattle.lavandol.proofs.converted_answer.Lts as lts
-use Rattle.lavandol.proofs.number_answer.Reads as number-answer-reads
-use Rattle.lavandol.proofs.refused_number.Reads as refused-number-reads
 
 enum-known-c : tie.Need-enum-known-c
 enum-known-c c = search needs

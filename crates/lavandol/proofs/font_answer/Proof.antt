@@ -1,14 +1,9 @@
 -- `lavandol::font_answer` meets its contract: both cases. Assumes nothing.
-use mathlib.Core.Path.{_≡_, refl, sym, _∙_, ap}
-use Rattle.lavandol.specs.Boundary.{fontAnswer}
+use mathlib.Core.Path.{sym, _∙_, ap}
+use Rattle.lavandol.specs.Meaning.{fontAnswer}
 use borrow.Author.Needs.{needs}
 use Rattle.lavandol.proofs.font_answer.Statement.{statement}
 use Rattle.lavandol.proofs.font_answer.Tie as tie
-use Rattle.lavandol.proofs.font_answer.Reads as reads
-use Rattle.lavandol.proofs.font_answer.Lts as lts
-use Rattle.lavandol.proofs.flag_number.Reads as flag-number-reads
-use Rattle.lavandol.proofs.kind_number.Reads as kind-number-reads
-use Rattle.lavandol.proofs.refused_font.Reads as refused-font-reads
 
 enum-known-a : tie.Need-enum-known-a
 enum-known-a c = search needs

@@ -1,10 +1,7 @@
 -- `lavandol::item_answer` meets its contract: by cases on the item. Assumes nothing.
-use mathlib.Core.Path.{_≡_, sym, _∙_, ap}
 use borrow.Author.Needs.{needs}
 use Rattle.lavandol.proofs.item_answer.Statement.{statement}
 use Rattle.lavandol.proofs.item_answer.Tie as tie
-use Rattle.lavandol.proofs.item_answer.Reads as reads
-use Rattle.lavandol.proofs.item_answer.Lts as lts
 
 enum-known-i : tie.Need-enum-known-i
 enum-known-i c = search needs

@@ -1,13 +1,9 @@
 -- `lavandol::lav_check` meets its contract: the public call's answer, as C reads it. Assumes nothing.
-use Rattle.lavandol.specs.Boundary.{fontAnswer}
-use mathlib.Core.Path.{_≡_, sym, _∙_, ap}
+use Rattle.lavandol.specs.Meaning.{fontAnswer}
+use mathlib.Core.Path.{_∙_, ap}
 use borrow.Author.Needs.{needs}
 use Rattle.lavandol.proofs.lav_check.Statement.{statement}
 use Rattle.lavandol.proofs.lav_check.Tie as tie
-use Rattle.lavandol.proofs.lav_check.Reads as reads
-use Rattle.lavandol.proofs.lav_check.Lts as lts
-use Rattle.fonts.proofs.check.Reads as check-reads
-use Rattle.lavandol.proofs.font_answer.Reads as font-answer-reads
 
 check-requires : tie.Need-check-requires
 check-requires c κs = search needs

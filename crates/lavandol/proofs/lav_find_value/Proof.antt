@@ -1,13 +1,9 @@
 -- `lavandol::lav_find_value` meets its contract: the public call's answer, as C reads it. Assumes nothing.
-use Rattle.lavandol.specs.Boundary.{lookupAnswer}
-use mathlib.Core.Path.{_≡_, sym, _∙_, ap}
+use Rattle.lavandol.specs.Meaning.{lookupAnswer}
+use mathlib.Core.Path.{_∙_, ap}
 use borrow.Author.Needs.{needs}
 use Rattle.lavandol.proofs.lav_find_value.Statement.{statement}
 use Rattle.lavandol.proofs.lav_find_value.Tie as tie
-use Rattle.lavandol.proofs.lav_find_value.Reads as reads
-use Rattle.lavandol.proofs.lav_find_value.Lts as lts
-use Rattle.fonts.proofs.find_value.Reads as find-value-reads
-use Rattle.lavandol.proofs.lookup_answer.Reads as lookup-answer-reads
 
 find-value-requires : tie.Need-find-value-requires
 find-value-requires c κs = search needs

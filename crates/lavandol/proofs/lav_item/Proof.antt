@@ -1,13 +1,9 @@
 -- `lavandol::lav_item` meets its contract: the public call's answer, as C reads it. Assumes nothing.
-use Rattle.lavandol.specs.Boundary.{walkAnswer}
-use mathlib.Core.Path.{_≡_, sym, _∙_, ap}
+use Rattle.lavandol.specs.Meaning.{walkAnswer}
+use mathlib.Core.Path.{_∙_, ap}
 use borrow.Author.Needs.{needs}
 use Rattle.lavandol.proofs.lav_item.Statement.{statement}
 use Rattle.lavandol.proofs.lav_item.Tie as tie
-use Rattle.lavandol.proofs.lav_item.Reads as reads
-use Rattle.lavandol.proofs.lav_item.Lts as lts
-use Rattle.fonts.proofs.item.Reads as item-reads
-use Rattle.lavandol.proofs.walk_answer.Reads as walk-answer-reads
 
 item-requires : tie.Need-item-requires
 item-requires c κs = search needs

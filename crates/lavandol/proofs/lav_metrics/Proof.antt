@@ -1,13 +1,9 @@
 -- `lavandol::lav_metrics` meets its contract: the public call, as a struct. Assumes nothing.
-use mathlib.Core.Path.{_≡_, refl, sym, _∙_, ap}
-use Rattle.lavandol.specs.Boundary.{metricsAnswer}
+use mathlib.Core.Path.{_∙_, ap}
+use Rattle.lavandol.specs.Meaning.{metricsAnswer}
 use borrow.Author.Needs.{needs}
 use Rattle.lavandol.proofs.lav_metrics.Statement.{statement}
 use Rattle.lavandol.proofs.lav_metrics.Tie as tie
-use Rattle.lavandol.proofs.lav_metrics.Reads as reads
-use Rattle.lavandol.proofs.lav_metrics.Lts as lts
-use Rattle.fonts.proofs.metrics.Reads as metrics-reads
-use Rattle.lavandol.proofs.metrics_answer.Reads as metrics-answer-reads
 
 metrics-requires : tie.Need-metrics-requires
 metrics-requires c κs = search needs

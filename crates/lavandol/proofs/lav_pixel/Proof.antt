@@ -1,13 +1,9 @@
 -- `lavandol::lav_pixel` meets its contract: the public call's answer, as C reads it. Assumes nothing.
-use Rattle.lavandol.specs.Boundary.{pixelAnswer}
-use mathlib.Core.Path.{_≡_, sym, _∙_, ap}
+use Rattle.lavandol.specs.Meaning.{pixelAnswer}
+use mathlib.Core.Path.{_∙_, ap}
 use borrow.Author.Needs.{needs}
 use Rattle.lavandol.proofs.lav_pixel.Statement.{statement}
 use Rattle.lavandol.proofs.lav_pixel.Tie as tie
-use Rattle.lavandol.proofs.lav_pixel.Reads as reads
-use Rattle.lavandol.proofs.lav_pixel.Lts as lts
-use Rattle.fonts.proofs.pixel.Reads as pixel-reads
-use Rattle.lavandol.proofs.pixel_answer.Reads as pixel-answer-reads
 
 pixel-requires : tie.Need-pixel-requires
 pixel-requires c κs = search needs

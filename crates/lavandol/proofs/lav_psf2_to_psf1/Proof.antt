@@ -1,13 +1,9 @@
 -- `lavandol::lav_psf2_to_psf1` meets its contract: the public call, as a struct. Assumes nothing.
-use mathlib.Core.Path.{_≡_, refl, sym, _∙_, ap}
-use Rattle.lavandol.specs.Boundary.{convertedAnswer}
+use mathlib.Core.Path.{_∙_, ap}
+use Rattle.lavandol.specs.Meaning.{convertedAnswer}
 use borrow.Author.Needs.{needs}
 use Rattle.lavandol.proofs.lav_psf2_to_psf1.Statement.{statement}
 use Rattle.lavandol.proofs.lav_psf2_to_psf1.Tie as tie
-use Rattle.lavandol.proofs.lav_psf2_to_psf1.Reads as reads
-use Rattle.lavandol.proofs.lav_psf2_to_psf1.Lts as lts
-use Rattle.fonts.proofs.psf2_to_psf1.Reads as psf2-to-psf1-reads
-use Rattle.lavandol.proofs.converted_answer.Reads as converted-answer-reads
 
 psf2-to-psf1-requires : tie.Need-psf2-to-psf1-requires
 psf2-to-psf1-requires c κs = search needs

@@ -1,13 +1,9 @@
 -- `lavandol::lav_psf2_to_vfont2` meets its contract: the public call, as a struct. Assumes nothing.
-use mathlib.Core.Path.{_≡_, refl, sym, _∙_, ap}
-use Rattle.lavandol.specs.Boundary.{convertedAnswer}
+use mathlib.Core.Path.{_∙_, ap}
+use Rattle.lavandol.specs.Meaning.{convertedAnswer}
 use borrow.Author.Needs.{needs}
 use Rattle.lavandol.proofs.lav_psf2_to_vfont2.Statement.{statement}
 use Rattle.lavandol.proofs.lav_psf2_to_vfont2.Tie as tie
-use Rattle.lavandol.proofs.lav_psf2_to_vfont2.Reads as reads
-use Rattle.lavandol.proofs.lav_psf2_to_vfont2.Lts as lts
-use Rattle.fonts.proofs.psf2_to_vfont2.Reads as psf2-to-vfont2-reads
-use Rattle.lavandol.proofs.converted_answer.Reads as converted-answer-reads
 
 psf2-to-vfont2-requires : tie.Need-psf2-to-vfont2-requires
 psf2-to-vfont2-requires c κs = search needs

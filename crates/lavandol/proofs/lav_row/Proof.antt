@@ -1,13 +1,9 @@
 -- `lavandol::lav_row` meets its contract: the public call's answer, as C reads it. Assumes nothing.
-use Rattle.lavandol.specs.Boundary.{partAnswer}
-use mathlib.Core.Path.{_≡_, sym, _∙_, ap}
+use Rattle.lavandol.specs.Meaning.{partAnswer}
+use mathlib.Core.Path.{_∙_, ap}
 use borrow.Author.Needs.{needs}
 use Rattle.lavandol.proofs.lav_row.Statement.{statement}
 use Rattle.lavandol.proofs.lav_row.Tie as tie
-use Rattle.lavandol.proofs.lav_row.Reads as reads
-use Rattle.lavandol.proofs.lav_row.Lts as lts
-use Rattle.fonts.proofs.row_part.Reads as row-part-reads
-use Rattle.lavandol.proofs.part_answer.Reads as part-answer-reads
 
 row-part-requires : tie.Need-row-part-requires
 row-part-requires c κs = search needs

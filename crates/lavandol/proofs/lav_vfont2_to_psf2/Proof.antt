@@ -1,13 +1,9 @@
 -- `lavandol::lav_vfont2_to_psf2` meets its contract: the public call, as a struct. Assumes nothing.
-use mathlib.Core.Path.{_≡_, refl, sym, _∙_, ap}
-use Rattle.lavandol.specs.Boundary.{convertedAnswer}
+use mathlib.Core.Path.{_∙_, ap}
+use Rattle.lavandol.specs.Meaning.{convertedAnswer}
 use borrow.Author.Needs.{needs}
 use Rattle.lavandol.proofs.lav_vfont2_to_psf2.Statement.{statement}
 use Rattle.lavandol.proofs.lav_vfont2_to_psf2.Tie as tie
-use Rattle.lavandol.proofs.lav_vfont2_to_psf2.Reads as reads
-use Rattle.lavandol.proofs.lav_vfont2_to_psf2.Lts as lts
-use Rattle.fonts.proofs.vfont2_to_psf2.Reads as vfont2-to-psf2-reads
-use Rattle.lavandol.proofs.converted_answer.Reads as converted-answer-reads
 
 vfont2-to-psf2-requires : tie.Need-vfont2-to-psf2-requires
 vfont2-to-psf2-requires c κs = search needs

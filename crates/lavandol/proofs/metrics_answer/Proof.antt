@@ -1,14 +1,11 @@
 -- `lavandol::metrics_answer` meets its contract: both cases. Assumes nothing.
-use mathlib.Core.Path.{_≡_, refl, sym, _∙_, ap}
-use Rattle.lavandol.specs.Boundary.{metricsAnswer}
+use mathlib.Core.Path.{sym, _∙_, ap}
+use Rattle.lavandol.specs.Meaning.{metricsAnswer}
 use borrow.Author.Needs.{needs}
 use mir.Syntax.{w32}
 use mir.Facts.{toZ-ofZ}
 use Rattle.lavandol.proofs.metrics_answer.Statement.{statement}
 use Rattle.lavandol.proofs.metrics_answer.Tie as tie
-use Rattle.lavandol.proofs.metrics_answer.Reads as reads
-use Rattle.lavandol.proofs.metrics_answer.Lts as lts
-use Rattle.lavandol.proofs.refused_metrics.Reads as refused-metrics-reads
 
 enum-known-m : tie.Need-enum-known-m
 enum-known-m c = search needs

@@ -1,12 +1,9 @@
 -- `lavandol::part_answer` meets its contract: both cases. Assumes nothing.
-use mathlib.Core.Path.{_≡_, refl, sym, _∙_, ap}
-use Rattle.lavandol.specs.Boundary.{partAnswer}
+use mathlib.Core.Path.{sym, _∙_, ap}
+use Rattle.lavandol.specs.Meaning.{partAnswer}
 use borrow.Author.Needs.{needs}
 use Rattle.lavandol.proofs.part_answer.Statement.{statement}
 use Rattle.lavandol.proofs.part_answer.Tie as tie
-use Rattle.lavandol.proofs.part_answer.Reads as reads
-use Rattle.lavandol.proofs.part_answer.Lts as lts
-use Rattle.lavandol.proofs.refused_part.Reads as refused-part-reads
 
 enum-known-p : tie.Need-enum-known-p
 enum-known-p c = search needs

@@ -1,15 +1,9 @@
 -- `lavandol::pixel_answer` meets its contract: by cases on the pixel. Assumes nothing.
-use Rattle.lavandol.specs.Boundary.{numberAnswer}
-use mathlib.Core.Path.{_≡_, sym, _∙_, ap}
+use Rattle.lavandol.specs.Meaning.{numberAnswer}
+use mathlib.Core.Path.{_∙_, ap}
 use borrow.Author.Needs.{needs}
 use Rattle.lavandol.proofs.pixel_answer.Statement.{statement}
 use Rattle.lavandol.proofs.pixel_answer.Tie as tie
-use Rattle.lavandol.proofs.pixel_answer.Reads as reads
-use Rattle.lavandol.proofs.pixel_answer.Lts as lts
-use Rattle.base.proofs.size.Reads as size-reads
-use Rattle.base.proofs.wide.Reads as wide-reads
-use Rattle.lavandol.proofs.number_answer.Reads as number-answer-reads
-use Rattle.lavandol.proofs.refused_number.Reads as refused-number-reads
 
 enum-known-p : tie.Need-enum-known-p
 enum-known-p c = search needs

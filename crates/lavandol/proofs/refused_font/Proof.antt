@@ -1,11 +1,7 @@
 -- `lavandol::refused_font` meets its contract: the refusal's number and place. Assumes nothing.
-use mathlib.Core.Path.{_≡_, refl, sym, _∙_, ap}
 use borrow.Author.Needs.{needs}
 use Rattle.lavandol.proofs.refused_font.Statement.{statement}
 use Rattle.lavandol.proofs.refused_font.Tie as tie
-use Rattle.lavandol.proofs.refused_font.Reads as reads
-use Rattle.lavandol.proofs.refused_font.Lts as lts
-use Rattle.refusal.proofs.number.Reads as number-reads
 
 number-requires : tie.Need-number-requires
 number-requires c κs = search needs

@@ -1,13 +1,9 @@
 -- `lavandol::walk_answer` meets its contract: both cases. Assumes nothing.
-use mathlib.Core.Path.{_≡_, refl, sym, _∙_, ap}
-use Rattle.lavandol.specs.Boundary.{walkAnswer}
+use mathlib.Core.Path.{sym, _∙_, ap}
+use Rattle.lavandol.specs.Meaning.{walkAnswer}
 use borrow.Author.Needs.{needs}
 use Rattle.lavandol.proofs.walk_answer.Statement.{statement}
 use Rattle.lavandol.proofs.walk_answer.Tie as tie
-use Rattle.lavandol.proofs.walk_answer.Reads as reads
-use Rattle.lavandol.proofs.walk_answer.Lts as lts
-use Rattle.lavandol.proofs.item_answer.Reads as item-answer-reads
-use Rattle.lavandol.proofs.refused_item.Reads as refused-item-reads
 
 enum-known-w : tie.Need-enum-known-w
 enum-known-w c = search needs

@@ -1,16 +1,13 @@
 -- `layout::put_dispatch` meets its contract: by the kind. Assumes room.
 use native.Mathlib.Omega.{arith}
-use mathlib.Core.Path.{_≡_, refl, sym, _∙_, ap}
-use Rattle.base.specs.Over.{over}
+use mathlib.Core.Path.{sym, _∙_, ap}
+use Rattle.base.specs.Meaning.{over}
 use Rattle.base.proofs.Over.{over-none}
 use Rattle.header.specs.declared.Kind.{Kind}
 use Rattle.layout.specs.Meaning.{dispatchBytes, evenly}
 use borrow.Author.Needs.{needs}
 use Rattle.layout.proofs.put_dispatch.Statement.{statement}
 use Rattle.layout.proofs.put_dispatch.Tie as tie
-use Rattle.layout.proofs.put_dispatch.Reads as reads
-use Rattle.layout.proofs.put_dispatch.Lts as lts
-use Rattle.layout.proofs.put_entries.Reads as put-entries-reads
 
 enum-told : tie.Need-enum-told
 enum-told c = search needs

@@ -1,19 +1,15 @@
 -- `layout::put_entries` meets its contract: at each turn the entries written so far stand in front, and the others are left. Assumes room.
 use borrow.Author.Needs.{needs}
 use native.Mathlib.Omega.{arith}
-use mathlib.Core.Path.{_≡_, refl, sym, _∙_, ap, subst}
-use Prim.Native.Nat.{ℕ, _+_, _-_, _*_, _≤_, _<_}
-use mathlib.Core.List.{List, [], _∷_, _++_}
-use lib.ListN.{length, take, drop}
+use mathlib.Core.Path.{_≡_, refl, sym, ap, subst}
+use Prim.Native.Nat.{ℕ, _+_, _-_, _*_, _≤_}
+use mathlib.Core.List.{_++_}
 use Rattle.base.proofs.Written.{Written, begins-as, room, goes-on, ends}
 use native.Mathlib.Nat.{mul-le-mul-right}
 use Rattle.layout.specs.Meaning.{entryBytes, entriesAt, evenly}
 use Rattle.layout.proofs.Parts.{entry-length, entries-length, evenly-length, entries-next, entries-done, all-left, next-multiple}
 use Rattle.layout.proofs.put_entries.Statement.{statement}
 use Rattle.layout.proofs.put_entries.Tie as tie
-use Rattle.layout.proofs.put_entries.Reads as reads
-use Rattle.layout.proofs.put_entries.Lts as lts
-use Rattle.layout.proofs.put_entry.Reads as put-entry-reads
 
 abbrev Inv-loop : tie.InvT-loop
 Inv-loop n size height width out₀ i₀ at₀ address₀ out i at address =

@@ -1,20 +1,13 @@
 -- `layout::put_entry` meets its contract: address, size and metrics, one behind the other. Assumes nothing.
 use Rattle.layout.specs.Meaning.{metricsBytes, entryBytes}
-use Rattle.base.proofs.Over.{over-none, behind, stores, turn-within, turn-left, turn-over, turn-length, turn-room, all-over}
-use Rattle.base.specs.Numbers.{bytes16, bytes32}
-use Rattle.base.specs.Over.{over}
-use lib.ListN.{length, take, drop, length-set}
-use Prim.Native.Nat.{ℕ, _+_, _-_, _*_, _≤_}
-use mathlib.Core.List.{List, [], _∷_, _++_}
-use mathlib.Core.Path.{_≡_, ap, sym, _∙_, refl}
-use native.Mathlib.Omega.{arith}
+use Rattle.base.proofs.Over.{over-none, behind}
+use Rattle.base.specs.Meaning.{bytes32}
+use Prim.Native.Nat.{_+_, _-_}
+use mathlib.Core.List.{[], _++_}
+use mathlib.Core.Path.{refl}
 use borrow.Author.Needs.{needs}
 use Rattle.layout.proofs.put_entry.Statement.{statement}
 use Rattle.layout.proofs.put_entry.Tie as tie
-use Rattle.layout.proofs.put_entry.Reads as reads
-use Rattle.layout.proofs.put_entry.Lts as lts
-use Rattle.base.proofs.put32.Reads as put32-reads
-use Rattle.layout.proofs.put_metrics.Reads as put-metrics-reads
 
 cast-put32 : tie.Need-cast-put32
 cast-put32 c = search needs

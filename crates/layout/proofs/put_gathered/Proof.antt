@@ -2,22 +2,17 @@
 use borrow.Author.Needs.{needs}
 use native.Mathlib.Omega.{arith}
 use mathlib.Core.Path.{_≡_, refl, sym, _∙_, ap, subst}
-use Prim.Native.Nat.{ℕ, _+_, _-_, _*_, _≤_, _<_}
-use mathlib.Core.List.{List, [], _∷_, _++_}
+use Prim.Native.Nat.{_+_, _-_, _*_, _≤_}
+use mathlib.Core.List.{_++_}
 use lib.ListN.{length, take, drop, length-take, length-drop}
 use Rattle.base.proofs.Written.{Written, begins-as, room, goes-on, ends}
 use native.Mathlib.Nat.{mul-le-mul-right}
-use Rattle.base.specs.Numbers.{le32}
+use Rattle.base.specs.Meaning.{le32}
 use Rattle.entries.specs.Meaning.{entryAt, addressAt}
 use Rattle.layout.specs.Meaning.{gathered}
 use Rattle.layout.proofs.Parts.{gathered-short, gathered-next, gathered-done, part-length, part-said, all-left, next-multiple}
 use Rattle.layout.proofs.put_gathered.Statement.{statement}
 use Rattle.layout.proofs.put_gathered.Tie as tie
-use Rattle.layout.proofs.put_gathered.Reads as reads
-use Rattle.layout.proofs.put_gathered.Lts as lts
-use Rattle.base.proofs.copy.Reads as copy-reads
-use Rattle.base.proofs.get32.Reads as get32-reads
-use Rattle.base.proofs.size.Reads as size-reads
 
 abbrev Inv-loop : tie.InvT-loop
 Inv-loop file f size out₀ i₀ at₀ entry₀ out i at entry =

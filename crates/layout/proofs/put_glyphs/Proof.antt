@@ -1,10 +1,10 @@
 -- `layout::put_glyphs` meets its contract: by the kind. Assumes room, and that each glyph stands in the file.
 use native.Mathlib.Omega.{arith}
-use mathlib.Core.Path.{_≡_, refl, sym, _∙_, ap, subst}
+use mathlib.Core.Path.{sym, _∙_, ap, subst}
 use Prim.Native.Nat.{ℕ, _+_, _*_, _≤_}
 use mathlib.Core.List.{List}
 use lib.ListN.{length, length-take, length-drop}
-use Rattle.base.specs.Over.{over}
+use Rattle.base.specs.Meaning.{over}
 use Rattle.header.specs.declared.Kind.the-variants.{Psf1, Psf2, Vfont2}
 use Rattle.header.specs.Bounds.{Even, Dispatched}
 use Rattle.entries.specs.Meaning.{entryAt, addressAt}
@@ -13,11 +13,6 @@ use Rattle.layout.proofs.Parts.{even-glyphs, glyphs-of}
 use borrow.Author.Needs.{needs}
 use Rattle.layout.proofs.put_glyphs.Statement.{statement}
 use Rattle.layout.proofs.put_glyphs.Tie as tie
-use Rattle.layout.proofs.put_glyphs.Reads as reads
-use Rattle.layout.proofs.put_glyphs.Lts as lts
-use Rattle.base.proofs.copy.Reads as copy-reads
-use Rattle.header.proofs.glyph_bytes.Reads as glyph-bytes-reads
-use Rattle.layout.proofs.put_gathered.Reads as put-gathered-reads
 
 enum-told : tie.Need-enum-told
 enum-told c = search needs

@@ -1,20 +1,15 @@
 -- `layout::put_header` meets its contract: by the kind. Assumes numbers that the header holds, and room.
 use Prim.Native.Nat.{ℕ}
 use mathlib.Core.List.{List}
-use Rattle.base.specs.Over.{over}
+use Rattle.base.specs.Meaning.{over}
 use Rattle.header.specs.declared.Kind.{Kind}
 use Rattle.header.specs.Meaning.{headerBytes}
 use Rattle.layout.proofs.Parts.{psf1-header}
 use native.Mathlib.Omega.{arith}
-use mathlib.Core.Path.{_≡_, refl, sym, _∙_, ap}
+use mathlib.Core.Path.{sym, _∙_, ap}
 use borrow.Author.Needs.{needs}
 use Rattle.layout.proofs.put_header.Statement.{statement}
 use Rattle.layout.proofs.put_header.Tie as tie
-use Rattle.layout.proofs.put_header.Reads as reads
-use Rattle.layout.proofs.put_header.Lts as lts
-use Rattle.header.proofs.Psf1.put_header.Reads as Psf1-put-header-reads
-use Rattle.header.proofs.Psf2.put_header.Reads as Psf2-put-header-reads
-use Rattle.header.proofs.Vfont2.put_header.Reads as Vfont2-put-header-reads
 
 enum-told : tie.Need-enum-told
 enum-told c = search needs

@@ -1,19 +1,13 @@
 -- `layout::put_metrics` meets its contract: five numbers, one behind the other. Assumes nothing.
-use Rattle.layout.specs.Meaning.{metricsBytes, entryBytes}
-use Rattle.base.proofs.Over.{over-none, behind, stores, turn-within, turn-left, turn-over, turn-length, turn-room, all-over}
-use Rattle.base.specs.Numbers.{bytes16, bytes32}
-use Rattle.base.specs.Over.{over}
-use lib.ListN.{length, take, drop, length-set}
-use Prim.Native.Nat.{ℕ, _+_, _-_, _*_, _≤_}
-use mathlib.Core.List.{List, [], _∷_, _++_}
-use mathlib.Core.Path.{_≡_, ap, sym, _∙_, refl}
-use native.Mathlib.Omega.{arith}
+use Rattle.layout.specs.Meaning.{metricsBytes}
+use Rattle.base.proofs.Over.{over-none, behind}
+use Rattle.base.specs.Meaning.{bytes16}
+use Prim.Native.Nat.{_+_, _-_}
+use mathlib.Core.List.{[], _++_}
+use mathlib.Core.Path.{refl}
 use borrow.Author.Needs.{needs}
 use Rattle.layout.proofs.put_metrics.Statement.{statement}
 use Rattle.layout.proofs.put_metrics.Tie as tie
-use Rattle.layout.proofs.put_metrics.Reads as reads
-use Rattle.layout.proofs.put_metrics.Lts as lts
-use Rattle.base.proofs.put16.Reads as put16-reads
 
 cast-put16 : tie.Need-cast-put16
 cast-put16 c = search needs

@@ -1,15 +1,14 @@
 -- `listing::put_numeral` meets its contract: the digits of the number divided, and one more. Assumes nothing.
 use borrow.Author.Needs.{needs}
 use native.Mathlib.Omega.{arith}
-use Prim.Native.Nat.{_/_}
+use Prim.Native.Nat.{_/_, ℕ, _<_}
 use mathlib.Core.List.{[], _∷_, _++_}
-use mathlib.Core.Path.{_≡_, sym, _∙_, ap}
+use mathlib.Core.Path.{sym, _∙_, ap}
 use lib.ListN.{length}
 use Rattle.base.proofs.Over.{length-over}
 use Rattle.listing.proofs.Putting.{put-one, put-more}
 use Rattle.listing.proofs.Digits.{divided, digit-left, numeral-one, numeral-more, length-one, length-more}
-use Rattle.listing.specs.Text.{numeral}
-use Prim.Native.Nat.{ℕ, _<_}
+use Rattle.listing.specs.Meaning.{numeral}
 use borrow.Fn.Kinds.{In}
 use borrow.Fn.PlainCycle.{Measures, is, falls, and}
 use Rattle.listing.proofs.put_numeral.Reads as put-numeral

@@ -1,13 +1,9 @@
 -- `listing::digit` meets its contract: ten digits, then the letters. Assumes nothing.
-use native.Mathlib.Omega.{arith}
 use borrow.Author.Tests.{lt-ltb, le-ltb}
-use Rattle.listing.specs.Text.{digitOf}
-use Rattle.base.specs.Choice.{pick}
+use Rattle.listing.specs.Meaning.{digitOf}
 use borrow.Author.Needs.{needs}
 use Rattle.listing.proofs.digit.Statement.{statement}
 use Rattle.listing.proofs.digit.Tie as tie
-use Rattle.listing.proofs.digit.Reads as reads
-use Rattle.listing.proofs.digit.Lts as lts
 
 add-result : tie.Need-add-result
 add-result c = search needs

@@ -3,14 +3,11 @@ use native.Mathlib.Omega.{arith}
 use Prim.Native.Nat.{ℕ}
 use mathlib.Core.Path.{ap}
 use lib.ListN.{length}
-use Rattle.listing.specs.Text.{numeral}
+use Rattle.listing.specs.Meaning.{numeral}
 use Rattle.listing.proofs.Digits.{hexadecimal-8}
 use borrow.Author.Needs.{needs}
 use Rattle.listing.proofs.item_len.Statement.{statement}
 use Rattle.listing.proofs.item_len.Tie as tie
-use Rattle.listing.proofs.item_len.Reads as reads
-use Rattle.listing.proofs.item_len.Lts as lts
-use Rattle.listing.proofs.numeral_len.Reads as numeral-len-reads
 
 enum-known-i : tie.Need-enum-known-i
 enum-known-i c = search needs

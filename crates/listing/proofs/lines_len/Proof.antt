@@ -1,15 +1,11 @@
 -- `listing::lines_len` meets its contract: the tail's lines, or none. Assumes nothing.
 use native.Mathlib.Omega.{arith}
-use mathlib.Core.Path.{_≡_, sym, _∙_, ap}
-use lib.ListN.{length, length-drop, length-take}
+use mathlib.Core.Path.{sym, _∙_, ap}
+use lib.ListN.{length}
 use Rattle.listing.proofs.Answers.{lines-table, lines-bare}
 use borrow.Author.Needs.{needs}
 use Rattle.listing.proofs.lines_len.Statement.{statement}
 use Rattle.listing.proofs.lines_len.Tie as tie
-use Rattle.listing.proofs.lines_len.Reads as reads
-use Rattle.listing.proofs.lines_len.Lts as lts
-use Rattle.stages.proofs.coding_of.Reads as coding-of-reads
-use Rattle.listing.proofs.table_len.Reads as table-len-reads
 
 coding-of-requires : tie.Need-coding-of-requires
 coding-of-requires c κs = search needs

@@ -1,19 +1,11 @@
 -- `listing::list` meets its contract: a text, the listing of a refused font or that of a sound one. Assumes nothing.
 use native.Mathlib.Omega.{arith}
-use mathlib.Core.Path.{_≡_, sym, _∙_, ap}
+use mathlib.Core.Path.{sym, _∙_, ap}
 use lib.ListN.{length}
 use Rattle.listing.proofs.Answers.{same-text, listing-big, listing-answer}
-use Rattle.listing.specs.Text.{listingOf, answerText}
-use Rattle.header.specs.declared.Checked.the-variants.{Sound, Refused}
 use borrow.Author.Needs.{needs}
 use Rattle.listing.proofs.list.Statement.{statement}
 use Rattle.listing.proofs.list.Tie as tie
-use Rattle.listing.proofs.list.Reads as reads
-use Rattle.listing.proofs.list.Lts as lts
-use Rattle.stages.proofs.check.Reads as check-reads
-use Rattle.listing.proofs.list_font.Reads as list-font-reads
-use Rattle.listing.proofs.list_refused.Reads as list-refused-reads
-use Rattle.listing.proofs.list_text.Reads as list-text-reads
 
 slice-aggregate-list-text : tie.Need-slice-aggregate-list-text
 slice-aggregate-list-text c = search needs

@@ -1,23 +1,17 @@
 -- `listing::list_font` meets its contract: the first line stands in front, and the lines of the table behind it. Assumes nothing.
 use native.Mathlib.Omega.{arith}
-use mathlib.Core.Path.{_≡_, refl, sym, _∙_, ap}
+use mathlib.Core.Path.{sym, _∙_, ap}
 use mathlib.Core.List.{List}
 use Prim.Native.Nat.{ℕ}
 use lib.ListN.{length}
-use Rattle.listing.proofs.Putting.{first-stands, behind-room, behind-stands}
+use Rattle.listing.proofs.Putting.{first-stands, behind-stands}
 use Rattle.listing.proofs.Answers.{no-room-as, wrote, in-front, font-text, font-length}
-use Rattle.listing.specs.Text.{firstLine, linesText, fontText}
-use Rattle.base.specs.Over.{over}
+use Rattle.listing.specs.Meaning.{firstLine}
+use Rattle.listing.specs.Reading.{linesText, fontText}
+use Rattle.base.specs.Meaning.{over}
 use borrow.Author.Needs.{needs}
 use Rattle.listing.proofs.list_font.Statement.{statement}
 use Rattle.listing.proofs.list_font.Tie as tie
-use Rattle.listing.proofs.list_font.Reads as reads
-use Rattle.listing.proofs.list_font.Lts as lts
-use Rattle.base.proofs.copy.Reads as copy-reads
-use Rattle.listing.proofs.lines_len.Reads as lines-len-reads
-use Rattle.listing.proofs.put_first.Reads as put-first-reads
-use Rattle.listing.proofs.put_lines.Reads as put-lines-reads
-use Rattle.refusal.proofs.refuse.Reads as refuse-reads
 
 slice-aggregate-put-first : tie.Need-slice-aggregate-put-first
 slice-aggregate-put-first c = search needs

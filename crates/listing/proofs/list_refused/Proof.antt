@@ -1,16 +1,12 @@
 -- `listing::list_refused` meets its contract: the line is written and listed. Assumes nothing.
 use native.Mathlib.Omega.{arith}
-use mathlib.Core.Path.{_≡_, sym, _∙_, ap}
+use mathlib.Core.Path.{sym, _∙_, ap}
 use lib.ListN.{length}
 use Rattle.listing.proofs.Answers.{same-text, in-front}
-use Rattle.listing.specs.Text.{refusedText}
+use Rattle.listing.specs.Meaning.{refusedText}
 use borrow.Author.Needs.{needs}
 use Rattle.listing.proofs.list_refused.Statement.{statement}
 use Rattle.listing.proofs.list_refused.Tie as tie
-use Rattle.listing.proofs.list_refused.Reads as reads
-use Rattle.listing.proofs.list_refused.Lts as lts
-use Rattle.listing.proofs.list_text.Reads as list-text-reads
-use Rattle.listing.proofs.put_refused.Reads as put-refused-reads
 
 slice-aggregate-put-refused : tie.Need-slice-aggregate-put-refused
 slice-aggregate-put-refused c = search needs

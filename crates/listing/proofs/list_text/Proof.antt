@@ -4,10 +4,6 @@ use Rattle.listing.proofs.Answers.{no-room-as, wrote}
 use borrow.Author.Needs.{needs}
 use Rattle.listing.proofs.list_text.Statement.{statement}
 use Rattle.listing.proofs.list_text.Tie as tie
-use Rattle.listing.proofs.list_text.Reads as reads
-use Rattle.listing.proofs.list_text.Lts as lts
-use Rattle.base.proofs.copy.Reads as copy-reads
-use Rattle.refusal.proofs.refuse.Reads as refuse-reads
 
 refuse-requires : tie.Need-refuse-requires
 refuse-requires c κs = search needs

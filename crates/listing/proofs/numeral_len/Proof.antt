@@ -4,7 +4,7 @@ use mathlib.Core.Path.{_≡_}
 use Prim.Native.Nat.{_+_, _≤_}
 use lib.ListN.{length}
 use Rattle.listing.proofs.Digits.{divided, numeral-64, length-one, length-more}
-use Rattle.listing.specs.Text.{numeral}
+use Rattle.listing.specs.Meaning.{numeral}
 use Rattle.listing.proofs.numeral_len.Statement.{statement}
 use Rattle.listing.proofs.numeral_len.Tie as tie
 

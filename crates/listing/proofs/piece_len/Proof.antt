@@ -7,10 +7,6 @@ use Rattle.listing.proofs.Pieces.{piece-fresh-length, piece-plain}
 use borrow.Author.Needs.{needs}
 use Rattle.listing.proofs.piece_len.Statement.{statement}
 use Rattle.listing.proofs.piece_len.Tie as tie
-use Rattle.listing.proofs.piece_len.Reads as reads
-use Rattle.listing.proofs.piece_len.Lts as lts
-use Rattle.listing.proofs.numeral_len.Reads as numeral-len-reads
-use Rattle.listing.proofs.item_len.Reads as item-len-reads
 
 item-len-requires : tie.Need-item-len-requires
 item-len-requires c κs = search needs

@@ -1,23 +1,18 @@
 -- `listing::put_first` meets its contract: each part stands behind those before it. Assumes nothing.
 use native.Mathlib.Omega.{arith}
-use mathlib.Core.Path.{_≡_, sym, _∙_, ap}
+use mathlib.Core.Path.{sym, _∙_, ap}
 use mathlib.Core.List.{List, _++_}
 use Prim.Native.Nat.{ℕ, _+_, _-_, _≤_}
 use lib.ListN.{length}
 use borrow.Rule.Slice.PartMut.{putMid}
 use Rattle.listing.proofs.Putting.{Stands, first-stands, behind-room, behind-stands}
 use Rattle.listing.proofs.Pieces.{number-21, kind-7, word-6, first-line}
-use Rattle.listing.specs.Text.{kindText, numberText, tableWord, firstLine}
+use Rattle.listing.specs.Meaning.{kindText, numberText, tableWord}
 use Rattle.header.specs.declared.Font.{Font}
-use Rattle.base.specs.Over.{over}
+use Rattle.base.specs.Meaning.{over}
 use borrow.Author.Needs.{needs}
 use Rattle.listing.proofs.put_first.Statement.{statement}
 use Rattle.listing.proofs.put_first.Tie as tie
-use Rattle.listing.proofs.put_first.Reads as reads
-use Rattle.listing.proofs.put_first.Lts as lts
-use Rattle.listing.proofs.put_kind.Reads as put-kind-reads
-use Rattle.listing.proofs.put_number.Reads as put-number-reads
-use Rattle.listing.proofs.put_word.Reads as put-word-reads
 
 -- no part is long
 abbrev Short : Font → Type 0

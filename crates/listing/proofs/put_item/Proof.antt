@@ -3,10 +3,6 @@ use native.Mathlib.Omega.{arith}
 use borrow.Author.Needs.{needs}
 use Rattle.listing.proofs.put_item.Statement.{statement}
 use Rattle.listing.proofs.put_item.Tie as tie
-use Rattle.listing.proofs.put_item.Reads as reads
-use Rattle.listing.proofs.put_item.Lts as lts
-use Rattle.listing.proofs.put_byte.Reads as put-byte-reads
-use Rattle.listing.proofs.put_value.Reads as put-value-reads
 
 enum-known-i : tie.Need-enum-known-i
 enum-known-i c = search needs

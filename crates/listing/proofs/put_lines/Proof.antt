@@ -1,19 +1,15 @@
 -- `listing::put_lines` meets its contract: the tail's lines, or none. Assumes nothing.
 use native.Mathlib.Omega.{arith}
-use mathlib.Core.Path.{_≡_, sym, _∙_, ap}
+use mathlib.Core.Path.{sym, _∙_, ap}
 use mathlib.Core.List.{List}
 use Prim.Native.Nat.{ℕ}
 use lib.ListN.{length}
 use Rattle.listing.proofs.Answers.{lines-table, lines-bare}
 use Rattle.base.proofs.Over.{over-none}
-use Rattle.base.specs.Over.{over}
+use Rattle.base.specs.Meaning.{over}
 use borrow.Author.Needs.{needs}
 use Rattle.listing.proofs.put_lines.Statement.{statement}
 use Rattle.listing.proofs.put_lines.Tie as tie
-use Rattle.listing.proofs.put_lines.Reads as reads
-use Rattle.listing.proofs.put_lines.Lts as lts
-use Rattle.stages.proofs.coding_of.Reads as coding-of-reads
-use Rattle.listing.proofs.put_table.Reads as put-table-reads
 
 coding-of-requires : tie.Need-coding-of-requires
 coding-of-requires c κs = search needs

@@ -1,17 +1,14 @@
 -- `listing::put_number` meets its contract: the digits, and one byte more. Assumes nothing.
 use native.Mathlib.Omega.{arith}
-use mathlib.Core.Path.{_≡_, sym, _∙_, ap}
+use mathlib.Core.Path.{_∙_, ap}
 use lib.ListN.{length}
 use Rattle.base.proofs.Over.{length-over}
 use Rattle.listing.proofs.Putting.{put-more}
 use Rattle.listing.proofs.Pieces.{number-text, number-length}
-use Rattle.listing.specs.Text.{numeral, numberText}
+use Rattle.listing.specs.Meaning.{numeral, numberText}
 use borrow.Author.Needs.{needs}
 use Rattle.listing.proofs.put_number.Statement.{statement}
 use Rattle.listing.proofs.put_number.Tie as tie
-use Rattle.listing.proofs.put_number.Reads as reads
-use Rattle.listing.proofs.put_number.Lts as lts
-use Rattle.listing.proofs.put_numeral.Reads as put-numeral-reads
 
 put-numeral-requires : tie.Need-put-numeral-requires
 put-numeral-requires c κs = let z = number-length (c .before .before .args .n) (c .before .before .args .after) in (omega arith, omega arith, omega arith)

@@ -2,19 +2,16 @@
 use Prim.Native.Nat.{ℕ}
 use native.Mathlib.Omega.{arith}
 use mathlib.Core.List.{List}
-use mathlib.Core.Path.{_≡_, sym, _∙_, ap}
+use mathlib.Core.Path.{sym, _∙_, ap}
 use lib.ListN.{length}
 use Rattle.listing.proofs.Putting.{first-stands, behind-room, behind-stands}
 use Rattle.listing.proofs.Pieces.{piece-fresh, piece-fresh-length, piece-plain}
-use Rattle.listing.specs.Text.{numeral, itemText}
-use Rattle.base.specs.Over.{over}
+use Rattle.listing.specs.Meaning.{numeral}
+use Rattle.listing.specs.Reading.{itemText}
+use Rattle.base.specs.Meaning.{over}
 use borrow.Author.Needs.{needs}
 use Rattle.listing.proofs.put_piece.Statement.{statement}
 use Rattle.listing.proofs.put_piece.Tie as tie
-use Rattle.listing.proofs.put_piece.Reads as reads
-use Rattle.listing.proofs.put_piece.Lts as lts
-use Rattle.listing.proofs.put_numeral.Reads as put-numeral-reads
-use Rattle.listing.proofs.put_item.Reads as put-item-reads
 
 put-numeral-requires : tie.Need-put-numeral-requires
 put-numeral-requires c κs = let e = piece-fresh-length (c .before .before .before .args .fresh) (c .before .before .before .args .g) (c .before .before .before .args .i) (c .before .if1 .taken) in (omega arith, omega arith, omega arith)

@@ -1,22 +1,16 @@
 -- `listing::put_refused` meets its contract: each part stands behind those before it. Assumes nothing.
 use native.Mathlib.Omega.{arith}
-use mathlib.Core.Path.{_≡_, sym, _∙_, ap, refl}
+use mathlib.Core.Path.{_∙_, ap, refl}
 use mathlib.Core.List.{List, [], _∷_, _++_}
 use Prim.Native.Nat.{ℕ}
 use lib.ListN.{length}
 use Rattle.listing.proofs.Putting.{first-stands, behind-room, behind-stands}
 use Rattle.listing.proofs.Pieces.{number-21, refused-text}
-use Rattle.listing.specs.Text.{numberText, refusedText}
-use Rattle.base.specs.Over.{over}
+use Rattle.listing.specs.Meaning.{numberText}
+use Rattle.base.specs.Meaning.{over}
 use borrow.Author.Needs.{needs}
 use Rattle.listing.proofs.put_refused.Statement.{statement}
 use Rattle.listing.proofs.put_refused.Tie as tie
-use Rattle.listing.proofs.put_refused.Reads as reads
-use Rattle.listing.proofs.put_refused.Lts as lts
-use Rattle.base.proofs.size.Reads as size-reads
-use Rattle.listing.proofs.put_number.Reads as put-number-reads
-use Rattle.listing.proofs.put_text.Reads as put-text-reads
-use Rattle.refusal.proofs.number.Reads as number-reads
 
 slice-aggregate-put-text : tie.Need-slice-aggregate-put-text
 slice-aggregate-put-text c = search needs

@@ -3,26 +3,15 @@ use Rattle.listing.proofs.Putting.{Written, written-none, written-all}
 use Rattle.listing.proofs.Pieces.{value-within, value-room, value-next, start-within, start-room, start-next, end-within, end-room, end-next, on-cut, on-bad, on-past, on-all}
 use borrow.Author.Needs.{needs}
 use native.Mathlib.Omega.{arith}
-use mathlib.Core.Path.{_≡_, sym, _∙_, ap}
-use mathlib.Core.List.{List, _++_}
-use mathlib.Core.Bool.{true, false}
-use Prim.Native.Nat.{_+_, _-_, _*_, _≤_}
+use Prim.Native.Nat.{_-_, _≤_}
 use lib.ListN.{length}
-use Rattle.listing.specs.Text.{pieceOf, linesOf, tableText}
-use Rattle.table.specs.Steps.{stepsAt, told, toldAs}
-use Rattle.table.specs.declared.Item.the-variants.{Start, End}
-use Rattle.table.specs.declared.Item.{Item}
-use Rattle.base.specs.Over.{over}
+use Rattle.listing.specs.Reading.{linesOf, tableText}
+use Rattle.table.specs.Reading.{stepsAt, stepItems}
 use Rattle.listing.proofs.put_table.Statement.{statement}
 use Rattle.listing.proofs.put_table.Tie as tie
-use Rattle.listing.proofs.put_table.Reads as reads
-use Rattle.listing.proofs.put_table.Lts as lts
-use Rattle.listing.proofs.put_piece.Reads as put-piece-reads
-use Rattle.table.proofs.told_as.Reads as told-as-reads
-use Rattle.table.proofs.step_at.Reads as step-at-reads
 
 abbrev Inv-loop : tie.InvT-loop
-Inv-loop c tail out₀ g₀ fresh₀ inside₀ n₀ at₀ out g fresh inside n at = (at ≤ length tail) × (g ≤ at) × Written (tableText c tail) out₀ out n (linesOf g fresh (told inside (stepsAt c tail at)))
+Inv-loop c tail out₀ g₀ fresh₀ inside₀ n₀ at₀ out g fresh inside n at = (at ≤ length tail) × (g ≤ at) × Written (tableText c tail) out₀ out n (linesOf g fresh (stepItems inside (stepsAt c tail at)))
 
 abbrev μ-loop : tie.MeasureT-loop
 μ-loop c tail out₀ g₀ fresh₀ inside₀ n₀ at₀ out g fresh inside n at = length tail - at
@@ -36,8 +25,8 @@ step-at-requires c κs = search needs
 enum-known-t : tie.Need-enum-known-t Inv-loop μ-loop
 enum-known-t c = search needs
 
-told-as-requires : tie.Need-told-as-requires Inv-loop μ-loop
-told-as-requires c κs = search needs
+value-item-requires : tie.Need-value-item-requires Inv-loop μ-loop
+value-item-requires c κs = search needs
 
 sub-put-piece : tie.Need-sub-put-piece Inv-loop μ-loop
 sub-put-piece c = search needs
@@ -49,16 +38,16 @@ part-put-piece-end : tie.Need-part-put-piece-end Inv-loop μ-loop
 part-put-piece-end c = search needs
 
 put-piece-requires : tie.Need-put-piece-requires Inv-loop μ-loop
-put-piece-requires c κs = let w = rw (c .before .before .before .t .given .1) at (c .before .before .before .before .before .step-at .ensures .1) in value-room _ _ _ _ _ _ _ _ _ (w .2) (c .before .told-as .ensures) _ _ _ (c .before .before .before .before .before .before .before .loop .inv .2)
+put-piece-requires c κs = let w = rw (c .before .before .before .t .given .1) at (c .before .before .before .before .before .step-at .ensures .1) in value-room _ _ _ _ _ _ _ _ _ (w .2) (c .before .value-item .ensures) _ _ _ (c .before .before .before .before .before .before .before .loop .inv .2)
 
 add-n : tie.Need-add-n Inv-loop μ-loop
-add-n c = let w = rw (c .before .before .before .before .before .before .t .given .1) at (c .before .before .before .before .before .before .before .before .step-at .ensures .1) in let k = value-within _ _ _ _ _ _ _ _ _ (w .2) (c .before .before .before .before .told-as .ensures) _ _ _ (c .before .before .before .before .before .before .before .before .before .before .loop .inv .2) in omega (arith, k, c .before .before .put-piece .ensures .0)
+add-n c = let w = rw (c .before .before .before .before .before .before .t .given .1) at (c .before .before .before .before .before .before .before .before .step-at .ensures .1) in let k = value-within _ _ _ _ _ _ _ _ _ (w .2) (c .before .before .before .before .value-item .ensures) _ _ _ (c .before .before .before .before .before .before .before .before .before .before .loop .inv .2) in omega (arith, k, c .before .before .put-piece .ensures .0)
 
 loop-less : tie.Need-loop-less Inv-loop μ-loop
 loop-less c = let w = rw (c .before .before .before .before .before .before .t .given .1) at (c .before .before .before .before .before .before .before .before .step-at .ensures .1) in omega (arith, w .0, w .1)
 
 loop-again : tie.Need-loop-again Inv-loop μ-loop
-loop-again c = let w = rw (c .before .before .before .before .before .before .t .given .1) at (c .before .before .before .before .before .before .before .before .step-at .ensures .1) in (w .1, omega (arith, w .0), value-next _ _ _ _ _ _ _ _ _ (w .2) (c .before .before .before .before .told-as .ensures) _ _ _ (c .before .before .before .before .before .before .before .before .before .before .loop .inv .2) _ _ (c .before .before .put-piece .ensures))
+loop-again c = let w = rw (c .before .before .before .before .before .before .t .given .1) at (c .before .before .before .before .before .before .before .before .step-at .ensures .1) in (w .1, omega (arith, w .0), value-next _ _ _ _ _ _ _ _ _ (w .2) (c .before .before .before .before .value-item .ensures) _ _ _ (c .before .before .before .before .before .before .before .before .before .before .loop .inv .2) _ _ (c .before .before .put-piece .ensures))
 
 enum-known-t-2 : tie.Need-enum-known-t-2 Inv-loop μ-loop
 enum-known-t-2 c = search needs
@@ -144,7 +133,7 @@ put-table-spec =
     loop-holds
     step-at-requires
     enum-known-t
-    told-as-requires
+    value-item-requires
     sub-put-piece
     part-put-piece-start
     part-put-piece-end

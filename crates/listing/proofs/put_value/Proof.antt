@@ -6,14 +6,10 @@ use lib.ListN.{length}
 use mathlib.Core.List.{[], _∷_}
 use Rattle.listing.proofs.Putting.{first-stands, behind-stands}
 use Rattle.listing.proofs.Pieces.{same-numeral}
-use Rattle.listing.specs.Text.{numeral}
+use Rattle.listing.specs.Meaning.{numeral}
 use borrow.Author.Needs.{needs}
 use Rattle.listing.proofs.put_value.Statement.{statement}
 use Rattle.listing.proofs.put_value.Tie as tie
-use Rattle.listing.proofs.put_value.Reads as reads
-use Rattle.listing.proofs.put_value.Lts as lts
-use Rattle.listing.proofs.put_byte.Reads as put-byte-reads
-use Rattle.listing.proofs.put_numeral.Reads as put-numeral-reads
 
 put-byte-requires : tie.Need-put-byte-requires
 put-byte-requires c κs = search needs

@@ -2,22 +2,16 @@
 use Rattle.listing.proofs.Pieces.{value-length, start-length, end-length, on-cut, on-bad, on-past, on-all, length-none}
 use borrow.Author.Needs.{needs}
 use native.Mathlib.Omega.{arith}
-use mathlib.Core.Path.{_≡_, sym, _∙_, ap}
+use mathlib.Core.Path.{_≡_, ap}
 use Prim.Native.Nat.{_+_, _-_, _*_, _≤_}
 use lib.ListN.{length}
-use Rattle.listing.specs.Text.{pieceOf, linesOf, tableText}
-use Rattle.table.specs.Steps.{stepsAt, told}
-use Rattle.table.specs.declared.Item.{Item}
+use Rattle.listing.specs.Reading.{linesOf, tableText}
+use Rattle.table.specs.Reading.{stepsAt, stepItems}
 use Rattle.listing.proofs.table_len.Statement.{statement}
 use Rattle.listing.proofs.table_len.Tie as tie
-use Rattle.listing.proofs.table_len.Reads as reads
-use Rattle.listing.proofs.table_len.Lts as lts
-use Rattle.listing.proofs.piece_len.Reads as piece-len-reads
-use Rattle.table.proofs.told_as.Reads as told-as-reads
-use Rattle.table.proofs.step_at.Reads as step-at-reads
 
 abbrev Inv-loop : tie.InvT-loop
-Inv-loop c tail g₀ fresh₀ inside₀ n₀ at₀ g fresh inside n at = (at ≤ length tail) × (length tail ≤ 65536) × (g ≤ at) × (n ≤ 14 * at) × (n + length (linesOf g fresh (told inside (stepsAt c tail at))) ≡ length (tableText c tail))
+Inv-loop c tail g₀ fresh₀ inside₀ n₀ at₀ g fresh inside n at = (at ≤ length tail) × (length tail ≤ 65536) × (g ≤ at) × (n ≤ 14 * at) × (n + length (linesOf g fresh (stepItems inside (stepsAt c tail at))) ≡ length (tableText c tail))
 
 abbrev μ-loop : tie.MeasureT-loop
 μ-loop c tail g₀ fresh₀ inside₀ n₀ at₀ g fresh inside n at = length tail - at
@@ -31,8 +25,8 @@ step-at-requires c κs = search needs
 enum-known-t : tie.Need-enum-known-t Inv-loop μ-loop
 enum-known-t c = search needs
 
-told-as-requires : tie.Need-told-as-requires Inv-loop μ-loop
-told-as-requires c κs = search needs
+value-item-requires : tie.Need-value-item-requires Inv-loop μ-loop
+value-item-requires c κs = search needs
 
 piece-len-requires : tie.Need-piece-len-requires Inv-loop μ-loop
 piece-len-requires c κs = search needs
@@ -46,7 +40,7 @@ loop-less c = let w = rw (c .before .before .before .t .given .1) at (c .before 
 loop-again : tie.Need-loop-again Inv-loop μ-loop
 loop-again c = let w = rw (c .before .before .before .t .given .1) at (c .before .before .before .before .before .step-at .ensures .1) in
     let k = c .piece-len .ensures .1 (omega arith) in
-    (w .1, c .before .before .before .before .before .before .before .loop .inv .1, omega (arith, w .0), omega (arith, w .0, k), value-length _ _ _ _ _ _ _ _ _ (w .2) (c .before .told-as .ensures) _ _ (c .piece-len .ensures .0) (c .before .before .before .before .before .before .before .loop .inv .4))
+    (w .1, c .before .before .before .before .before .before .before .loop .inv .1, omega (arith, w .0), omega (arith, w .0, k), value-length _ _ _ _ _ _ _ _ _ (w .2) (c .before .value-item .ensures) _ _ (c .piece-len .ensures .0) (c .before .before .before .before .before .before .before .loop .inv .4))
 
 enum-known-t-2 : tie.Need-enum-known-t-2 Inv-loop μ-loop
 enum-known-t-2 c = search needs
@@ -109,7 +103,7 @@ table-len-spec =
     loop-holds
     step-at-requires
     enum-known-t
-    told-as-requires
+    value-item-requires
     piece-len-requires
     add-n
     loop-less

@@ -5,16 +5,16 @@ use native.Mathlib.Omega.{arith}
 use lib.ListN.{length, drop}
 use borrow.Author.Needs.{needs}
 use denote.Ref.{now}
-use Rattle.table.specs.Steps.{stepsAt, told, itemsIn}
+use Rattle.table.specs.Reading.{stepsAt, stepItems, itemsIn}
 use Rattle.table.proofs.Telling.{told-value, told-start, told-end, told-cut, told-bad, told-past}
-use Rattle.lookup.specs.Lookup.{seek, findSequence}
+use Rattle.lookup.specs.Reading.{findSequenceFrom, findSequence}
 use Rattle.lookup.proofs.Turns.{seek-single, seek-value, whole-start, other-start, whole-end, other-end, seek-none}
 use Rattle.lookup.proofs.find_sequence.Statement.{statement}
 use Rattle.lookup.proofs.find_sequence.Tie as tie
 
 abbrev Inv-loop : tie.InvT-loop
 Inv-loop c tail vs g₀ inside₀ alike₀ m₀ at₀ g inside alike m at =
-    (at ≤ length tail) × (g ≤ at) × (m ≤ at) × (seek vs g alike (drop m vs) (told inside (stepsAt c tail at)) ≡ findSequence vs (itemsIn c tail))
+    (at ≤ length tail) × (g ≤ at) × (m ≤ at) × (findSequenceFrom vs g alike (drop m vs) (stepItems inside (stepsAt c tail at)) ≡ findSequence vs (itemsIn c tail))
 
 abbrev μ-loop : tie.MeasureT-loop
 μ-loop c tail vs g₀ inside₀ alike₀ m₀ at₀ g inside alike m at = length tail - at
@@ -46,7 +46,7 @@ loop-again c =
       w .1,
       omega (arith, w .0),
       omega (arith, w .0),
-      sym (ap (seek _ _ _ _) (told-value _ _ _ _ _ (w .2)) ∙ seek-value s _ _ (l .m) _ _ _ _ (c .before .if1 .taken) (c .goes-on .ensures))
+      sym (ap (findSequenceFrom _ _ _ _) (told-value _ _ _ _ _ (w .2)) ∙ seek-value s _ _ (l .m) _ _ _ _ (c .before .if1 .taken) (c .goes-on .ensures))
           ∙ l .inv .3,
     )
 
@@ -62,7 +62,7 @@ loop-again-2 c =
       w .1,
       omega (arith, w .0),
       omega (arith, w .0),
-      sym (ap (seek _ _ _ _) (told-value _ _ _ _ _ (w .2)) ∙ seek-single s _ _ (l .m) _ _ _ (c .if1 .left))
+      sym (ap (findSequenceFrom _ _ _ _) (told-value _ _ _ _ _ (w .2)) ∙ seek-single s _ _ (l .m) _ _ _ (c .if1 .left))
           ∙ l .inv .3,
     )
 
@@ -77,7 +77,7 @@ returns c =
     let w = rw (c .before .before .before .t2 .given .1) at (c .before .before .before .before .before .next-step .ensures .1) in
     let l = c .before .before .before .before .before .before .before .loop in
     let s = c .before .before .before .before .before .before .before .before .before .before .args .vs .now in
-    sym (ap (seek _ _ _ _) (told-start _ _ _ _ (w .2)) ∙ whole-start s _ _ (l .m) _ _ (c .before .is-whole .ensures) (c .if2 .taken))
+    sym (ap (findSequenceFrom _ _ _ _) (told-start _ _ _ _ (w .2)) ∙ whole-start s _ _ (l .m) _ _ (c .before .is-whole .ensures) (c .if2 .taken))
     ∙ l .inv .3
 
 loop-less-3 : tie.Need-loop-less-3 Inv-loop μ-loop
@@ -92,7 +92,7 @@ loop-again-3 c =
       w .1,
       omega (arith, w .0),
       omega arith,
-      sym (ap (seek _ _ _ _) (told-start _ _ _ _ (w .2)) ∙ other-start s _ _ (l .m) _ _ (c .before .is-whole .ensures) (c .if2 .left))
+      sym (ap (findSequenceFrom _ _ _ _) (told-start _ _ _ _ (w .2)) ∙ other-start s _ _ (l .m) _ _ (c .before .is-whole .ensures) (c .if2 .left))
           ∙ l .inv .3,
     )
 
@@ -107,7 +107,7 @@ returns-2 c =
     let w = rw (c .before .before .before .t3 .given .1) at (c .before .before .before .before .before .next-step .ensures .1) in
     let l = c .before .before .before .before .before .before .before .loop in
     let s = c .before .before .before .before .before .before .before .before .before .before .args .vs .now in
-    sym (ap (seek _ _ _ _) (told-end _ _ _ _ (w .2)) ∙ whole-end s _ _ (l .m) _ _ (c .before .is-whole2 .ensures) (c .if3 .taken))
+    sym (ap (findSequenceFrom _ _ _ _) (told-end _ _ _ _ (w .2)) ∙ whole-end s _ _ (l .m) _ _ (c .before .is-whole2 .ensures) (c .if3 .taken))
     ∙ l .inv .3
 
 add-g : tie.Need-add-g Inv-loop μ-loop
@@ -125,7 +125,7 @@ loop-again-4 c =
       w .1,
       omega (arith, w .0),
       omega (arith, w .0),
-      sym (ap (seek _ _ _ _) (told-end _ _ _ _ (w .2)) ∙ other-end s _ _ (l .m) _ _ (c .before .is-whole2 .ensures) (c .if3 .left))
+      sym (ap (findSequenceFrom _ _ _ _) (told-end _ _ _ _ (w .2)) ∙ other-end s _ _ (l .m) _ _ (c .before .is-whole2 .ensures) (c .if3 .left))
           ∙ l .inv .3,
     )
 
@@ -135,7 +135,7 @@ enum-told c = search needs
 returns-3 : tie.Need-returns-3 Inv-loop μ-loop
 returns-3 c =
     let w = rw (c .enum-told .given .1) at (c .before .before .next-step .ensures .1) in
-    sym (ap (seek _ _ _ _) (told-cut _ _ _ (w (omega arith))) ∙ seek-none _ _ _ _)
+    sym (ap (findSequenceFrom _ _ _ _) (told-cut _ _ _ (w (omega arith))) ∙ seek-none _ _ _ _)
     ∙ c .before .before .before .before .loop .inv .3
 
 enum-told-2 : tie.Need-enum-told-2 Inv-loop μ-loop
@@ -144,11 +144,11 @@ enum-told-2 c = search needs
 returns-4 : tie.Need-returns-4 Inv-loop μ-loop
 returns-4 c =
     let w = rw (c .enum-told2 .given .1) at (c .before .before .next-step .ensures .1) in
-    sym (ap (seek _ _ _ _) (told-bad _ _ _ _ (w .2)) ∙ seek-none _ _ _ _) ∙ c .before .before .before .before .loop .inv .3
+    sym (ap (findSequenceFrom _ _ _ _) (told-bad _ _ _ _ (w .2)) ∙ seek-none _ _ _ _) ∙ c .before .before .before .before .loop .inv .3
 
 returns-5 : tie.Need-returns-5 Inv-loop μ-loop
 returns-5 c =
-    sym (ap (seek _ _ _ _) (told-past _ _ _ _ (c .loop-test .left)) ∙ seek-none _ _ _ _) ∙ c .before .loop .inv .3
+    sym (ap (findSequenceFrom _ _ _ _) (told-past _ _ _ _ (c .loop-test .left)) ∙ seek-none _ _ _ _) ∙ c .before .loop .inv .3
 
 pub find-sequence-spec : {M : Type 1} → statement M
 find-sequence-spec =

@@ -4,16 +4,16 @@ use Prim.Native.Nat.{_-_, _≤_}
 use native.Mathlib.Omega.{arith}
 use lib.ListN.{length}
 use borrow.Author.Needs.{needs}
-use Rattle.table.specs.Steps.{stepsAt, told, itemsIn}
+use Rattle.table.specs.Reading.{stepsAt, stepItems, itemsIn}
 use Rattle.table.proofs.Telling.{told-value, told-start, told-end, told-cut, told-bad, told-past}
-use Rattle.lookup.specs.Lookup.{findValue}
+use Rattle.lookup.specs.Reading.{findValue}
 use Rattle.lookup.proofs.Turns.{hit, miss, pass, value-start, value-end, value-none}
 use Rattle.lookup.proofs.find_value.Statement.{statement}
 use Rattle.lookup.proofs.find_value.Tie as tie
 
 abbrev Inv-loop : tie.InvT-loop
 Inv-loop c tail v g₀ inside₀ at₀ g inside at =
-    (at ≤ length tail) × (g ≤ at) × (findValue v g (told inside (stepsAt c tail at)) ≡ findValue v 0 (itemsIn c tail))
+    (at ≤ length tail) × (g ≤ at) × (findValue v g (stepItems inside (stepsAt c tail at)) ≡ findValue v 0 (itemsIn c tail))
 
 abbrev μ-loop : tie.MeasureT-loop
 μ-loop c tail v g₀ inside₀ at₀ g inside at = length tail - at

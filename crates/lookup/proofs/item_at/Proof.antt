@@ -4,17 +4,17 @@ use Prim.Native.Nat.{_-_, _≤_}
 use native.Mathlib.Omega.{arith}
 use lib.ListN.{length}
 use borrow.Author.Needs.{needs}
-use Rattle.table.specs.Steps.{stepsAt, told, itemsIn}
+use Rattle.table.specs.Reading.{stepsAt, stepItems, itemsIn}
 use Rattle.table.proofs.Telling.{told-value, told-start, told-end, told-cut, told-bad, told-past}
 use Rattle.lookup.specs.declared.Walked.the-variants.{Found}
-use Rattle.lookup.specs.Lookup.{itemAt}
+use Rattle.lookup.specs.Reading.{itemAt}
 use Rattle.lookup.proofs.Turns.{inner-told, item-here, item-next, item-past, no-item, glyph-past, item-none}
 use Rattle.lookup.proofs.item_at.Statement.{statement}
 use Rattle.lookup.proofs.item_at.Tie as tie
 
 abbrev Inv-loop : tie.InvT-loop
 Inv-loop c tail g k glyphs₀ left₀ inside₀ at₀ glyphs left inside at =
-    (at ≤ length tail) × (itemAt glyphs left (told inside (stepsAt c tail at)) ≡ itemAt g k (itemsIn c tail))
+    (at ≤ length tail) × (itemAt glyphs left (stepItems inside (stepsAt c tail at)) ≡ itemAt g k (itemsIn c tail))
 
 abbrev μ-loop : tie.MeasureT-loop
 μ-loop c tail g k glyphs₀ left₀ inside₀ at₀ glyphs left inside at = length tail - at
@@ -28,13 +28,13 @@ next-step-requires c κs = search needs
 enum-known-t : tie.Need-enum-known-t Inv-loop μ-loop
 enum-known-t c = search needs
 
-told-as-requires : tie.Need-told-as-requires Inv-loop μ-loop
-told-as-requires c κs = search needs
+value-item-requires : tie.Need-value-item-requires Inv-loop μ-loop
+value-item-requires c κs = search needs
 
 returns : tie.Need-returns Inv-loop μ-loop
 returns c =
     let w = rw (c .before .before .before .before .t .given .1) at (c .before .before .before .before .before .before .next-step .ensures .1) in
-    ap Found (c .told-as .ensures)
+    ap Found (c .value-item .ensures)
     ∙ sym (ap (itemAt _ _) (told-value _ _ _ _ _ (w .2)) ∙ item-here _ _ _ _ (c .before .before .if1 .taken) (c .before .if2 .taken))
     ∙ c .before .before .before .before .before .before .before .before .loop .inv .1
 
@@ -164,7 +164,7 @@ item-at-spec =
     loop-holds
     next-step-requires
     enum-known-t
-    told-as-requires
+    value-item-requires
     returns
     sub-left
     loop-less

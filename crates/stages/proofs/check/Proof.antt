@@ -1,15 +1,10 @@
 -- `stages::check` meets its contract: the stages before, then one more. Assumes nothing.
 use native.Mathlib.Omega.{arith}
-use mathlib.Core.Path.{_≡_, refl, sym, _∙_, ap}
-use Rattle.header.specs.declared.Checked.the-variants.{Sound, Refused}
+use mathlib.Core.Path.{sym, _∙_}
 use Rattle.stages.proofs.Cases as cases
 use borrow.Author.Needs.{needs}
 use Rattle.stages.proofs.check.Statement.{statement}
 use Rattle.stages.proofs.check.Tie as tie
-use Rattle.stages.proofs.check.Reads as reads
-use Rattle.stages.proofs.check.Lts as lts
-use Rattle.stages.proofs.check_dispatched.Reads as check-dispatched-reads
-use Rattle.stages.proofs.check_tail.Reads as check-tail-reads
 
 check-dispatched-requires : tie.Need-check-dispatched-requires
 check-dispatched-requires c κs = search needs

@@ -1,16 +1,11 @@
 -- `stages::check_body` meets its contract: its size, what its header says, its length. Assumes nothing.
 use native.Mathlib.Omega.{arith}
-use mathlib.Core.Path.{_≡_, refl, sym, _∙_, ap}
-use Rattle.header.specs.declared.Checked.the-variants.{Sound, Refused}
+use mathlib.Core.Path.{sym, _∙_, ap}
+use Rattle.header.specs.declared.Checked.the-variants.{Refused}
 use Rattle.stages.proofs.Cases as cases
 use borrow.Author.Needs.{needs}
 use Rattle.stages.proofs.check_body.Statement.{statement}
 use Rattle.stages.proofs.check_body.Tie as tie
-use Rattle.stages.proofs.check_body.Reads as reads
-use Rattle.stages.proofs.check_body.Lts as lts
-use Rattle.header.proofs.says.Reads as says-reads
-use Rattle.refusal.proofs.refuse.Reads as refuse-reads
-use Rattle.stages.proofs.check_length.Reads as check-length-reads
 
 refuse-requires : tie.Need-refuse-requires
 refuse-requires c κs = search needs

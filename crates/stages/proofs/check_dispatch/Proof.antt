@@ -1,8 +1,8 @@
 -- `stages::check_dispatch` meets its contract: what all entries say. Assumes `Placed`, of a vfont2 font.
 use native.Mathlib.Omega.{arith}
-use mathlib.Core.Path.{_≡_, refl, sym, _∙_, ap, subst}
+use mathlib.Core.Path.{sym, _∙_, ap, subst}
 use Prim.Native.Nat.{_≤_}
-use Rattle.header.specs.declared.Checked.the-variants.{Sound, Refused}
+use Rattle.header.specs.declared.Checked.the-variants.{Refused}
 use Rattle.header.specs.declared.Kind.{Kind}
 use Rattle.header.specs.Bounds.{KindPlaced}
 use Rattle.entries.proofs.Meaning.{scan-broken}
@@ -10,11 +10,6 @@ use Rattle.stages.specs.Reading.{scanned}
 use borrow.Author.Needs.{needs}
 use Rattle.stages.proofs.check_dispatch.Statement.{statement}
 use Rattle.stages.proofs.check_dispatch.Tie as tie
-use Rattle.stages.proofs.check_dispatch.Reads as reads
-use Rattle.stages.proofs.check_dispatch.Lts as lts
-use Rattle.entries.proofs.scan_entries.Reads as scan-entries-reads
-use Rattle.refusal.proofs.refuse.Reads as refuse-reads
-use Rattle.stages.proofs.check_greatest.Reads as check-greatest-reads
 
 scan-entries-requires : tie.Need-scan-entries-requires
 scan-entries-requires c κs = let p = c .before .pre .0 in let d = subst (λ (k : Kind). KindPlaced (c .before .args .f) k) (c .before .pre .1) (p .8) in omega (arith, d .0, p .6, p .7)

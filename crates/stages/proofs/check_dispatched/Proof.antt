@@ -1,15 +1,10 @@
 -- `stages::check_dispatched` meets its contract: the stages before, then one more. Assumes nothing.
 use native.Mathlib.Omega.{arith}
-use mathlib.Core.Path.{_≡_, refl, sym, _∙_, ap}
-use Rattle.header.specs.declared.Checked.the-variants.{Sound, Refused}
+use mathlib.Core.Path.{sym, _∙_}
 use Rattle.stages.proofs.Cases as cases
 use borrow.Author.Needs.{needs}
 use Rattle.stages.proofs.check_dispatched.Statement.{statement}
 use Rattle.stages.proofs.check_dispatched.Tie as tie
-use Rattle.stages.proofs.check_dispatched.Reads as reads
-use Rattle.stages.proofs.check_dispatched.Lts as lts
-use Rattle.stages.proofs.check_body.Reads as check-body-reads
-use Rattle.stages.proofs.check_entries.Reads as check-entries-reads
 
 check-body-requires : tie.Need-check-body-requires
 check-body-requires c κs = search needs

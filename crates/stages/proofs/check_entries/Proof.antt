@@ -1,14 +1,10 @@
 -- `stages::check_entries` meets its contract: by the kind. Assumes `Placed`.
-use native.Mathlib.Omega.{arith}
-use mathlib.Core.Path.{_≡_, refl, sym, _∙_, ap}
+use mathlib.Core.Path.{_∙_}
 use Rattle.stages.proofs.Cases as cases
 use Rattle.header.specs.declared.Kind.the-variants.{Psf1, Psf2, Vfont2}
 use borrow.Author.Needs.{needs}
 use Rattle.stages.proofs.check_entries.Statement.{statement}
 use Rattle.stages.proofs.check_entries.Tie as tie
-use Rattle.stages.proofs.check_entries.Reads as reads
-use Rattle.stages.proofs.check_entries.Lts as lts
-use Rattle.stages.proofs.check_dispatch.Reads as check-dispatch-reads
 
 enum-told : tie.Need-enum-told
 enum-told c = search needs

@@ -1,23 +1,18 @@
 -- `stages::check_font_table` meets its contract: the table reader's answer on the tail, with places moved to the file. Assumes `Placed`.
 use native.Mathlib.Omega.{arith}
-use mathlib.Core.Path.{_≡_, refl, sym, _∙_, ap}
-use Rattle.header.specs.declared.Checked.the-variants.{Sound, Refused}
+use mathlib.Core.Path.{_≡_, _∙_, ap}
+use Rattle.header.specs.declared.Checked.the-variants.{Refused}
 use Prim.Native.Nat.{_+_, _-_, _≤_}
 use lib.ListN.{length, take, drop}
 use denote.Ref.{now}
 use Rattle.base.proofs.Parts.{rest-all, bytes-of}
-use Rattle.table.specs.Check.{tableOf, placeOf}
+use Rattle.table.specs.Reading.{tableOf, tablePlace}
 use Rattle.stages.specs.Meaning.{codingOf, tailOf}
 use Rattle.stages.specs.Reading.{answered}
 use Rattle.stages.proofs.Cases.{place-fits}
 use borrow.Author.Needs.{needs}
 use Rattle.stages.proofs.check_font_table.Statement.{statement}
 use Rattle.stages.proofs.check_font_table.Tie as tie
-use Rattle.stages.proofs.check_font_table.Reads as reads
-use Rattle.stages.proofs.check_font_table.Lts as lts
-use Rattle.refusal.proofs.refuse.Reads as refuse-reads
-use Rattle.stages.proofs.coding_of.Reads as coding-of-reads
-use Rattle.table.proofs.check_table.Reads as check-table-reads
 
 told : (c : tie.After-check-table) → c .check-table .result ≡ tableOf (codingOf (c .before .before .before .before .args .f .kind)) (c .before .before .before .before .args .f .count) (tailOf (now (c .before .before .before .before .args .file)) (c .before .before .before .before .args .f))
 told c =
@@ -25,7 +20,7 @@ told c =
     let e : c .check-table .result ≡ tableOf (c .before .before .coding-of .result) (c .before .before .before .before .args .f .count) (take (length s - c .before .before .before .before .args .f .end) (drop (c .before .before .before .before .args .f .end) s)) = c .check-table .ensures in
     e ∙ rw (rest-all s (c .before .before .before .before .args .f .end), c .before .before .coding-of .ensures)
 
-fits : (c : tie.After-check-table) → c .before .before .before .before .args .f .end + placeOf (c .check-table .result) ≤ length (now (c .before .before .before .before .args .file))
+fits : (c : tie.After-check-table) → c .before .before .before .before .args .f .end + tablePlace (c .check-table .result) ≤ length (now (c .before .before .before .before .args .file))
 fits c = rw (told c) (place-fits (now (c .before .before .before .before .args .file)) (c .before .before .before .before .args .f) (bytes-of (now (c .before .before .before .before .args .file)) (c .before .before .before .shared-slice-known .given)) (c .before .before .before .before .pre) (codingOf (c .before .before .before .before .args .f .kind)))
 
 coding-of-requires : tie.Need-coding-of-requires

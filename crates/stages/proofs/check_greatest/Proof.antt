@@ -1,14 +1,11 @@
 -- `stages::check_greatest` meets its contract: each return is one case of the definition. Assumes nothing.
 use native.Mathlib.Omega.{arith}
-use mathlib.Core.Path.{_≡_, refl, sym, _∙_, ap}
-use Rattle.header.specs.declared.Checked.the-variants.{Sound, Refused}
+use mathlib.Core.Path.{_∙_, ap}
+use Rattle.header.specs.declared.Checked.the-variants.{Refused}
 use Rattle.stages.proofs.Cases as cases
 use borrow.Author.Needs.{needs}
 use Rattle.stages.proofs.check_greatest.Statement.{statement}
 use Rattle.stages.proofs.check_greatest.Tie as tie
-use Rattle.stages.proofs.check_greatest.Reads as reads
-use Rattle.stages.proofs.check_greatest.Lts as lts
-use Rattle.refusal.proofs.refuse.Reads as refuse-reads
 
 refuse-requires : tie.Need-refuse-requires
 refuse-requires c κs = search needs

@@ -1,14 +1,11 @@
 -- `stages::check_length` meets its contract: both cases. Assumes nothing.
 use native.Mathlib.Omega.{arith}
-use mathlib.Core.Path.{_≡_, refl, sym, _∙_, ap}
-use Rattle.header.specs.declared.Checked.the-variants.{Sound, Refused}
+use mathlib.Core.Path.{_∙_, ap}
+use Rattle.header.specs.declared.Checked.the-variants.{Refused}
 use Rattle.stages.proofs.Cases as cases
 use borrow.Author.Needs.{needs}
 use Rattle.stages.proofs.check_length.Statement.{statement}
 use Rattle.stages.proofs.check_length.Tie as tie
-use Rattle.stages.proofs.check_length.Reads as reads
-use Rattle.stages.proofs.check_length.Lts as lts
-use Rattle.refusal.proofs.refuse.Reads as refuse-reads
 
 refuse-requires : tie.Need-refuse-requires
 refuse-requires c κs = search needs

@@ -1,15 +1,10 @@
 -- `stages::check_tail` meets its contract: the table's answer, or that nothing follows the bitmaps. Assumes `Placed`.
-use native.Mathlib.Omega.{arith}
-use mathlib.Core.Path.{_≡_, refl, sym, _∙_, ap}
-use Rattle.header.specs.declared.Checked.the-variants.{Sound, Refused}
+use mathlib.Core.Path.{_∙_, ap}
+use Rattle.header.specs.declared.Checked.the-variants.{Refused}
 use Rattle.stages.proofs.Cases as cases
 use borrow.Author.Needs.{needs}
 use Rattle.stages.proofs.check_tail.Statement.{statement}
 use Rattle.stages.proofs.check_tail.Tie as tie
-use Rattle.stages.proofs.check_tail.Reads as reads
-use Rattle.stages.proofs.check_tail.Lts as lts
-use Rattle.refusal.proofs.refuse.Reads as refuse-reads
-use Rattle.stages.proofs.check_font_table.Reads as check-font-table-reads
 
 check-font-table-requires : tie.Need-check-font-table-requires
 check-font-table-requires c κs = search needs

@@ -4,8 +4,7 @@ use Prim.Native.Nat.{_-_, _≤_}
 use native.Mathlib.Omega.{arith}
 use lib.ListN.{length}
 use borrow.Author.Needs.{needs}
-use Rattle.table.specs.Steps.{stepsAt}
-use Rattle.table.specs.Check.{checkSteps, tableOf}
+use Rattle.table.specs.Reading.{stepsAt, checkSteps, tableOf}
 use Rattle.table.proofs.Checking.{value, start, start-bad, end, end-bad, cut, bad, begun, trailing, complete, cut-off}
 use Rattle.table.proofs.check_table.Statement.{statement}
 use Rattle.table.proofs.check_table.Tie as tie

@@ -2,10 +2,6 @@
 use borrow.Author.Needs.{needs}
 use Rattle.table.proofs.next_step.Statement.{statement}
 use Rattle.table.proofs.next_step.Tie as tie
-use Rattle.table.proofs.next_step.Reads as reads
-use Rattle.table.proofs.next_step.Lts as lts
-use Rattle.table.proofs.ucs2_step.Reads as ucs2-step-reads
-use Rattle.table.proofs.utf8_next.Reads as utf8-next-reads
 
 enum-told : tie.Need-enum-told
 enum-told c = search needs

@@ -2,10 +2,6 @@
 use borrow.Author.Needs.{needs}
 use Rattle.table.proofs.step_at.Statement.{statement}
 use Rattle.table.proofs.step_at.Tie as tie
-use Rattle.table.proofs.step_at.Reads as reads
-use Rattle.table.proofs.step_at.Lts as lts
-use Rattle.table.proofs.ucs2_step.Reads as ucs2-step-reads
-use Rattle.table.proofs.utf8_step.Reads as utf8-step-reads
 
 enum-told : tie.Need-enum-told
 enum-told c = search needs

@@ -1,11 +1,8 @@
 -- `table::step_of` meets its contract: each token's step. Assumes nothing but that the place fits.
 use native.Mathlib.Omega.{arith}
-use mathlib.Core.Path.{_≡_}
 use borrow.Author.Needs.{needs}
 use Rattle.table.proofs.step_of.Statement.{statement}
 use Rattle.table.proofs.step_of.Tie as tie
-use Rattle.table.proofs.step_of.Reads as reads
-use Rattle.table.proofs.step_of.Lts as lts
 
 enum-known-t : tie.Need-enum-known-t
 enum-known-t c = search needs

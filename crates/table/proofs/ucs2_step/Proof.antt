@@ -3,15 +3,11 @@ use native.Mathlib.Omega.{arith}
 use denote.Ref.{now}
 use Rattle.coding.specs.declared.Coding.the-variants.{Ucs2}
 use Rattle.table.proofs.Firsts.{ucs2-step, fits, stepped}
-use Rattle.table.specs.Steps.{stepOf}
+use Rattle.table.specs.Reading.{stepOf}
 use Rattle.table.proofs.Stepping.{past-end}
 use borrow.Author.Needs.{needs}
 use Rattle.table.proofs.ucs2_step.Statement.{statement}
 use Rattle.table.proofs.ucs2_step.Tie as tie
-use Rattle.table.proofs.ucs2_step.Reads as reads
-use Rattle.table.proofs.ucs2_step.Lts as lts
-use Rattle.table.proofs.step_of.Reads as step-of-reads
-use Rattle.ucs2.proofs.read_ucs2.Reads as read-ucs2-reads
 
 returns : tie.Need-returns
 returns c = past-end _ _ _ (c .if1 .taken)

@@ -1,5 +1,5 @@
 -- `table::utf8_next` meets its contract: the first byte decides the step, or it is a value's. Assumes nothing.
-use mathlib.Core.Path.{_≡_, sym, _∙_}
+use mathlib.Core.Path.{sym, _∙_}
 use native.Mathlib.Omega.{arith}
 use denote.Ref.{now}
 use Rattle.table.proofs.Firsts.{first-one, first-start, first-end, value-step}
@@ -7,10 +7,6 @@ use Rattle.table.proofs.Stepping.{past-end}
 use borrow.Author.Needs.{needs}
 use Rattle.table.proofs.utf8_next.Statement.{statement}
 use Rattle.table.proofs.utf8_next.Tie as tie
-use Rattle.table.proofs.utf8_next.Reads as reads
-use Rattle.table.proofs.utf8_next.Lts as lts
-use Rattle.base.proofs.wide.Reads as wide-reads
-use Rattle.utf8.proofs.read_value.Reads as read-value-reads
 
 returns : tie.Need-returns
 returns c = past-end _ _ _ (c .if1 .taken)

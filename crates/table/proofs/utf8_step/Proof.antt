@@ -3,15 +3,11 @@ use native.Mathlib.Omega.{arith}
 use denote.Ref.{now}
 use Rattle.coding.specs.declared.Coding.the-variants.{Utf8}
 use Rattle.table.proofs.Firsts.{utf8-step, fits, stepped}
-use Rattle.table.specs.Steps.{stepOf}
+use Rattle.table.specs.Reading.{stepOf}
 use Rattle.table.proofs.Stepping.{past-end}
 use borrow.Author.Needs.{needs}
 use Rattle.table.proofs.utf8_step.Statement.{statement}
 use Rattle.table.proofs.utf8_step.Tie as tie
-use Rattle.table.proofs.utf8_step.Reads as reads
-use Rattle.table.proofs.utf8_step.Lts as lts
-use Rattle.table.proofs.step_of.Reads as step-of-reads
-use Rattle.utf8.proofs.read_utf8.Reads as read-utf8-reads
 
 returns : tie.Need-returns
 returns c = past-end _ _ _ (c .if1 .taken)

@@ -1,22 +1,16 @@
 -- `transcode::table_len` meets its contract: the steps from the place on give at each turn what all steps give. Assumes nothing.
 use Rattle.transcode.proofs.Turns.{value-more, value-not, start-more, end-more, cut-no-more, bad-no-more, past-no-more, length-from}
-use Rattle.transcode.specs.Transcode.{recoded, measure, tableLen}
+use Rattle.transcode.specs.Reading.{measure, tableLen}
 use Rattle.coding.proofs.Codings.{mark-small}
-use Rattle.coding.specs.Coding.{markLen, valueBytes, startBytes, endBytes}
-use Rattle.table.specs.Steps.{stepsAt, told}
-use lib.ListN.{length, take, drop}
-use Prim.Native.Nat.{_+_, _-_, _*_, _≤_}
-use mathlib.Core.Path.{_≡_, ap, sym, _∙_, refl}
+use Rattle.coding.specs.Reading.{markLen}
+use Rattle.table.specs.Reading.{stepsAt}
+use lib.ListN.{length}
+use Prim.Native.Nat.{_-_, _*_, _≤_}
+use mathlib.Core.Path.{_≡_, sym, _∙_}
 use native.Mathlib.Omega.{arith}
 use borrow.Author.Needs.{needs}
 use Rattle.transcode.proofs.table_len.Statement.{statement}
 use Rattle.transcode.proofs.table_len.Tie as tie
-use Rattle.transcode.proofs.table_len.Reads as reads
-use Rattle.transcode.proofs.table_len.Lts as lts
-use Rattle.coding.proofs.carries.Reads as carries-reads
-use Rattle.coding.proofs.mark_len.Reads as mark-len-reads
-use Rattle.coding.proofs.value_len.Reads as value-len-reads
-use Rattle.table.proofs.step_at.Reads as step-at-reads
 
 abbrev Inv-loop : tie.InvT-loop
 Inv-loop from to tail mark g₀ n₀ at₀ g n at = (at ≤ length tail) × (n ≤ 4 * at) × (mark ≡ markLen to) × (g ≤ at) × (measure to g at n (stepsAt from tail at) ≡ tableLen from to tail)

@@ -1,31 +1,24 @@
 -- `transcode::write_table` meets its contract: at each turn the items written so far stand in front, and those from the place on are left. Assumes nothing.
 use Rattle.transcode.proofs.Turns.{value-more, value-carried, start-more, end-more, any-glyph, value-bytes, start-bytes, end-bytes, cut-bytes, bad-bytes, past-bytes, recoded-from, length-from}
 use Rattle.transcode.specs.declared.Measured.the-variants.{Length}
-use Rattle.transcode.specs.Transcode.{recoded, measure, tableLen}
+use Rattle.transcode.specs.Reading.{recoded, measure}
 use Rattle.coding.proofs.Written.{carries-exactly, start-len, end-len}
-use Rattle.coding.specs.Coding.{markLen, valueBytes, startBytes, endBytes}
-use Rattle.table.specs.Steps.{stepsAt, told}
-use Rattle.table.specs.Grammar.{bytes}
+use Rattle.coding.specs.Meaning.{valueBytes, startBytes, endBytes}
+use Rattle.table.specs.Reading.{stepsAt, stepItems}
+use Rattle.table.specs.Meaning.{bytes}
 use Rattle.base.proofs.Over.{over-none, turn-within, turn-left, turn-over, turn-length, turn-room, all-over}
-use Rattle.base.specs.Over.{over}
+use Rattle.base.specs.Meaning.{over}
 use lib.ListN.{length, take, drop}
-use Prim.Native.Nat.{_+_, _-_, _*_, _≤_}
-use mathlib.Core.List.{_++_}
+use Prim.Native.Nat.{_-_, _≤_}
 use mathlib.Core.Bool.{false}
-use mathlib.Core.Path.{_≡_, ap, sym, _∙_, refl}
+use mathlib.Core.Path.{_≡_, sym, _∙_, refl}
 use native.Mathlib.Omega.{arith}
 use borrow.Author.Needs.{needs}
 use Rattle.transcode.proofs.write_table.Statement.{statement}
 use Rattle.transcode.proofs.write_table.Tie as tie
-use Rattle.transcode.proofs.write_table.Reads as reads
-use Rattle.transcode.proofs.write_table.Lts as lts
-use Rattle.coding.proofs.put_end.Reads as put-end-reads
-use Rattle.coding.proofs.put_start.Reads as put-start-reads
-use Rattle.coding.proofs.put_value.Reads as put-value-reads
-use Rattle.table.proofs.step_at.Reads as step-at-reads
 
 abbrev Inv-loop : tie.InvT-loop
-Inv-loop from to tail out₀ n₀ at₀ out n at = (at ≤ length tail) × (n ≤ length (recoded from to tail)) × (length (recoded from to tail) ≤ length out₀) × (length out ≡ length out₀) × (out ≡ over (take n (recoded from to tail)) out₀) × (drop n (recoded from to tail) ≡ bytes to (told false (stepsAt from tail at))) × (measure to 0 at n (stepsAt from tail at) ≡ Length (length (recoded from to tail)))
+Inv-loop from to tail out₀ n₀ at₀ out n at = (at ≤ length tail) × (n ≤ length (recoded from to tail)) × (length (recoded from to tail) ≤ length out₀) × (length out ≡ length out₀) × (out ≡ over (take n (recoded from to tail)) out₀) × (drop n (recoded from to tail) ≡ bytes to (stepItems false (stepsAt from tail at))) × (measure to 0 at n (stepsAt from tail at) ≡ Length (length (recoded from to tail)))
 
 abbrev μ-loop : tie.MeasureT-loop
 μ-loop from to tail out₀ n₀ at₀ out n at = length tail - at
@@ -49,10 +42,10 @@ part-put-value-end : tie.Need-part-put-value-end Inv-loop μ-loop
 part-put-value-end c = search needs
 
 put-value-requires : tie.Need-put-value-requires Inv-loop μ-loop
-put-value-requires c κs = let w = rw (c .before .before .t .given .1) at (c .before .before .before .before .step-at .ensures .1) in let d = c .before .before .before .before .before .before .loop .inv .5 ∙ value-bytes _ _ _ _ _ (w .2) in let r = turn-room (recoded (c .before .before .before .before .before .before .before .before .before .args .from) (c .before .before .before .before .before .before .before .before .before .args .to) (c .before .before .before .before .before .before .before .before .before .args .tail .now)) (valueBytes (c .before .before .before .before .before .before .before .before .before .args .to) (c .before .before .t .given .0 .0)) (bytes (c .before .before .before .before .before .before .before .before .before .args .to) (told false (stepsAt (c .before .before .before .before .before .before .before .before .before .args .from) (c .before .before .before .before .before .before .before .before .before .args .tail .now) (c .before .before .t .given .0 .1 .0)))) (c .before .before .before .before .before .before .loop .n) (c .before .before .before .before .before .before .loop .inv .1) d in (carries-exactly _ _ .0 (value-carried _ _ _ _ _ _ _ _ _ (w .2) (c .before .before .before .before .before .before .loop .inv .6)), omega arith)
+put-value-requires c κs = let w = rw (c .before .before .t .given .1) at (c .before .before .before .before .step-at .ensures .1) in let d = c .before .before .before .before .before .before .loop .inv .5 ∙ value-bytes _ _ _ _ _ (w .2) in let r = turn-room (recoded (c .before .before .before .before .before .before .before .before .before .args .from) (c .before .before .before .before .before .before .before .before .before .args .to) (c .before .before .before .before .before .before .before .before .before .args .tail .now)) (valueBytes (c .before .before .before .before .before .before .before .before .before .args .to) (c .before .before .t .given .0 .0)) (bytes (c .before .before .before .before .before .before .before .before .before .args .to) (stepItems false (stepsAt (c .before .before .before .before .before .before .before .before .before .args .from) (c .before .before .before .before .before .before .before .before .before .args .tail .now) (c .before .before .t .given .0 .1 .0)))) (c .before .before .before .before .before .before .loop .n) (c .before .before .before .before .before .before .loop .inv .1) d in (carries-exactly _ _ .0 (value-carried _ _ _ _ _ _ _ _ _ (w .2) (c .before .before .before .before .before .before .loop .inv .6)), omega arith)
 
 add-n : tie.Need-add-n Inv-loop μ-loop
-add-n c = let w = rw (c .before .before .before .before .before .t .given .1) at (c .before .before .before .before .before .before .before .step-at .ensures .1) in let d = c .before .before .before .before .before .before .before .before .before .loop .inv .5 ∙ value-bytes _ _ _ _ _ (w .2) in let r = turn-room (recoded (c .before .before .before .before .before .before .before .before .before .before .before .before .args .from) (c .before .before .before .before .before .before .before .before .before .before .before .before .args .to) (c .before .before .before .before .before .before .before .before .before .before .before .before .args .tail .now)) (valueBytes (c .before .before .before .before .before .before .before .before .before .before .before .before .args .to) (c .before .before .before .before .before .t .given .0 .0)) (bytes (c .before .before .before .before .before .before .before .before .before .before .before .before .args .to) (told false (stepsAt (c .before .before .before .before .before .before .before .before .before .before .before .before .args .from) (c .before .before .before .before .before .before .before .before .before .before .before .before .args .tail .now) (c .before .before .before .before .before .t .given .0 .1 .0)))) (c .before .before .before .before .before .before .before .before .before .loop .n) (c .before .before .before .before .before .before .before .before .before .loop .inv .1) d in omega (arith, c .before .before .put-value .ensures .0)
+add-n c = let w = rw (c .before .before .before .before .before .t .given .1) at (c .before .before .before .before .before .before .before .step-at .ensures .1) in let d = c .before .before .before .before .before .before .before .before .before .loop .inv .5 ∙ value-bytes _ _ _ _ _ (w .2) in let r = turn-room (recoded (c .before .before .before .before .before .before .before .before .before .before .before .before .args .from) (c .before .before .before .before .before .before .before .before .before .before .before .before .args .to) (c .before .before .before .before .before .before .before .before .before .before .before .before .args .tail .now)) (valueBytes (c .before .before .before .before .before .before .before .before .before .before .before .before .args .to) (c .before .before .before .before .before .t .given .0 .0)) (bytes (c .before .before .before .before .before .before .before .before .before .before .before .before .args .to) (stepItems false (stepsAt (c .before .before .before .before .before .before .before .before .before .before .before .before .args .from) (c .before .before .before .before .before .before .before .before .before .before .before .before .args .tail .now) (c .before .before .before .before .before .t .given .0 .1 .0)))) (c .before .before .before .before .before .before .before .before .before .loop .n) (c .before .before .before .before .before .before .before .before .before .loop .inv .1) d in omega (arith, c .before .before .put-value .ensures .0)
 
 loop-less : tie.Need-loop-less Inv-loop μ-loop
 loop-less c = let w = rw (c .before .before .before .before .before .t .given .1) at (c .before .before .before .before .before .before .before .step-at .ensures .1) in omega (arith, w .0, w .1)
@@ -60,11 +53,11 @@ loop-less c = let w = rw (c .before .before .before .before .before .t .given .1
 loop-again : tie.Need-loop-again Inv-loop μ-loop
 loop-again c = let w = rw (c .before .before .before .before .before .t .given .1) at (c .before .before .before .before .before .before .before .step-at .ensures .1) in let d = c .before .before .before .before .before .before .before .before .before .loop .inv .5 ∙ value-bytes _ _ _ _ _ (w .2) in (
   w .1,
-  turn-within (recoded (c .before .before .before .before .before .before .before .before .before .before .before .before .args .from) (c .before .before .before .before .before .before .before .before .before .before .before .before .args .to) (c .before .before .before .before .before .before .before .before .before .before .before .before .args .tail .now)) (valueBytes (c .before .before .before .before .before .before .before .before .before .before .before .before .args .to) (c .before .before .before .before .before .t .given .0 .0)) (bytes (c .before .before .before .before .before .before .before .before .before .before .before .before .args .to) (told false (stepsAt (c .before .before .before .before .before .before .before .before .before .before .before .before .args .from) (c .before .before .before .before .before .before .before .before .before .before .before .before .args .tail .now) (c .before .before .before .before .before .t .given .0 .1 .0)))) (c .before .before .before .before .before .before .before .before .before .before .before .before .args .out .now) (c .before .before .before .before .before .before .before .before .before .loop .out) (c .before .before .before .before .before .before .before .before .before .before .before .before .args .out .now) (c .before .before .before .before .before .before .before .before .before .loop .n) _ (c .before .before .before .before .before .before .before .before .before .loop .inv .1) d (c .before .before .put-value .ensures .0),
+  turn-within (recoded (c .before .before .before .before .before .before .before .before .before .before .before .before .args .from) (c .before .before .before .before .before .before .before .before .before .before .before .before .args .to) (c .before .before .before .before .before .before .before .before .before .before .before .before .args .tail .now)) (valueBytes (c .before .before .before .before .before .before .before .before .before .before .before .before .args .to) (c .before .before .before .before .before .t .given .0 .0)) (bytes (c .before .before .before .before .before .before .before .before .before .before .before .before .args .to) (stepItems false (stepsAt (c .before .before .before .before .before .before .before .before .before .before .before .before .args .from) (c .before .before .before .before .before .before .before .before .before .before .before .before .args .tail .now) (c .before .before .before .before .before .t .given .0 .1 .0)))) (c .before .before .before .before .before .before .before .before .before .before .before .before .args .out .now) (c .before .before .before .before .before .before .before .before .before .loop .out) (c .before .before .before .before .before .before .before .before .before .before .before .before .args .out .now) (c .before .before .before .before .before .before .before .before .before .loop .n) _ (c .before .before .before .before .before .before .before .before .before .loop .inv .1) d (c .before .before .put-value .ensures .0),
   c .before .before .before .before .before .before .before .before .before .loop .inv .2,
-  turn-length (recoded (c .before .before .before .before .before .before .before .before .before .before .before .before .args .from) (c .before .before .before .before .before .before .before .before .before .before .before .before .args .to) (c .before .before .before .before .before .before .before .before .before .before .before .before .args .tail .now)) (valueBytes (c .before .before .before .before .before .before .before .before .before .before .before .before .args .to) (c .before .before .before .before .before .t .given .0 .0)) (bytes (c .before .before .before .before .before .before .before .before .before .before .before .before .args .to) (told false (stepsAt (c .before .before .before .before .before .before .before .before .before .before .before .before .args .from) (c .before .before .before .before .before .before .before .before .before .before .before .before .args .tail .now) (c .before .before .before .before .before .t .given .0 .1 .0)))) (c .before .before .before .before .before .before .before .before .before .before .before .before .args .out .now) (c .before .before .before .before .before .before .before .before .before .loop .out) _ (c .before .before .before .before .before .before .before .before .before .loop .n) _ (c .before .before .before .before .before .before .before .before .before .loop .inv .1) d (c .before .before .put-value .ensures .0) (c .before .before .before .before .before .before .before .before .before .loop .inv .2) (c .before .before .before .before .before .before .before .before .before .loop .inv .4) (c .before .before .put-value .ensures .1),
-  turn-over (recoded (c .before .before .before .before .before .before .before .before .before .before .before .before .args .from) (c .before .before .before .before .before .before .before .before .before .before .before .before .args .to) (c .before .before .before .before .before .before .before .before .before .before .before .before .args .tail .now)) (valueBytes (c .before .before .before .before .before .before .before .before .before .before .before .before .args .to) (c .before .before .before .before .before .t .given .0 .0)) (bytes (c .before .before .before .before .before .before .before .before .before .before .before .before .args .to) (told false (stepsAt (c .before .before .before .before .before .before .before .before .before .before .before .before .args .from) (c .before .before .before .before .before .before .before .before .before .before .before .before .args .tail .now) (c .before .before .before .before .before .t .given .0 .1 .0)))) (c .before .before .before .before .before .before .before .before .before .before .before .before .args .out .now) (c .before .before .before .before .before .before .before .before .before .loop .out) _ (c .before .before .before .before .before .before .before .before .before .loop .n) _ (c .before .before .before .before .before .before .before .before .before .loop .inv .1) d (c .before .before .put-value .ensures .0) (c .before .before .before .before .before .before .before .before .before .loop .inv .4) (c .before .before .put-value .ensures .1),
-  turn-left (recoded (c .before .before .before .before .before .before .before .before .before .before .before .before .args .from) (c .before .before .before .before .before .before .before .before .before .before .before .before .args .to) (c .before .before .before .before .before .before .before .before .before .before .before .before .args .tail .now)) (valueBytes (c .before .before .before .before .before .before .before .before .before .before .before .before .args .to) (c .before .before .before .before .before .t .given .0 .0)) (bytes (c .before .before .before .before .before .before .before .before .before .before .before .before .args .to) (told false (stepsAt (c .before .before .before .before .before .before .before .before .before .before .before .before .args .from) (c .before .before .before .before .before .before .before .before .before .before .before .before .args .tail .now) (c .before .before .before .before .before .t .given .0 .1 .0)))) (c .before .before .before .before .before .before .before .before .before .before .before .before .args .out .now) (c .before .before .before .before .before .before .before .before .before .loop .out) (c .before .before .before .before .before .before .before .before .before .before .before .before .args .out .now) (c .before .before .before .before .before .before .before .before .before .loop .n) _ (c .before .before .before .before .before .before .before .before .before .loop .inv .1) d (c .before .before .put-value .ensures .0),
+  turn-length (recoded (c .before .before .before .before .before .before .before .before .before .before .before .before .args .from) (c .before .before .before .before .before .before .before .before .before .before .before .before .args .to) (c .before .before .before .before .before .before .before .before .before .before .before .before .args .tail .now)) (valueBytes (c .before .before .before .before .before .before .before .before .before .before .before .before .args .to) (c .before .before .before .before .before .t .given .0 .0)) (bytes (c .before .before .before .before .before .before .before .before .before .before .before .before .args .to) (stepItems false (stepsAt (c .before .before .before .before .before .before .before .before .before .before .before .before .args .from) (c .before .before .before .before .before .before .before .before .before .before .before .before .args .tail .now) (c .before .before .before .before .before .t .given .0 .1 .0)))) (c .before .before .before .before .before .before .before .before .before .before .before .before .args .out .now) (c .before .before .before .before .before .before .before .before .before .loop .out) _ (c .before .before .before .before .before .before .before .before .before .loop .n) _ (c .before .before .before .before .before .before .before .before .before .loop .inv .1) d (c .before .before .put-value .ensures .0) (c .before .before .before .before .before .before .before .before .before .loop .inv .2) (c .before .before .before .before .before .before .before .before .before .loop .inv .4) (c .before .before .put-value .ensures .1),
+  turn-over (recoded (c .before .before .before .before .before .before .before .before .before .before .before .before .args .from) (c .before .before .before .before .before .before .before .before .before .before .before .before .args .to) (c .before .before .before .before .before .before .before .before .before .before .before .before .args .tail .now)) (valueBytes (c .before .before .before .before .before .before .before .before .before .before .before .before .args .to) (c .before .before .before .before .before .t .given .0 .0)) (bytes (c .before .before .before .before .before .before .before .before .before .before .before .before .args .to) (stepItems false (stepsAt (c .before .before .before .before .before .before .before .before .before .before .before .before .args .from) (c .before .before .before .before .before .before .before .before .before .before .before .before .args .tail .now) (c .before .before .before .before .before .t .given .0 .1 .0)))) (c .before .before .before .before .before .before .before .before .before .before .before .before .args .out .now) (c .before .before .before .before .before .before .before .before .before .loop .out) _ (c .before .before .before .before .before .before .before .before .before .loop .n) _ (c .before .before .before .before .before .before .before .before .before .loop .inv .1) d (c .before .before .put-value .ensures .0) (c .before .before .before .before .before .before .before .before .before .loop .inv .4) (c .before .before .put-value .ensures .1),
+  turn-left (recoded (c .before .before .before .before .before .before .before .before .before .before .before .before .args .from) (c .before .before .before .before .before .before .before .before .before .before .before .before .args .to) (c .before .before .before .before .before .before .before .before .before .before .before .before .args .tail .now)) (valueBytes (c .before .before .before .before .before .before .before .before .before .before .before .before .args .to) (c .before .before .before .before .before .t .given .0 .0)) (bytes (c .before .before .before .before .before .before .before .before .before .before .before .before .args .to) (stepItems false (stepsAt (c .before .before .before .before .before .before .before .before .before .before .before .before .args .from) (c .before .before .before .before .before .before .before .before .before .before .before .before .args .tail .now) (c .before .before .before .before .before .t .given .0 .1 .0)))) (c .before .before .before .before .before .before .before .before .before .before .before .before .args .out .now) (c .before .before .before .before .before .before .before .before .before .loop .out) (c .before .before .before .before .before .before .before .before .before .before .before .before .args .out .now) (c .before .before .before .before .before .before .before .before .before .loop .n) _ (c .before .before .before .before .before .before .before .before .before .loop .inv .1) d (c .before .before .put-value .ensures .0),
   sym (value-more _ _ _ _ _ _ _ _ _ (w .2) (value-carried _ _ _ _ _ _ _ _ _ (w .2) (c .before .before .before .before .before .before .before .before .before .loop .inv .6)) (c .before .before .put-value .ensures .0)) ∙ c .before .before .before .before .before .before .before .before .before .loop .inv .6,
 )
 
@@ -81,10 +74,10 @@ part-put-start-end : tie.Need-part-put-start-end Inv-loop μ-loop
 part-put-start-end c = search needs
 
 put-start-requires : tie.Need-put-start-requires Inv-loop μ-loop
-put-start-requires c κs = let w = rw (c .before .before .t2 .given .1) at (c .before .before .before .before .step-at .ensures .1) in let d = c .before .before .before .before .before .before .loop .inv .5 ∙ start-bytes _ _ _ _ (w .2) in let r = turn-room (recoded (c .before .before .before .before .before .before .before .before .before .args .from) (c .before .before .before .before .before .before .before .before .before .args .to) (c .before .before .before .before .before .before .before .before .before .args .tail .now)) (startBytes (c .before .before .before .before .before .before .before .before .before .args .to)) (bytes (c .before .before .before .before .before .before .before .before .before .args .to) (told false (stepsAt (c .before .before .before .before .before .before .before .before .before .args .from) (c .before .before .before .before .before .before .before .before .before .args .tail .now) (c .before .before .t2 .given .0 .0)))) (c .before .before .before .before .before .before .loop .n) (c .before .before .before .before .before .before .loop .inv .1) d in omega arith
+put-start-requires c κs = let w = rw (c .before .before .t2 .given .1) at (c .before .before .before .before .step-at .ensures .1) in let d = c .before .before .before .before .before .before .loop .inv .5 ∙ start-bytes _ _ _ _ (w .2) in let r = turn-room (recoded (c .before .before .before .before .before .before .before .before .before .args .from) (c .before .before .before .before .before .before .before .before .before .args .to) (c .before .before .before .before .before .before .before .before .before .args .tail .now)) (startBytes (c .before .before .before .before .before .before .before .before .before .args .to)) (bytes (c .before .before .before .before .before .before .before .before .before .args .to) (stepItems false (stepsAt (c .before .before .before .before .before .before .before .before .before .args .from) (c .before .before .before .before .before .before .before .before .before .args .tail .now) (c .before .before .t2 .given .0 .0)))) (c .before .before .before .before .before .before .loop .n) (c .before .before .before .before .before .before .loop .inv .1) d in omega arith
 
 add-n-2 : tie.Need-add-n-2 Inv-loop μ-loop
-add-n-2 c = let w = rw (c .before .before .before .before .before .t2 .given .1) at (c .before .before .before .before .before .before .before .step-at .ensures .1) in let d = c .before .before .before .before .before .before .before .before .before .loop .inv .5 ∙ start-bytes _ _ _ _ (w .2) in let r = turn-room (recoded (c .before .before .before .before .before .before .before .before .before .before .before .before .args .from) (c .before .before .before .before .before .before .before .before .before .before .before .before .args .to) (c .before .before .before .before .before .before .before .before .before .before .before .before .args .tail .now)) (startBytes (c .before .before .before .before .before .before .before .before .before .before .before .before .args .to)) (bytes (c .before .before .before .before .before .before .before .before .before .before .before .before .args .to) (told false (stepsAt (c .before .before .before .before .before .before .before .before .before .before .before .before .args .from) (c .before .before .before .before .before .before .before .before .before .before .before .before .args .tail .now) (c .before .before .before .before .before .t2 .given .0 .0)))) (c .before .before .before .before .before .before .before .before .before .loop .n) (c .before .before .before .before .before .before .before .before .before .loop .inv .1) d in omega (arith, c .before .before .put-start .ensures .0)
+add-n-2 c = let w = rw (c .before .before .before .before .before .t2 .given .1) at (c .before .before .before .before .before .before .before .step-at .ensures .1) in let d = c .before .before .before .before .before .before .before .before .before .loop .inv .5 ∙ start-bytes _ _ _ _ (w .2) in let r = turn-room (recoded (c .before .before .before .before .before .before .before .before .before .before .before .before .args .from) (c .before .before .before .before .before .before .before .before .before .before .before .before .args .to) (c .before .before .before .before .before .before .before .before .before .before .before .before .args .tail .now)) (startBytes (c .before .before .before .before .before .before .before .before .before .before .before .before .args .to)) (bytes (c .before .before .before .before .before .before .before .before .before .before .before .before .args .to) (stepItems false (stepsAt (c .before .before .before .before .before .before .before .before .before .before .before .before .args .from) (c .before .before .before .before .before .before .before .before .before .before .before .before .args .tail .now) (c .before .before .before .before .before .t2 .given .0 .0)))) (c .before .before .before .before .before .before .before .before .before .loop .n) (c .before .before .before .before .before .before .before .before .before .loop .inv .1) d in omega (arith, c .before .before .put-start .ensures .0)
 
 loop-less-2 : tie.Need-loop-less-2 Inv-loop μ-loop
 loop-less-2 c = let w = rw (c .before .before .before .before .before .t2 .given .1) at (c .before .before .before .before .before .before .before .step-at .ensures .1) in omega (arith, w .0, w .1)
@@ -92,11 +85,11 @@ loop-less-2 c = let w = rw (c .before .before .before .before .before .t2 .given
 loop-again-2 : tie.Need-loop-again-2 Inv-loop μ-loop
 loop-again-2 c = let w = rw (c .before .before .before .before .before .t2 .given .1) at (c .before .before .before .before .before .before .before .step-at .ensures .1) in let d = c .before .before .before .before .before .before .before .before .before .loop .inv .5 ∙ start-bytes _ _ _ _ (w .2) in (
   w .1,
-  turn-within (recoded (c .before .before .before .before .before .before .before .before .before .before .before .before .args .from) (c .before .before .before .before .before .before .before .before .before .before .before .before .args .to) (c .before .before .before .before .before .before .before .before .before .before .before .before .args .tail .now)) (startBytes (c .before .before .before .before .before .before .before .before .before .before .before .before .args .to)) (bytes (c .before .before .before .before .before .before .before .before .before .before .before .before .args .to) (told false (stepsAt (c .before .before .before .before .before .before .before .before .before .before .before .before .args .from) (c .before .before .before .before .before .before .before .before .before .before .before .before .args .tail .now) (c .before .before .before .before .before .t2 .given .0 .0)))) (c .before .before .before .before .before .before .before .before .before .before .before .before .args .out .now) (c .before .before .before .before .before .before .before .before .before .loop .out) (c .before .before .before .before .before .before .before .before .before .before .before .before .args .out .now) (c .before .before .before .before .before .before .before .before .before .loop .n) _ (c .before .before .before .before .before .before .before .before .before .loop .inv .1) d (c .before .before .put-start .ensures .0),
+  turn-within (recoded (c .before .before .before .before .before .before .before .before .before .before .before .before .args .from) (c .before .before .before .before .before .before .before .before .before .before .before .before .args .to) (c .before .before .before .before .before .before .before .before .before .before .before .before .args .tail .now)) (startBytes (c .before .before .before .before .before .before .before .before .before .before .before .before .args .to)) (bytes (c .before .before .before .before .before .before .before .before .before .before .before .before .args .to) (stepItems false (stepsAt (c .before .before .before .before .before .before .before .before .before .before .before .before .args .from) (c .before .before .before .before .before .before .before .before .before .before .before .before .args .tail .now) (c .before .before .before .before .before .t2 .given .0 .0)))) (c .before .before .before .before .before .before .before .before .before .before .before .before .args .out .now) (c .before .before .before .before .before .before .before .before .before .loop .out) (c .before .before .before .before .before .before .before .before .before .before .before .before .args .out .now) (c .before .before .before .before .before .before .before .before .before .loop .n) _ (c .before .before .before .before .before .before .before .before .before .loop .inv .1) d (c .before .before .put-start .ensures .0),
   c .before .before .before .before .before .before .before .before .before .loop .inv .2,
-  turn-length (recoded (c .before .before .before .before .before .before .before .before .before .before .before .before .args .from) (c .before .before .before .before .before .before .before .before .before .before .before .before .args .to) (c .before .before .before .before .before .before .before .before .before .before .before .before .args .tail .now)) (startBytes (c .before .before .before .before .before .before .before .before .before .before .before .before .args .to)) (bytes (c .before .before .before .before .before .before .before .before .before .before .before .before .args .to) (told false (stepsAt (c .before .before .before .before .before .before .before .before .before .before .before .before .args .from) (c .before .before .before .before .before .before .before .before .before .before .before .before .args .tail .now) (c .before .before .before .before .before .t2 .given .0 .0)))) (c .before .before .before .before .before .before .before .before .before .before .before .before .args .out .now) (c .before .before .before .before .before .before .before .before .before .loop .out) _ (c .before .before .before .before .before .before .before .before .before .loop .n) _ (c .before .before .before .before .before .before .before .before .before .loop .inv .1) d (c .before .before .put-start .ensures .0) (c .before .before .before .before .before .before .before .before .before .loop .inv .2) (c .before .before .before .before .before .before .before .before .before .loop .inv .4) (c .before .before .put-start .ensures .1),
-  turn-over (recoded (c .before .before .before .before .before .before .before .before .before .before .before .before .args .from) (c .before .before .before .before .before .before .before .before .before .before .before .before .args .to) (c .before .before .before .before .before .before .before .before .before .before .before .before .args .tail .now)) (startBytes (c .before .before .before .before .before .before .before .before .before .before .before .before .args .to)) (bytes (c .before .before .before .before .before .before .before .before .before .before .before .before .args .to) (told false (stepsAt (c .before .before .before .before .before .before .before .before .before .before .before .before .args .from) (c .before .before .before .before .before .before .before .before .before .before .before .before .args .tail .now) (c .before .before .before .before .before .t2 .given .0 .0)))) (c .before .before .before .before .before .before .before .before .before .before .before .before .args .out .now) (c .before .before .before .before .before .before .before .before .before .loop .out) _ (c .before .before .before .before .before .before .before .before .before .loop .n) _ (c .before .before .before .before .before .before .before .before .before .loop .inv .1) d (c .before .before .put-start .ensures .0) (c .before .before .before .before .before .before .before .before .before .loop .inv .4) (c .before .before .put-start .ensures .1),
-  turn-left (recoded (c .before .before .before .before .before .before .before .before .before .before .before .before .args .from) (c .before .before .before .before .before .before .before .before .before .before .before .before .args .to) (c .before .before .before .before .before .before .before .before .before .before .before .before .args .tail .now)) (startBytes (c .before .before .before .before .before .before .before .before .before .before .before .before .args .to)) (bytes (c .before .before .before .before .before .before .before .before .before .before .before .before .args .to) (told false (stepsAt (c .before .before .before .before .before .before .before .before .before .before .before .before .args .from) (c .before .before .before .before .before .before .before .before .before .before .before .before .args .tail .now) (c .before .before .before .before .before .t2 .given .0 .0)))) (c .before .before .before .before .before .before .before .before .before .before .before .before .args .out .now) (c .before .before .before .before .before .before .before .before .before .loop .out) (c .before .before .before .before .before .before .before .before .before .before .before .before .args .out .now) (c .before .before .before .before .before .before .before .before .before .loop .n) _ (c .before .before .before .before .before .before .before .before .before .loop .inv .1) d (c .before .before .put-start .ensures .0),
+  turn-length (recoded (c .before .before .before .before .before .before .before .before .before .before .before .before .args .from) (c .before .before .before .before .before .before .before .before .before .before .before .before .args .to) (c .before .before .before .before .before .before .before .before .before .before .before .before .args .tail .now)) (startBytes (c .before .before .before .before .before .before .before .before .before .before .before .before .args .to)) (bytes (c .before .before .before .before .before .before .before .before .before .before .before .before .args .to) (stepItems false (stepsAt (c .before .before .before .before .before .before .before .before .before .before .before .before .args .from) (c .before .before .before .before .before .before .before .before .before .before .before .before .args .tail .now) (c .before .before .before .before .before .t2 .given .0 .0)))) (c .before .before .before .before .before .before .before .before .before .before .before .before .args .out .now) (c .before .before .before .before .before .before .before .before .before .loop .out) _ (c .before .before .before .before .before .before .before .before .before .loop .n) _ (c .before .before .before .before .before .before .before .before .before .loop .inv .1) d (c .before .before .put-start .ensures .0) (c .before .before .before .before .before .before .before .before .before .loop .inv .2) (c .before .before .before .before .before .before .before .before .before .loop .inv .4) (c .before .before .put-start .ensures .1),
+  turn-over (recoded (c .before .before .before .before .before .before .before .before .before .before .before .before .args .from) (c .before .before .before .before .before .before .before .before .before .before .before .before .args .to) (c .before .before .before .before .before .before .before .before .before .before .before .before .args .tail .now)) (startBytes (c .before .before .before .before .before .before .before .before .before .before .before .before .args .to)) (bytes (c .before .before .before .before .before .before .before .before .before .before .before .before .args .to) (stepItems false (stepsAt (c .before .before .before .before .before .before .before .before .before .before .before .before .args .from) (c .before .before .before .before .before .before .before .before .before .before .before .before .args .tail .now) (c .before .before .before .before .before .t2 .given .0 .0)))) (c .before .before .before .before .before .before .before .before .before .before .before .before .args .out .now) (c .before .before .before .before .before .before .before .before .before .loop .out) _ (c .before .before .before .before .before .before .before .before .before .loop .n) _ (c .before .before .before .before .before .before .before .before .before .loop .inv .1) d (c .before .before .put-start .ensures .0) (c .before .before .before .before .before .before .before .before .before .loop .inv .4) (c .before .before .put-start .ensures .1),
+  turn-left (recoded (c .before .before .before .before .before .before .before .before .before .before .before .before .args .from) (c .before .before .before .before .before .before .before .before .before .before .before .before .args .to) (c .before .before .before .before .before .before .before .before .before .before .before .before .args .tail .now)) (startBytes (c .before .before .before .before .before .before .before .before .before .before .before .before .args .to)) (bytes (c .before .before .before .before .before .before .before .before .before .before .before .before .args .to) (stepItems false (stepsAt (c .before .before .before .before .before .before .before .before .before .before .before .before .args .from) (c .before .before .before .before .before .before .before .before .before .before .before .before .args .tail .now) (c .before .before .before .before .before .t2 .given .0 .0)))) (c .before .before .before .before .before .before .before .before .before .before .before .before .args .out .now) (c .before .before .before .before .before .before .before .before .before .loop .out) (c .before .before .before .before .before .before .before .before .before .before .before .before .args .out .now) (c .before .before .before .before .before .before .before .before .before .loop .n) _ (c .before .before .before .before .before .before .before .before .before .loop .inv .1) d (c .before .before .put-start .ensures .0),
   sym (start-more _ _ _ _ _ _ _ _ (w .2) ((c .before .before .put-start .ensures .0) ∙ sym (start-len _))) ∙ c .before .before .before .before .before .before .before .before .before .loop .inv .6,
 )
 
@@ -113,10 +106,10 @@ part-put-end-end : tie.Need-part-put-end-end Inv-loop μ-loop
 part-put-end-end c = search needs
 
 put-end-requires : tie.Need-put-end-requires Inv-loop μ-loop
-put-end-requires c κs = let w = rw (c .before .before .t3 .given .1) at (c .before .before .before .before .step-at .ensures .1) in let d = c .before .before .before .before .before .before .loop .inv .5 ∙ end-bytes _ _ _ _ (w .2) in let r = turn-room (recoded (c .before .before .before .before .before .before .before .before .before .args .from) (c .before .before .before .before .before .before .before .before .before .args .to) (c .before .before .before .before .before .before .before .before .before .args .tail .now)) (endBytes (c .before .before .before .before .before .before .before .before .before .args .to)) (bytes (c .before .before .before .before .before .before .before .before .before .args .to) (told false (stepsAt (c .before .before .before .before .before .before .before .before .before .args .from) (c .before .before .before .before .before .before .before .before .before .args .tail .now) (c .before .before .t3 .given .0 .0)))) (c .before .before .before .before .before .before .loop .n) (c .before .before .before .before .before .before .loop .inv .1) d in omega arith
+put-end-requires c κs = let w = rw (c .before .before .t3 .given .1) at (c .before .before .before .before .step-at .ensures .1) in let d = c .before .before .before .before .before .before .loop .inv .5 ∙ end-bytes _ _ _ _ (w .2) in let r = turn-room (recoded (c .before .before .before .before .before .before .before .before .before .args .from) (c .before .before .before .before .before .before .before .before .before .args .to) (c .before .before .before .before .before .before .before .before .before .args .tail .now)) (endBytes (c .before .before .before .before .before .before .before .before .before .args .to)) (bytes (c .before .before .before .before .before .before .before .before .before .args .to) (stepItems false (stepsAt (c .before .before .before .before .before .before .before .before .before .args .from) (c .before .before .before .before .before .before .before .before .before .args .tail .now) (c .before .before .t3 .given .0 .0)))) (c .before .before .before .before .before .before .loop .n) (c .before .before .before .before .before .before .loop .inv .1) d in omega arith
 
 add-n-3 : tie.Need-add-n-3 Inv-loop μ-loop
-add-n-3 c = let w = rw (c .before .before .before .before .before .t3 .given .1) at (c .before .before .before .before .before .before .before .step-at .ensures .1) in let d = c .before .before .before .before .before .before .before .before .before .loop .inv .5 ∙ end-bytes _ _ _ _ (w .2) in let r = turn-room (recoded (c .before .before .before .before .before .before .before .before .before .before .before .before .args .from) (c .before .before .before .before .before .before .before .before .before .before .before .before .args .to) (c .before .before .before .before .before .before .before .before .before .before .before .before .args .tail .now)) (endBytes (c .before .before .before .before .before .before .before .before .before .before .before .before .args .to)) (bytes (c .before .before .before .before .before .before .before .before .before .before .before .before .args .to) (told false (stepsAt (c .before .before .before .before .before .before .before .before .before .before .before .before .args .from) (c .before .before .before .before .before .before .before .before .before .before .before .before .args .tail .now) (c .before .before .before .before .before .t3 .given .0 .0)))) (c .before .before .before .before .before .before .before .before .before .loop .n) (c .before .before .before .before .before .before .before .before .before .loop .inv .1) d in omega (arith, c .before .before .put-end .ensures .0)
+add-n-3 c = let w = rw (c .before .before .before .before .before .t3 .given .1) at (c .before .before .before .before .before .before .before .step-at .ensures .1) in let d = c .before .before .before .before .before .before .before .before .before .loop .inv .5 ∙ end-bytes _ _ _ _ (w .2) in let r = turn-room (recoded (c .before .before .before .before .before .before .before .before .before .before .before .before .args .from) (c .before .before .before .before .before .before .before .before .before .before .before .before .args .to) (c .before .before .before .before .before .before .before .before .before .before .before .before .args .tail .now)) (endBytes (c .before .before .before .before .before .before .before .before .before .before .before .before .args .to)) (bytes (c .before .before .before .before .before .before .before .before .before .before .before .before .args .to) (stepItems false (stepsAt (c .before .before .before .before .before .before .before .before .before .before .before .before .args .from) (c .before .before .before .before .before .before .before .before .before .before .before .before .args .tail .now) (c .before .before .before .before .before .t3 .given .0 .0)))) (c .before .before .before .before .before .before .before .before .before .loop .n) (c .before .before .before .before .before .before .before .before .before .loop .inv .1) d in omega (arith, c .before .before .put-end .ensures .0)
 
 loop-less-3 : tie.Need-loop-less-3 Inv-loop μ-loop
 loop-less-3 c = let w = rw (c .before .before .before .before .before .t3 .given .1) at (c .before .before .before .before .before .before .before .step-at .ensures .1) in omega (arith, w .0, w .1)
@@ -124,11 +117,11 @@ loop-less-3 c = let w = rw (c .before .before .before .before .before .t3 .given
 loop-again-3 : tie.Need-loop-again-3 Inv-loop μ-loop
 loop-again-3 c = let w = rw (c .before .before .before .before .before .t3 .given .1) at (c .before .before .before .before .before .before .before .step-at .ensures .1) in let d = c .before .before .before .before .before .before .before .before .before .loop .inv .5 ∙ end-bytes _ _ _ _ (w .2) in (
   w .1,
-  turn-within (recoded (c .before .before .before .before .before .before .before .before .before .before .before .before .args .from) (c .before .before .before .before .before .before .before .before .before .before .before .before .args .to) (c .before .before .before .before .before .before .before .before .before .before .before .before .args .tail .now)) (endBytes (c .before .before .before .before .before .before .before .before .before .before .before .before .args .to)) (bytes (c .before .before .before .before .before .before .before .before .before .before .before .before .args .to) (told false (stepsAt (c .before .before .before .before .before .before .before .before .before .before .before .before .args .from) (c .before .before .before .before .before .before .before .before .before .before .before .before .args .tail .now) (c .before .before .before .before .before .t3 .given .0 .0)))) (c .before .before .before .before .before .before .before .before .before .before .before .before .args .out .now) (c .before .before .before .before .before .before .before .before .before .loop .out) (c .before .before .before .before .before .before .before .before .before .before .before .before .args .out .now) (c .before .before .before .before .before .before .before .before .before .loop .n) _ (c .before .before .before .before .before .before .before .before .before .loop .inv .1) d (c .before .before .put-end .ensures .0),
+  turn-within (recoded (c .before .before .before .before .before .before .before .before .before .before .before .before .args .from) (c .before .before .before .before .before .before .before .before .before .before .before .before .args .to) (c .before .before .before .before .before .before .before .before .before .before .before .before .args .tail .now)) (endBytes (c .before .before .before .before .before .before .before .before .before .before .before .before .args .to)) (bytes (c .before .before .before .before .before .before .before .before .before .before .before .before .args .to) (stepItems false (stepsAt (c .before .before .before .before .before .before .before .before .before .before .before .before .args .from) (c .before .before .before .before .before .before .before .before .before .before .before .before .args .tail .now) (c .before .before .before .before .before .t3 .given .0 .0)))) (c .before .before .before .before .before .before .before .before .before .before .before .before .args .out .now) (c .before .before .before .before .before .before .before .before .before .loop .out) (c .before .before .before .before .before .before .before .before .before .before .before .before .args .out .now) (c .before .before .before .before .before .before .before .before .before .loop .n) _ (c .before .before .before .before .before .before .before .before .before .loop .inv .1) d (c .before .before .put-end .ensures .0),
   c .before .before .before .before .before .before .before .before .before .loop .inv .2,
-  turn-length (recoded (c .before .before .before .before .before .before .before .before .before .before .before .before .args .from) (c .before .before .before .before .before .before .before .before .before .before .before .before .args .to) (c .before .before .before .before .before .before .before .before .before .before .before .before .args .tail .now)) (endBytes (c .before .before .before .before .before .before .before .before .before .before .before .before .args .to)) (bytes (c .before .before .before .before .before .before .before .before .before .before .before .before .args .to) (told false (stepsAt (c .before .before .before .before .before .before .before .before .before .before .before .before .args .from) (c .before .before .before .before .before .before .before .before .before .before .before .before .args .tail .now) (c .before .before .before .before .before .t3 .given .0 .0)))) (c .before .before .before .before .before .before .before .before .before .before .before .before .args .out .now) (c .before .before .before .before .before .before .before .before .before .loop .out) _ (c .before .before .before .before .before .before .before .before .before .loop .n) _ (c .before .before .before .before .before .before .before .before .before .loop .inv .1) d (c .before .before .put-end .ensures .0) (c .before .before .before .before .before .before .before .before .before .loop .inv .2) (c .before .before .before .before .before .before .before .before .before .loop .inv .4) (c .before .before .put-end .ensures .1),
-  turn-over (recoded (c .before .before .before .before .before .before .before .before .before .before .before .before .args .from) (c .before .before .before .before .before .before .before .before .before .before .before .before .args .to) (c .before .before .before .before .before .before .before .before .before .before .before .before .args .tail .now)) (endBytes (c .before .before .before .before .before .before .before .before .before .before .before .before .args .to)) (bytes (c .before .before .before .before .before .before .before .before .before .before .before .before .args .to) (told false (stepsAt (c .before .before .before .before .before .before .before .before .before .before .before .before .args .from) (c .before .before .before .before .before .before .before .before .before .before .before .before .args .tail .now) (c .before .before .before .before .before .t3 .given .0 .0)))) (c .before .before .before .before .before .before .before .before .before .before .before .before .args .out .now) (c .before .before .before .before .before .before .before .before .before .loop .out) _ (c .before .before .before .before .before .before .before .before .before .loop .n) _ (c .before .before .before .before .before .before .before .before .before .loop .inv .1) d (c .before .before .put-end .ensures .0) (c .before .before .before .before .before .before .before .before .before .loop .inv .4) (c .before .before .put-end .ensures .1),
-  turn-left (recoded (c .before .before .before .before .before .before .before .before .before .before .before .before .args .from) (c .before .before .before .before .before .before .before .before .before .before .before .before .args .to) (c .before .before .before .before .before .before .before .before .before .before .before .before .args .tail .now)) (endBytes (c .before .before .before .before .before .before .before .before .before .before .before .before .args .to)) (bytes (c .before .before .before .before .before .before .before .before .before .before .before .before .args .to) (told false (stepsAt (c .before .before .before .before .before .before .before .before .before .before .before .before .args .from) (c .before .before .before .before .before .before .before .before .before .before .before .before .args .tail .now) (c .before .before .before .before .before .t3 .given .0 .0)))) (c .before .before .before .before .before .before .before .before .before .before .before .before .args .out .now) (c .before .before .before .before .before .before .before .before .before .loop .out) (c .before .before .before .before .before .before .before .before .before .before .before .before .args .out .now) (c .before .before .before .before .before .before .before .before .before .loop .n) _ (c .before .before .before .before .before .before .before .before .before .loop .inv .1) d (c .before .before .put-end .ensures .0),
+  turn-length (recoded (c .before .before .before .before .before .before .before .before .before .before .before .before .args .from) (c .before .before .before .before .before .before .before .before .before .before .before .before .args .to) (c .before .before .before .before .before .before .before .before .before .before .before .before .args .tail .now)) (endBytes (c .before .before .before .before .before .before .before .before .before .before .before .before .args .to)) (bytes (c .before .before .before .before .before .before .before .before .before .before .before .before .args .to) (stepItems false (stepsAt (c .before .before .before .before .before .before .before .before .before .before .before .before .args .from) (c .before .before .before .before .before .before .before .before .before .before .before .before .args .tail .now) (c .before .before .before .before .before .t3 .given .0 .0)))) (c .before .before .before .before .before .before .before .before .before .before .before .before .args .out .now) (c .before .before .before .before .before .before .before .before .before .loop .out) _ (c .before .before .before .before .before .before .before .before .before .loop .n) _ (c .before .before .before .before .before .before .before .before .before .loop .inv .1) d (c .before .before .put-end .ensures .0) (c .before .before .before .before .before .before .before .before .before .loop .inv .2) (c .before .before .before .before .before .before .before .before .before .loop .inv .4) (c .before .before .put-end .ensures .1),
+  turn-over (recoded (c .before .before .before .before .before .before .before .before .before .before .before .before .args .from) (c .before .before .before .before .before .before .before .before .before .before .before .before .args .to) (c .before .before .before .before .before .before .before .before .before .before .before .before .args .tail .now)) (endBytes (c .before .before .before .before .before .before .before .before .before .before .before .before .args .to)) (bytes (c .before .before .before .before .before .before .before .before .before .before .before .before .args .to) (stepItems false (stepsAt (c .before .before .before .before .before .before .before .before .before .before .before .before .args .from) (c .before .before .before .before .before .before .before .before .before .before .before .before .args .tail .now) (c .before .before .before .before .before .t3 .given .0 .0)))) (c .before .before .before .before .before .before .before .before .before .before .before .before .args .out .now) (c .before .before .before .before .before .before .before .before .before .loop .out) _ (c .before .before .before .before .before .before .before .before .before .loop .n) _ (c .before .before .before .before .before .before .before .before .before .loop .inv .1) d (c .before .before .put-end .ensures .0) (c .before .before .before .before .before .before .before .before .before .loop .inv .4) (c .before .before .put-end .ensures .1),
+  turn-left (recoded (c .before .before .before .before .before .before .before .before .before .before .before .before .args .from) (c .before .before .before .before .before .before .before .before .before .before .before .before .args .to) (c .before .before .before .before .before .before .before .before .before .before .before .before .args .tail .now)) (endBytes (c .before .before .before .before .before .before .before .before .before .before .before .before .args .to)) (bytes (c .before .before .before .before .before .before .before .before .before .before .before .before .args .to) (stepItems false (stepsAt (c .before .before .before .before .before .before .before .before .before .before .before .before .args .from) (c .before .before .before .before .before .before .before .before .before .before .before .before .args .tail .now) (c .before .before .before .before .before .t3 .given .0 .0)))) (c .before .before .before .before .before .before .before .before .before .before .before .before .args .out .now) (c .before .before .before .before .before .before .before .before .before .loop .out) (c .before .before .before .before .before .before .before .before .before .before .before .before .args .out .now) (c .before .before .before .before .before .before .before .before .before .loop .n) _ (c .before .before .before .before .before .before .before .before .before .loop .inv .1) d (c .before .before .put-end .ensures .0),
   any-glyph _ _ 0 _ _ _ _ (sym (end-more _ _ _ _ _ _ _ _ (w .2) ((c .before .before .put-end .ensures .0) ∙ sym (end-len _))) ∙ c .before .before .before .before .before .before .before .before .before .loop .inv .6),
 )
 

@@ -1,6 +1,6 @@
 -- `ucs2::is_word` meets its contract: one test. Assumes nothing.
 use mathlib.Core.Path.{refl}
-use Rattle.ucs2.specs.Word.{isWord}
+use Rattle.ucs2.specs.Reading.{isWord}
 use Rattle.ucs2.proofs.is_word.Statement.{statement}
 use Rattle.ucs2.proofs.is_word.Tie as tie
 

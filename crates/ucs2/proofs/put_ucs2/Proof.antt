@@ -1,12 +1,10 @@
 -- `ucs2::put_ucs2` meets its contract: two bytes stored. Assumes nothing.
 use native.Mathlib.Omega.{arith}
-use Rattle.ucs2.specs.Word.{wordBytes}
+use Rattle.ucs2.specs.Meaning.{wordBytes}
 use Rattle.base.proofs.Over.{stores}
 use borrow.Author.Needs.{needs}
 use Rattle.ucs2.proofs.put_ucs2.Statement.{statement}
 use Rattle.ucs2.proofs.put_ucs2.Tie as tie
-use Rattle.ucs2.proofs.put_ucs2.Reads as reads
-use Rattle.ucs2.proofs.put_ucs2.Lts as lts
 
 cast-out : tie.Need-cast-out
 cast-out c = search needs

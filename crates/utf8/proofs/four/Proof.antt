@@ -1,15 +1,11 @@
 -- `utf8::four` meets its contract: three bytes, and then the fourth. Assumes nothing but what it asks.
 use native.Mathlib.Omega.{arith}
-use mathlib.Core.Path.{_≡_, refl, sym, _∙_}
+use mathlib.Core.Path.{sym, _∙_}
 use denote.Ref.{now}
 use Rattle.utf8.proofs.Conts.{then-value, then-cut, then-bad}
 use borrow.Author.Needs.{needs}
 use Rattle.utf8.proofs.four.Statement.{statement}
 use Rattle.utf8.proofs.four.Tie as tie
-use Rattle.utf8.proofs.four.Reads as reads
-use Rattle.utf8.proofs.four.Lts as lts
-use Rattle.utf8.proofs.further.Reads as further-reads
-use Rattle.utf8.proofs.three.Reads as three-reads
 
 three-requires : tie.Need-three-requires
 three-requires c κs = search needs

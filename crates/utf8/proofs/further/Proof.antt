@@ -1,16 +1,12 @@
 -- `utf8::further` meets its contract: by the test of its bounds. Assumes nothing but what it asks.
 use native.Mathlib.Omega.{arith}
-use mathlib.Core.Path.{_≡_, refl, sym, _∙_}
+use mathlib.Core.Path.{refl, sym, _∙_}
 use borrow.Author.Tests.{not-true, not-false}
 use denote.Ref.{now}
 use Rattle.utf8.proofs.Conts.{cut, outside, inside, bounds}
 use borrow.Author.Needs.{needs}
 use Rattle.utf8.proofs.further.Statement.{statement}
 use Rattle.utf8.proofs.further.Tie as tie
-use Rattle.utf8.proofs.further.Reads as reads
-use Rattle.utf8.proofs.further.Lts as lts
-use Rattle.utf8.proofs.is_within.Reads as is-within-reads
-use Rattle.utf8.proofs.six_more.Reads as six-more-reads
 
 returns : tie.Need-returns
 returns c = (cut (now (c .before .before .args .s)) (c .before .before .args .k) (c .before .before .args .lo) (c .before .before .args .hi) (c .before .before .args .v) (c .if1 .taken), tt)

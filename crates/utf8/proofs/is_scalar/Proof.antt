@@ -3,8 +3,6 @@ use native.Mathlib.Omega.{arith}
 use Rattle.utf8.proofs.Written.{below-surrogates, surrogate, above-surrogates}
 use Rattle.utf8.proofs.is_scalar.Statement.{statement}
 use Rattle.utf8.proofs.is_scalar.Tie as tie
-use Rattle.utf8.proofs.is_scalar.Reads as reads
-use Rattle.utf8.proofs.is_scalar.Lts as lts
 
 returns : tie.Need-returns
 returns c = below-surrogates (c .before .args .v) (omega arith)

@@ -2,8 +2,6 @@
 use Rattle.utf8.proofs.Conts.{below, from}
 use Rattle.utf8.proofs.is_within.Statement.{statement}
 use Rattle.utf8.proofs.is_within.Tie as tie
-use Rattle.utf8.proofs.is_within.Reads as reads
-use Rattle.utf8.proofs.is_within.Lts as lts
 
 returns : tie.Need-returns
 returns c = below (c .before .args .lo) (c .before .args .hi) (c .before .args .x) (c .if1 .taken)

@@ -1,12 +1,10 @@
 -- `utf8::len_utf8` meets its contract: each row's length. Assumes nothing.
-use lib.ListN.{length, length-set}
+use lib.ListN.{length}
 use native.Mathlib.Omega.{arith}
-use mathlib.Core.Path.{ap, sym}
-use Rattle.utf8.proofs.Written.{one-byte, two-bytes, three-bytes, four-bytes, scalar-low, stored}
+use mathlib.Core.Path.{ap}
+use Rattle.utf8.proofs.Written.{one-byte, two-bytes, three-bytes, four-bytes}
 use Rattle.utf8.proofs.len_utf8.Statement.{statement}
 use Rattle.utf8.proofs.len_utf8.Tie as tie
-use Rattle.utf8.proofs.len_utf8.Reads as reads
-use Rattle.utf8.proofs.len_utf8.Lts as lts
 
 returns : tie.Need-returns
 returns c = (ap length (one-byte (c .before .args .v) (omega arith)), omega arith)

@@ -1,13 +1,11 @@
 -- `utf8::put_utf8` meets its contract: each row's bytes stored. Assumes nothing.
 use lib.ListN.{length, length-set}
 use native.Mathlib.Omega.{arith}
-use mathlib.Core.Path.{ap, sym}
+use mathlib.Core.Path.{ap}
 use Rattle.utf8.proofs.Written.{one-byte, two-bytes, three-bytes, four-bytes, scalar-low, stored}
 use borrow.Author.Needs.{needs}
 use Rattle.utf8.proofs.put_utf8.Statement.{statement}
 use Rattle.utf8.proofs.put_utf8.Tie as tie
-use Rattle.utf8.proofs.put_utf8.Reads as reads
-use Rattle.utf8.proofs.put_utf8.Lts as lts
 
 cast-out : tie.Need-cast-out
 cast-out c = search needs

@@ -1,15 +1,12 @@
 -- `utf8::read_utf8` meets its contract: a mark, or what is read as a value. Assumes nothing.
-use mathlib.Core.Path.{_≡_, _∙_, ap, sym}
+use mathlib.Core.Path.{_∙_, ap, sym}
 use native.Mathlib.Omega.{arith}
 use denote.Ref.{now}
-use Rattle.utf8.specs.Utf8.{asToken}
+use Rattle.utf8.specs.Reading.{asToken}
 use Rattle.utf8.proofs.First.{empty, as-start, as-end, no-mark}
 use borrow.Author.Needs.{needs}
 use Rattle.utf8.proofs.read_utf8.Statement.{statement}
 use Rattle.utf8.proofs.read_utf8.Tie as tie
-use Rattle.utf8.proofs.read_utf8.Reads as reads
-use Rattle.utf8.proofs.read_utf8.Lts as lts
-use Rattle.utf8.proofs.read_value.Reads as read-value-reads
 
 returns : tie.Need-returns
 returns c = empty _ (c .if1 .taken)

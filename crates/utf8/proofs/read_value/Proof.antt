@@ -10,13 +10,6 @@ use Rattle.utf8.proofs.Rows.{Fine, all-fine}
 use borrow.Author.Needs.{needs}
 use Rattle.utf8.proofs.read_value.Statement.{statement}
 use Rattle.utf8.proofs.read_value.Tie as tie
-use Rattle.utf8.proofs.read_value.Reads as reads
-use Rattle.utf8.proofs.read_value.Lts as lts
-use Rattle.base.proofs.wide.Reads as wide-reads
-use Rattle.utf8.proofs.four.Reads as four-reads
-use Rattle.utf8.proofs.further.Reads as further-reads
-use Rattle.utf8.proofs.lead_of.Reads as lead-of-reads
-use Rattle.utf8.proofs.three.Reads as three-reads
 
 returns : tie.Need-returns
 returns c = no-bytes _ (c .if1 .taken)

@@ -1,15 +1,12 @@
 -- `utf8::three` meets its contract: the second byte, and then the third. Assumes nothing but what it asks.
 use native.Mathlib.Omega.{arith}
 use Prim.Native.Nat.{_+_, _*_}
-use mathlib.Core.Path.{_≡_, refl, sym, _∙_}
+use mathlib.Core.Path.{sym, _∙_}
 use denote.Ref.{now}
 use Rattle.utf8.proofs.Conts.{then-value, then-cut, then-bad, reached-low}
 use borrow.Author.Needs.{needs}
 use Rattle.utf8.proofs.three.Statement.{statement}
 use Rattle.utf8.proofs.three.Tie as tie
-use Rattle.utf8.proofs.three.Reads as reads
-use Rattle.utf8.proofs.three.Lts as lts
-use Rattle.utf8.proofs.further.Reads as further-reads
 
 further-requires : tie.Need-further-requires
 further-requires c κs = search needs

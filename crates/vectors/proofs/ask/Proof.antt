@@ -7,24 +7,6 @@ use native.Mathlib.Omega.{arith}
 use borrow.Author.Needs.{needs}
 use Rattle.vectors.proofs.ask.Statement.{statement}
 use Rattle.vectors.proofs.ask.Tie as tie
-use Rattle.vectors.proofs.ask.Reads as reads
-use Rattle.vectors.proofs.ask.Lts as lts
-use Rattle.base.proofs.size.Reads as size-reads
-use Rattle.vectors.proofs.ask_check.Reads as ask-check-reads
-use Rattle.vectors.proofs.ask_glyph.Reads as ask-glyph-reads
-use Rattle.vectors.proofs.ask_item.Reads as ask-item-reads
-use Rattle.vectors.proofs.ask_pixel.Reads as ask-pixel-reads
-use Rattle.vectors.proofs.ask_row.Reads as ask-row-reads
-use Rattle.vectors.proofs.ask_sequence.Reads as ask-sequence-reads
-use Rattle.vectors.proofs.ask_value.Reads as ask-value-reads
-use Rattle.vectors.proofs.byte.Reads as byte-reads
-use Rattle.vectors.proofs.grown.Reads as grown-reads
-use Rattle.vectors.proofs.index_at.Reads as index-at-reads
-use Rattle.vectors.proofs.part.Reads as part-reads
-use Rattle.vectors.proofs.say.Reads as say-reads
-use Rattle.vectors.proofs.sequence_at.Reads as sequence-at-reads
-use Rattle.vectors.proofs.word_at.Reads as word-at-reads
-use Rattle.vectors.proofs.ask_metrics.Reads as ask-metrics-reads
 
 part-requires : tie.Need-part-requires
 part-requires c κs = search needs

@@ -1,14 +1,9 @@
 -- `vectors::bytes` is safe and ends: each turn of its loop is one step nearer the end. Assumes nothing.
 use lib.ListN.{length}
-use Prim.Native.Nat.{_-_, _≤_}
-use native.Mathlib.Omega.{arith}
+use Prim.Native.Nat.{_-_}
 use borrow.Author.Needs.{needs}
 use Rattle.vectors.proofs.bytes.Statement.{statement}
 use Rattle.vectors.proofs.bytes.Tie as tie
-use Rattle.vectors.proofs.bytes.Reads as reads
-use Rattle.vectors.proofs.bytes.Lts as lts
-use Rattle.vectors.proofs.digit.Reads as digit-reads
-use Rattle.vectors.proofs.say.Reads as say-reads
 
 abbrev Inv-loop : tie.InvT-loop
 Inv-loop p i₀ i = Unit {0}

@@ -1,14 +1,9 @@
 -- `vectors::checksum` is safe and ends: each turn of its loop is one step nearer the end. Assumes nothing.
 use lib.ListN.{length}
-use Prim.Native.Nat.{_-_, _≤_, _<_}
-use native.Mathlib.Omega.{arith}
+use Prim.Native.Nat.{_-_, _<_}
 use borrow.Author.Needs.{needs}
 use Rattle.vectors.proofs.checksum.Statement.{statement}
 use Rattle.vectors.proofs.checksum.Tie as tie
-use Rattle.vectors.proofs.checksum.Reads as reads
-use Rattle.vectors.proofs.checksum.Lts as lts
-use Rattle.base.proofs.wide.Reads as wide-reads
-use Rattle.vectors.proofs.wide.Reads as wide-reads′
 
 abbrev Inv-loop : tie.InvT-loop
 Inv-loop p sum₀ i₀ sum i = sum < 4294967291

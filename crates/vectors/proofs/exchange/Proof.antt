@@ -7,16 +7,6 @@ use native.Mathlib.Omega.{arith}
 use borrow.Author.Needs.{needs}
 use Rattle.vectors.proofs.exchange.Statement.{statement}
 use Rattle.vectors.proofs.exchange.Tie as tie
-use Rattle.vectors.proofs.exchange.Reads as reads
-use Rattle.vectors.proofs.exchange.Lts as lts
-use Rattle.base.proofs.size.Reads as size-reads
-use Rattle.vectors.proofs.ask_convert.Reads as ask-convert-reads
-use Rattle.vectors.proofs.byte.Reads as byte-reads
-use Rattle.vectors.proofs.grown.Reads as grown-reads
-use Rattle.vectors.proofs.least.Reads as least-reads
-use Rattle.vectors.proofs.part.Reads as part-reads
-use Rattle.vectors.proofs.put.Reads as put-reads
-use Rattle.vectors.proofs.word_at.Reads as word-at-reads
 
 part-requires : tie.Need-part-requires
 part-requires c κs = search needs

@@ -1,14 +1,9 @@
 -- `vectors::letters` is safe and ends: each turn of its loop is one step nearer the end. Assumes nothing.
 use lib.ListN.{length}
-use Prim.Native.Nat.{_-_, _≤_}
-use native.Mathlib.Omega.{arith}
+use Prim.Native.Nat.{_-_}
 use borrow.Author.Needs.{needs}
 use Rattle.vectors.proofs.letters.Statement.{statement}
 use Rattle.vectors.proofs.letters.Tie as tie
-use Rattle.vectors.proofs.letters.Reads as reads
-use Rattle.vectors.proofs.letters.Lts as lts
-use Rattle.vectors.proofs.say.Reads as say-reads
-use Rattle.vectors.proofs.upper.Reads as upper-reads
 
 abbrev Inv-loop : tie.InvT-loop
 Inv-loop text i₀ i = Unit {0}

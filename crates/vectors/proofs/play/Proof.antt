@@ -1,14 +1,10 @@
 -- `vectors::play` is safe and ends: each turn of its loop is one step nearer the end. Assumes nothing.
 use lib.ListN.{length}
 use mathlib.Core.Path.{_≡_}
-use Prim.Native.Nat.{_-_, _≤_}
-use native.Mathlib.Omega.{arith}
+use Prim.Native.Nat.{_-_}
 use borrow.Author.Needs.{needs}
 use Rattle.vectors.proofs.play.Statement.{statement}
 use Rattle.vectors.proofs.play.Tie as tie
-use Rattle.vectors.proofs.play.Reads as reads
-use Rattle.vectors.proofs.play.Lts as lts
-use Rattle.vectors.proofs.step.Reads as step-reads
 
 abbrev Inv-loop : tie.InvT-loop
 Inv-loop script file₀ out₀ c₀ i₀ file out c i = (length file ≡ length file₀) × (length out ≡ length out₀)

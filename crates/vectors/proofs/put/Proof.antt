@@ -1,14 +1,10 @@
 -- `vectors::put` is safe and ends: each turn of its loop is one step nearer the end. Assumes nothing.
 use lib.ListN.{length}
 use mathlib.Core.Path.{_≡_}
-use Prim.Native.Nat.{_-_, _≤_}
-use native.Mathlib.Omega.{arith}
+use Prim.Native.Nat.{_-_}
 use borrow.Author.Needs.{needs}
 use Rattle.vectors.proofs.put.Statement.{statement}
 use Rattle.vectors.proofs.put.Tie as tie
-use Rattle.vectors.proofs.put.Reads as reads
-use Rattle.vectors.proofs.put.Lts as lts
-use Rattle.vectors.proofs.least.Reads as least-reads
 
 abbrev Inv-loop : tie.InvT-loop
 Inv-loop src out₀ n i₀ out i = length out ≡ length out₀

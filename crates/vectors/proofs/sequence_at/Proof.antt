@@ -2,15 +2,9 @@
 use lib.ListN.{length}
 use mathlib.Core.Path.{_≡_}
 use Prim.Native.Nat.{_-_, _≤_}
-use native.Mathlib.Omega.{arith}
 use borrow.Author.Needs.{needs}
 use Rattle.vectors.proofs.sequence_at.Statement.{statement}
 use Rattle.vectors.proofs.sequence_at.Tie as tie
-use Rattle.vectors.proofs.sequence_at.Reads as reads
-use Rattle.vectors.proofs.sequence_at.Lts as lts
-use Rattle.vectors.proofs.grown.Reads as grown-reads
-use Rattle.vectors.proofs.least.Reads as least-reads
-use Rattle.vectors.proofs.word_at.Reads as word-at-reads
 
 abbrev Inv-loop : tie.InvT-loop
 Inv-loop script at out₀ i₀ from₀ out i from = (length out ≡ 255) × (i ≤ 255)

@@ -1,14 +1,9 @@
 -- `vectors::sequence_text` is safe and ends: each turn of its loop is one step nearer the end. Assumes nothing.
 use lib.ListN.{length}
-use Prim.Native.Nat.{_-_, _≤_}
-use native.Mathlib.Omega.{arith}
+use Prim.Native.Nat.{_-_}
 use borrow.Author.Needs.{needs}
 use Rattle.vectors.proofs.sequence_text.Statement.{statement}
 use Rattle.vectors.proofs.sequence_text.Tie as tie
-use Rattle.vectors.proofs.sequence_text.Reads as reads
-use Rattle.vectors.proofs.sequence_text.Lts as lts
-use Rattle.vectors.proofs.say.Reads as say-reads
-use Rattle.vectors.proofs.value.Reads as value-reads
 
 abbrev Inv-loop : tie.InvT-loop
 Inv-loop vs i₀ t4 i = Unit {0}

@@ -4,8 +4,6 @@ use Rattle.entries.proofs.Machine.{minus-fits}
 use borrow.Author.Needs.{needs}
 use Rattle.vectors.proofs.signed.Statement.{statement}
 use Rattle.vectors.proofs.signed.Tie as tie
-use Rattle.vectors.proofs.signed.Reads as reads
-use Rattle.vectors.proofs.signed.Lts as lts
 
 cast-result : tie.Need-cast-result
 cast-result c = search needs

@@ -7,15 +7,6 @@ use native.Mathlib.Omega.{arith}
 use borrow.Author.Needs.{needs}
 use Rattle.vectors.proofs.step.Statement.{statement}
 use Rattle.vectors.proofs.step.Tie as tie
-use Rattle.vectors.proofs.step.Reads as reads
-use Rattle.vectors.proofs.step.Lts as lts
-use Rattle.vectors.proofs.ask.Reads as ask-reads
-use Rattle.vectors.proofs.build.Reads as build-reads
-use Rattle.vectors.proofs.build_len.Reads as build-len-reads
-use Rattle.vectors.proofs.byte.Reads as byte-reads
-use Rattle.vectors.proofs.exchange.Reads as exchange-reads
-use Rattle.vectors.proofs.grown.Reads as grown-reads
-use Rattle.vectors.proofs.least.Reads as least-reads
 
 returns : tie.Need-returns
 returns c = search needs

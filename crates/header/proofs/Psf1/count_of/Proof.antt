@@ -4,8 +4,6 @@ use native.Mathlib.Omega.{arith}
 use borrow.Author.Tests.{eq-eqb, ne-eqb}
 use Rattle.header.proofs.Psf1.count_of.Statement.{statement}
 use Rattle.header.proofs.Psf1.count_of.Tie as tie
-use Rattle.header.proofs.Psf1.count_of.Reads as reads
-use Rattle.header.proofs.Psf1.count_of.Lts as lts
 
 returns : tie.Need-returns
 unfolding psf1Count

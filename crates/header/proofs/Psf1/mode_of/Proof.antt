@@ -3,8 +3,6 @@ use native.Mathlib.Omega.{arith}
 use Rattle.header.proofs.Written.{mode-512, mode-256}
 use Rattle.header.proofs.Psf1.mode_of.Statement.{statement}
 use Rattle.header.proofs.Psf1.mode_of.Tie as tie
-use Rattle.header.proofs.Psf1.mode_of.Reads as reads
-use Rattle.header.proofs.Psf1.mode_of.Lts as lts
 
 returns : tie.Need-returns
 returns c = mode-512 (c .before .before .args .n) (c .before .before .args .table) (omega arith) .0 (c .if2 .taken)

@@ -1,18 +1,15 @@
 -- `header::Psf1::put_header` meets its contract: four stores. Assumes room.
 use native.Mathlib.Omega.{arith}
-use mathlib.Core.Path.{_≡_, refl, sym, _∙_, ap}
+use mathlib.Core.Path.{_∙_, ap}
 use Prim.Native.Nat.{ℕ}
 use mathlib.Core.List.{List, [], _∷_}
 use lib.ListN.{length-set}
-use Rattle.base.specs.Over.{over}
+use Rattle.base.specs.Meaning.{over}
 use Rattle.base.proofs.Over.{stores}
 use Rattle.header.proofs.Written.{header-mode}
 use borrow.Author.Needs.{needs}
 use Rattle.header.proofs.Psf1.put_header.Statement.{statement}
 use Rattle.header.proofs.Psf1.put_header.Tie as tie
-use Rattle.header.proofs.Psf1.put_header.Reads as reads
-use Rattle.header.proofs.Psf1.put_header.Lts as lts
-use Rattle.header.proofs.Psf1.mode_of.Reads as mode-of-reads
 
 mode-of-requires : tie.Need-mode-of-requires
 mode-of-requires c κs = search needs

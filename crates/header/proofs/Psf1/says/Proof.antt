@@ -1,21 +1,13 @@
 -- `header::Psf1::says` meets its contract: each return is one case of the definition. Assumes nothing.
 use borrow.Author.Needs.{needs}
 use native.Mathlib.Omega.{arith}
-use mathlib.Core.Path.{_≡_, refl, sym, _∙_, ap}
+use mathlib.Core.Path.{_∙_, ap}
 use Rattle.header.proofs.Cases as cases
-use Rattle.header.specs.declared.Checked.the-variants.{Sound, Refused}
+use Rattle.header.specs.declared.Checked.the-variants.{Refused}
 use Prim.Native.Nat.{_≤_}
 use native.Mathlib.Nat.{mul-le-mul}
 use Rattle.header.proofs.Psf1.says.Statement.{statement}
 use Rattle.header.proofs.Psf1.says.Tie as tie
-use Rattle.header.proofs.Psf1.says.Reads as reads
-use Rattle.header.proofs.Psf1.says.Lts as lts
-use Rattle.base.proofs.size.Reads as size-reads
-use Rattle.base.proofs.wide.Reads as wide-reads
-use Rattle.header.proofs.Psf1.count_of.Reads as count-of-reads
-use Rattle.header.proofs.Psf1.first_bitmap.Reads as first-bitmap-reads
-use Rattle.header.proofs.Psf1.table_of.Reads as table-of-reads
-use Rattle.refusal.proofs.refuse.Reads as refuse-reads
 
 refuse-requires : tie.Need-refuse-requires
 refuse-requires c κs = search needs

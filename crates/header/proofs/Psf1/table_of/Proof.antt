@@ -3,8 +3,6 @@ use Rattle.header.specs.Meaning.{psf1Table}
 use mathlib.Core.Path.{refl}
 use Rattle.header.proofs.Psf1.table_of.Statement.{statement}
 use Rattle.header.proofs.Psf1.table_of.Tie as tie
-use Rattle.header.proofs.Psf1.table_of.Reads as reads
-use Rattle.header.proofs.Psf1.table_of.Lts as lts
 
 returns : tie.Need-returns
 unfolding psf1Table

@@ -1,13 +1,8 @@
 -- `header::Psf2::says` meets its contract: the fields, and what follows on them. Assumes nothing.
 use borrow.Author.Needs.{needs}
-use native.Mathlib.Omega.{arith}
-use mathlib.Core.Path.{_≡_, refl, sym, _∙_, ap}
+use mathlib.Core.Path.{sym, _∙_}
 use Rattle.header.proofs.Psf2.says.Statement.{statement}
 use Rattle.header.proofs.Psf2.says.Tie as tie
-use Rattle.header.proofs.Psf2.says.Reads as reads
-use Rattle.header.proofs.Psf2.says.Lts as lts
-use Rattle.header.proofs.Psf2.shaped.Reads as shaped-reads
-use Rattle.header.proofs.head_of.Reads as head-of-reads
 
 head-of-requires : tie.Need-head-of-requires
 head-of-requires c κs = search needs

@@ -1,18 +1,13 @@
 -- `header::Psf2::shaped` meets its contract: each return is one case of the definition. Assumes nothing.
 use borrow.Author.Needs.{needs}
 use native.Mathlib.Omega.{arith}
-use mathlib.Core.Path.{_≡_, refl, sym, _∙_, ap}
+use mathlib.Core.Path.{_∙_, ap}
 use Rattle.header.proofs.Cases as cases
-use Rattle.header.specs.declared.Checked.the-variants.{Sound, Refused}
+use Rattle.header.specs.declared.Checked.the-variants.{Refused}
 use Prim.Native.Nat.{_≤_}
 use native.Mathlib.Nat.{mul-le-mul}
 use Rattle.header.proofs.Psf2.shaped.Statement.{statement}
 use Rattle.header.proofs.Psf2.shaped.Tie as tie
-use Rattle.header.proofs.Psf2.shaped.Reads as reads
-use Rattle.header.proofs.Psf2.shaped.Lts as lts
-use Rattle.header.proofs.Psf2.first_bitmap.Reads as first-bitmap-reads
-use Rattle.header.proofs.glyph_bytes.Reads as glyph-bytes-reads
-use Rattle.refusal.proofs.refuse.Reads as refuse-reads
 
 refuse-requires : tie.Need-refuse-requires
 refuse-requires c κs = search needs

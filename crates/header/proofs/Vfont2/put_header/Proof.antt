@@ -1,21 +1,15 @@
 -- `header::Vfont2::put_header` meets its contract: magic, fixed fields and four numbers, one behind the other. Assumes room.
 use borrow.Author.Needs.{needs}
-use native.Mathlib.Omega.{arith}
-use mathlib.Core.Path.{_≡_, refl, sym, _∙_, ap}
+use mathlib.Core.Path.{refl, _∙_, ap}
 use Prim.Native.Nat.{ℕ}
-use mathlib.Core.List.{List, [], _∷_, _++_}
-use Rattle.base.specs.Over.{over}
+use mathlib.Core.List.{List, [], _++_}
+use Rattle.base.specs.Meaning.{over}
 use Rattle.base.proofs.Over.{over-none, behind}
-use Rattle.header.specs.declared.Kind.the-variants.{Psf1, Psf2, Vfont2}
+use Rattle.header.specs.declared.Kind.the-variants.{Vfont2}
 use Rattle.header.specs.Meaning.{magicOf, fixedFields, fields}
 use Rattle.header.proofs.Written.{front-length, vfont2-parts}
 use Rattle.header.proofs.Vfont2.put_header.Statement.{statement}
 use Rattle.header.proofs.Vfont2.put_header.Tie as tie
-use Rattle.header.proofs.Vfont2.put_header.Reads as reads
-use Rattle.header.proofs.Vfont2.put_header.Lts as lts
-use Rattle.base.proofs.copy.Reads as copy-reads
-use Rattle.header.proofs.put_fields.Reads as put-fields-reads
-use Rattle.header.proofs.put_fixed.Reads as put-fixed-reads
 
 -- src/lib.rt:310:20
 slice-aggregate-copy : tie.Need-slice-aggregate-copy

@@ -1,15 +1,11 @@
 -- `header::Vfont2::shaped` meets its contract: each return is one case of the definition. Assumes nothing.
 use borrow.Author.Needs.{needs}
 use native.Mathlib.Omega.{arith}
-use mathlib.Core.Path.{_≡_, refl, sym, _∙_, ap}
+use mathlib.Core.Path.{_∙_, ap}
 use Rattle.header.proofs.Cases as cases
-use Rattle.header.specs.declared.Checked.the-variants.{Sound, Refused}
+use Rattle.header.specs.declared.Checked.the-variants.{Refused}
 use Rattle.header.proofs.Vfont2.shaped.Statement.{statement}
 use Rattle.header.proofs.Vfont2.shaped.Tie as tie
-use Rattle.header.proofs.Vfont2.shaped.Reads as reads
-use Rattle.header.proofs.Vfont2.shaped.Lts as lts
-use Rattle.header.proofs.Vfont2.first_bitmap.Reads as first-bitmap-reads
-use Rattle.refusal.proofs.refuse.Reads as refuse-reads
 
 -- src/lib.rt:274:37
 refuse-requires : tie.Need-refuse-requires

@@ -5,7 +5,7 @@ use mathlib.Core.List.{List, [], _∷_, _++_}
 use lib.ListN.{length}
 use Rattle.coding.specs.declared.Coding.{Coding}
 use Rattle.table.specs.declared.Item.{Item}
-use Rattle.table.specs.Grammar.{bytes, OfCoding}
+use Rattle.table.specs.Meaning.{bytes, OfCoding}
 
 -- items, written in one coding from a place on, of which the first whose value another coding can't carry stands at a place:
 -- everything before it is carried, and it isn't

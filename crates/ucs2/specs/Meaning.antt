@@ -1,16 +1,10 @@
 -- The values of PSF1's coding and their bytes, the low one first.
 use mathlib.Core.List.{List, [], _∷_}
 use Prim.Native.Nat.{ℕ, _/_, _%_, _<_}
-use mathlib.Core.Bool.{Bool}
-use lib.Dec.{ltb}
 
 -- a value is 0000 to FFFD, surrogates included
 abbrev pub Word : ℕ → Type 0
 Word v = v < 0xFFFE
-
--- the same as a test
-unfoldable pub isWord : ℕ → Bool
-isWord v = ltb v 0xFFFE
 
 -- the bytes of a value
 abbrev pub wordBytes : ℕ → List ℕ

@@ -4,17 +4,15 @@ use Prim.Native.Nat.{ℕ}
 use lib.IntN.{pos}
 use mathlib.Core.Bool.{Bool, true, false}
 use Rattle.refusal.specs.declared.Refusal.{Refusal}
-use Rattle.refusal.specs.Refusals.{numberOf}
+use Rattle.refusal.specs.Meaning.{numberOf}
 use Rattle.header.specs.declared.Kind.{Kind}
 use Rattle.header.specs.declared.Kind.the-variants.{Psf1, Psf2, Vfont2}
-use Rattle.header.specs.declared.Font.{Font}
 use Rattle.header.specs.declared.Checked.{Checked}
 use Rattle.header.specs.declared.Checked.the-variants.{Sound, Refused}
 use Rattle.bitmap.specs.declared.Part.{Part}
 use Rattle.bitmap.specs.declared.Part.the-variants.{At, Refused as NoPart}
 use Rattle.bitmap.specs.declared.Pixel.{Pixel}
 use Rattle.bitmap.specs.declared.Pixel.the-variants.{Bit, Refused as NoPixel}
-use Rattle.entries.specs.declared.Metrics.{Metrics}
 use Rattle.bitmap.specs.declared.GlyphMetrics.{GlyphMetrics}
 use Rattle.bitmap.specs.declared.GlyphMetrics.the-variants.{Is as IsMetrics, Refused as NoMetrics}
 use Rattle.table.specs.declared.Item as I

@@ -1,14 +1,15 @@
 -- A table's items in another coding: their bytes, how many those are, and the first value that the coding can't carry.
-use Prim.Native.Nat.{ℕ, suc, _+_, _*_, _≤_, _<_}
+use Prim.Native.Nat.{ℕ, _+_, suc}
 use mathlib.Core.List.{List, [], _∷_}
 use lib.ListN.{length}
-use Rattle.base.specs.Choice.{when}
 use Rattle.coding.specs.declared.Coding.{Coding}
-use Rattle.coding.specs.Coding.{carriesOf, valueBytes, markLen}
+use Rattle.table.specs.Meaning.{bytes}
+use Rattle.base.specs.Reading.{when}
+use Rattle.coding.specs.Reading.{carriesOf, markLen}
+use Rattle.coding.specs.Meaning.{valueBytes}
 use Rattle.table.specs.declared.Step.{Step}
 use Rattle.table.specs.declared.Step.the-variants.{Value as StepValue, Start as StepStart, End as StepEnd, Cut as StepCut, Bad as StepBad}
-use Rattle.table.specs.Grammar.{bytes}
-use Rattle.table.specs.Steps.{stepsFrom, itemsIn}
+use Rattle.table.specs.Reading.{stepsFrom, itemsIn}
 use Rattle.transcode.specs.declared.Measured.{Measured}
 use Rattle.transcode.specs.declared.Measured.the-variants.{Length, Uncarried}
 
@@ -30,8 +31,3 @@ measure to g at n (StepBad k ∷ xs) = Length n
 -- the coding can't carry, and its glyph
 unfoldable pub tableLen : Coding → Coding → List ℕ → Measured
 tableLen from to s = measure to 0 0 0 (stepsFrom from 0 0 s)
-
--- the bounds of the answer on a tail of so many bytes
-abbrev pub MeasuredWithin : ℕ → Measured → Type 0
-MeasuredWithin m (Length n) = n ≤ 4 * m
-MeasuredWithin m (Uncarried k g) = k < m

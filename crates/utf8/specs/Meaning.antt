@@ -2,17 +2,12 @@
 use mathlib.Core.List.{List, [], _∷_}
 use mathlib.Core.Logic.{_⊎_}
 use Prim.Native.Nat.{ℕ, _+_, _/_, _%_, _<_, _≤_}
-use mathlib.Core.Bool.{Bool, true, false}
 use lib.Dec.{ltb}
-use Rattle.base.specs.Choice.{pick, when}
+use Rattle.base.specs.Meaning.{pick}
 
 -- a code point that is no surrogate
 abbrev pub Scalar : ℕ → Type 0
 Scalar v = (v < 0xD800) ⊎ ((0xE000 ≤ v) × (v < 0x110000))
-
--- the same as a test
-unfoldable pub isScalar : ℕ → Bool
-isScalar v = when (ltb v 0xD800) true (when (ltb v 0xE000) false (ltb v 0x110000))
 
 -- the bytes of a value: six bits to each byte after the first
 unfoldable pub utf8Bytes : ℕ → List ℕ

@@ -4,7 +4,7 @@ use mathlib.Core.Logic.{_⊎_}
 use mathlib.Core.List.{List, [], _∷_}
 use Prim.Native.Nat.{ℕ, zero, suc, _≤_, _<_}
 use Rattle.table.specs.declared.Item.{Item}
-use Rattle.table.specs.Grammar.{Seq, Desc, itemsOf}
+use Rattle.table.specs.Meaning.{Seq, Desc, itemsOf}
 
 -- y stands at place k of a list, counted from 0
 abbrev pub Nth : {A : Type 0} → ℕ → List A → A → Type 0

@@ -1,20 +1,17 @@
--- The text of a font's listing, as ASCII (document 01, "Small tables and small fonts").
-use Prim.Native.Nat.{ℕ, zero, suc, _+_, _/_, _%_}
-use mathlib.Core.Bool.{Bool, true, false}
+-- The listing of a file, piece by piece over the items of its table, and what a call leaves in a buffer.
+use Prim.Native.Nat.{ℕ, _+_}
 use mathlib.Core.List.{List, [], _∷_, _++_}
 use lib.Dec.{ltb}
+use Rattle.base.specs.Meaning.{pick, over}
+use Rattle.base.specs.Reading.{when}
+use mathlib.Core.Bool.{Bool, true, false}
 use lib.ListN.{length}
-use Rattle.base.specs.Choice.{pick, when}
-use Rattle.base.specs.Over.{over}
-use Rattle.refusal.specs.declared.Refusal.{Refusal}
 use Rattle.refusal.specs.declared.Reason.the-variants.{Room}
-use Rattle.refusal.specs.Refusals.{numberOf, refusal}
+use Rattle.refusal.specs.Meaning.{refusal}
 use Rattle.coding.specs.declared.Coding.{Coding}
 use Rattle.table.specs.declared.Item.{Item}
 use Rattle.table.specs.declared.Item.the-variants.{Single, Start, Value, End}
-use Rattle.table.specs.Steps.{itemsIn}
-use Rattle.header.specs.declared.Kind.{Kind}
-use Rattle.header.specs.declared.Kind.the-variants.{Psf1, Psf2, Vfont2}
+use Rattle.table.specs.Reading.{itemsIn}
 use Rattle.header.specs.declared.Font.{Font}
 use Rattle.header.specs.declared.Checked.{Checked}
 use Rattle.header.specs.declared.Checked.the-variants.{Sound, Refused}
@@ -22,38 +19,7 @@ use Rattle.stages.specs.Meaning.{codingOf, tailOf}
 use Rattle.stages.specs.Reading.{checkOf}
 use Rattle.listing.specs.declared.Listed.{Listed}
 use Rattle.listing.specs.declared.Listed.the-variants.{Wrote, Refused as Unlisted}
-
--- a digit: 0 to 9, then A to F
-unfoldable pub digitOf : ℕ → ℕ
-digitOf d = pick (ltb d 10) (48 + d) (55 + d)
-
--- n in a radix, its highest digit first, where n has at most k digits behind that
-unfoldable pub digits : ℕ → ℕ → ℕ → List ℕ
-digits radix zero n = digitOf n ∷ []
-digits radix (suc k) n = pick (ltb n radix) (digitOf n ∷ []) (digits radix k (n / radix) ++ (digitOf (n % radix) ∷ []))
-
--- n in a radix: "Numbers other than values are decimal. Values are upper-case hexadecimal without leading zeros."
-unfoldable pub numeral : ℕ → ℕ → List ℕ
-numeral radix n = digits radix n n
-
--- a number and the byte after it
-unfoldable pub numberText : ℕ → ℕ → List ℕ
-numberText n b = numeral 10 n ++ (b ∷ [])
-
--- `psf1`, `psf2` or `vfont2`, and a blank
-abbrev pub kindText : Kind → List ℕ
-kindText Psf1 = 112 ∷ 115 ∷ 102 ∷ 49 ∷ 32 ∷ []
-kindText Psf2 = 112 ∷ 115 ∷ 102 ∷ 50 ∷ 32 ∷ []
-kindText Vfont2 = 118 ∷ 102 ∷ 111 ∷ 110 ∷ 116 ∷ 50 ∷ 32 ∷ []
-
--- `table` or `bare`, and a newline
-abbrev pub tableWord : Bool → List ℕ
-tableWord true = 116 ∷ 97 ∷ 98 ∷ 108 ∷ 101 ∷ 10 ∷ []
-tableWord false = 98 ∷ 97 ∷ 114 ∷ 101 ∷ 10 ∷ []
-
--- "First line: psf1, psf2 or vfont2, n, greatest height, greatest width, table or bare."
-unfoldable pub firstLine : Font → List ℕ
-firstLine f = kindText (f .kind) ++ numberText (f .count) 32 ++ numberText (f .height) 32 ++ numberText (f .width) 32 ++ tableWord (f .table)
+use Rattle.listing.specs.Meaning.{numeral, firstLine, refusedText, bigText}
 
 -- an item: a single is a blank and its value; a sequence is a blank and, for each value, `+` and the value; the end is a newline
 abbrev pub itemText : Item → List ℕ
@@ -96,14 +62,6 @@ linesText s f = pick (f .table) (tableText (codingOf (f .kind)) (tailOf s f)) []
 -- the first line, and the lines after it
 unfoldable pub fontText : List ℕ → Font → List ℕ
 fontText s f = firstLine f ++ linesText s f
-
--- "A refusal writes `refused 2 0` (number, place)."
-unfoldable pub refusedText : Refusal → List ℕ
-refusedText r = (114 ∷ 101 ∷ 102 ∷ 117 ∷ 115 ∷ 101 ∷ 100 ∷ 32 ∷ []) ++ numberText (numberOf (r .reason)) 32 ++ numberText (r .place) 10
-
--- `too big`
-abbrev pub bigText : List ℕ
-bigText = 116 ∷ 111 ∷ 111 ∷ 32 ∷ 98 ∷ 105 ∷ 103 ∷ 10 ∷ []
 
 -- what the check answers, as text
 abbrev pub answerText : List ℕ → Checked → List ℕ

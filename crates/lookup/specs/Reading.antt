@@ -1,10 +1,10 @@
 -- Looking things up on items, as far as a tail can be read.
-use mathlib.Core.Bool.{Bool, true, false}
 use mathlib.Core.List.{List, [], _∷_}
 use Prim.Native.Nat.{ℕ, zero, suc, _+_}
-use lib.Dec.{eqb}
-use Rattle.base.specs.Choice.{pick}
 use Rattle.table.specs.declared.Item.{Item}
+use mathlib.Core.Bool.{Bool, true, false}
+use lib.Dec.{eqb}
+use Rattle.base.specs.Meaning.{pick}
 use Rattle.table.specs.declared.Item.the-variants.{Single, Start, Value, End}
 use Rattle.lookup.specs.declared.Walked.{Walked}
 use Rattle.lookup.specs.declared.Walked.the-variants.{Found as Got, Nothing as NoItem}
@@ -51,13 +51,13 @@ rest (w ∷ ws) = ws
 
 -- the first description, counted from g, with a sequence that is vs; alike where the sequence that is being read is like vs
 -- so far, and then ws is what is still to come of vs
-unfoldable pub seek : List ℕ → ℕ → Bool → List ℕ → List Item → Found
-seek vs g alike ws [] = Nothing
-seek vs g alike ws (Single v ∷ is) = seek vs g alike ws is
-seek vs g alike ws (Start ∷ is) = pick (isWhole alike ws) (At g) (seek vs g true vs is)
-seek vs g alike ws (Value v ∷ is) = seek vs g (goesOn alike v ws) (rest ws) is
-seek vs g alike ws (End ∷ is) = pick (isWhole alike ws) (At g) (seek vs (g + 1) false ws is)
+unfoldable pub findSequenceFrom : List ℕ → ℕ → Bool → List ℕ → List Item → Found
+findSequenceFrom vs g alike ws [] = Nothing
+findSequenceFrom vs g alike ws (Single v ∷ is) = findSequenceFrom vs g alike ws is
+findSequenceFrom vs g alike ws (Start ∷ is) = pick (isWhole alike ws) (At g) (findSequenceFrom vs g true vs is)
+findSequenceFrom vs g alike ws (Value v ∷ is) = findSequenceFrom vs g (goesOn alike v ws) (rest ws) is
+findSequenceFrom vs g alike ws (End ∷ is) = pick (isWhole alike ws) (At g) (findSequenceFrom vs (g + 1) false ws is)
 
 -- the first description that lists the sequence vs
 abbrev pub findSequence : List ℕ → List Item → Found
-findSequence vs is = seek vs 0 false vs is
+findSequence vs is = findSequenceFrom vs 0 false vs is

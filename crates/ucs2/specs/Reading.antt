@@ -1,11 +1,15 @@
 -- One token at the front of a list of bytes: two bytes, little endian; FFFE starts a sequence, FFFF ends a description.
 use mathlib.Core.List.{List, [], _∷_}
 use Prim.Native.Nat.{ℕ, _+_, _*_}
-use lib.Dec.{eqb}
-use Rattle.base.specs.Choice.{pick}
+use lib.Dec.{eqb, ltb}
+use Rattle.base.specs.Meaning.{pick}
 use Rattle.token.specs.declared.Token.{Token}
 use Rattle.token.specs.declared.Token.the-variants.{Value, Start, End, Cut}
-use Rattle.ucs2.specs.Word.{isWord}
+use mathlib.Core.Bool.{Bool}
+
+-- the same as a test
+unfoldable pub isWord : ℕ → Bool
+isWord v = ltb v 0xFFFE
 
 -- what a number of two bytes is: a value, or one of the two marks
 abbrev pub word : ℕ → Token

@@ -1,13 +1,15 @@
--- The table as data, after the published grammar, and its bytes in a coding:
+-- The table as data, after the published grammar, its bytes in a coding, what a table is, and how far bytes are the start of one:
 --   <unicodedescription> := <uc>*<seq>*<term>
 --   <seq> := <ss><uc><uc>*
 use mathlib.Core.List.{List, [], _∷_, _++_}
-use Prim.Native.Nat.{ℕ, suc}
+use Prim.Native.Nat.{ℕ, suc, _+_, _≤_, _<_}
 use lib.ListN.{length, take}
 use Rattle.coding.specs.declared.Coding.{Coding}
-use Rattle.coding.specs.Coding.{valueOf, valueBytes, startBytes, endBytes}
+use Rattle.coding.specs.Meaning.{valueOf, valueBytes, startBytes, endBytes}
 use Rattle.table.specs.declared.Item.{Item}
 use Rattle.table.specs.declared.Item.the-variants.{Single, Start, Value, End}
+use mathlib.Core.Path.{_≡_}
+use Rattle.base.specs.Meaning.{Bytes}
 
 -- a sequence has at least one value
 pub record Seq : Type 0 where
@@ -42,14 +44,6 @@ abbrev pub items : List Desc → List Item
 items [] = []
 items (d ∷ ds) = described d (items ds)
 
--- how many descriptions end among items
-abbrev pub endsIn : List Item → ℕ
-endsIn [] = 0
-endsIn (Single v ∷ is) = endsIn is
-endsIn (Start ∷ is) = endsIn is
-endsIn (Value v ∷ is) = endsIn is
-endsIn (End ∷ is) = suc (endsIn is)
-
 -- the bytes of an item
 abbrev pub itemBytes : Coding → Item → List ℕ
 itemBytes c (Single v) = valueBytes c v
@@ -74,10 +68,36 @@ OfCoding c (End ∷ is) = OfCoding c is
 abbrev pub encode : Coding → List Desc → List ℕ
 encode c ds = bytes c (items ds)
 
+-- every value of the descriptions is one of the coding's
+abbrev pub Readable : Coding → List Desc → Type 0
+Readable c ds = OfCoding c (items ds)
+
 -- where description g starts: behind the bytes of those before it
 abbrev pub startOf : Coding → List Desc → ℕ → ℕ
 startOf c ds g = length (encode c (take g ds))
 
--- every value of the descriptions is one of the coding's
-abbrev pub Readable : Coding → List Desc → Type 0
-Readable c ds = OfCoding c (items ds)
+-- "Bytes are a complete table when they are n descriptions end to end, nothing over."
+pub record IsTable (c : Coding) (n : ℕ) (s : List ℕ) : Type 0 where
+  pub reading : List Desc
+  pub count : length reading ≡ n
+  pub values : Readable c reading
+  pub same : s ≡ encode c reading
+
+-- "It could still be completed when some further bytes, or none, make it a complete table."
+pub record Completable (c : Coding) (n : ℕ) (s : List ℕ) : Type 0 where
+  pub more : List ℕ
+  pub of : Bytes more
+  pub table : IsTable c n (s ++ more)
+
+-- the first k bytes are the longest start of a tail that could still be completed
+pub record LongestStart (c : Coding) (n : ℕ) (s : List ℕ) (k : ℕ) : Type 0 where
+  pub within : k ≤ length s
+  pub completable : Completable c n (take k s)
+  pub longest : (j : ℕ) → k < j → j ≤ length s → Completable c n (take j s) → ⊥
+
+-- up to place k the first g descriptions are complete, and not one more: the place stands in the description of glyph g
+pub record InGlyph (c : Coding) (s : List ℕ) (k g : ℕ) : Type 0 where
+  pub start : ℕ
+  pub before : start ≤ k
+  pub complete : IsTable c g (take start s)
+  pub unended : (j : ℕ) → j ≤ k → IsTable c (suc g) (take j s) → ⊥

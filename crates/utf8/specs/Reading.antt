@@ -1,45 +1,44 @@
 -- One value at the front of a list of bytes: well-formed UTF-8 (Unicode, Table 3-7). And one token: FE starts a sequence, FF ends a
 -- description, and anything else is a value.
 use mathlib.Core.List.{List, [], _∷_}
-use mathlib.Core.Path.{_≡_}
-use Prim.Native.Nat.{ℕ, zero, suc, _+_, _-_, _*_, _%_, _<_}
-use lib.Dec.{eqb}
-use Rattle.base.specs.Choice.{pick, within}
+use Prim.Native.Nat.{ℕ, _+_, _%_, zero, suc, _-_, _*_}
+use mathlib.Core.Bool.{Bool, true, false}
+use lib.Dec.{ltb, eqb}
+use Rattle.base.specs.Meaning.{pick}
+use Rattle.base.specs.Reading.{when, within}
 use Rattle.token.specs.declared.Token.{Token}
 use Rattle.token.specs.declared.Token.the-variants.{Value as TokenValue, Start, End, Cut as TokenCut, Bad as TokenBad}
 use Rattle.utf8.specs.declared.Lead.{Lead}
 use Rattle.utf8.specs.declared.Read.{Read}
 use Rattle.utf8.specs.declared.Read.the-variants.{Value, Cut, Bad}
 
--- a row of Table 3-7: the value's length, the modulus that leaves the first byte's bits, the bounds of the second byte
-abbrev pub row : ℕ → ℕ → ℕ → ℕ → Lead
-row n m l h = record { len = n; modulus = m; lo = l; hi = h }
+-- the same as a test
+unfoldable pub isScalar : ℕ → Bool
+isScalar v = when (ltb v 0xD800) true (when (ltb v 0xE000) false (ltb v 0x110000))
 
--- what the first byte says: Table 3-7 row by row, and last the bytes that begin no value
+-- a leadRow of Table 3-7: the value's length, the modulus that leaves the first byte's bits, the bounds of the second byte
+abbrev pub leadRow : ℕ → ℕ → ℕ → ℕ → Lead
+leadRow n m l h = record { len = n; modulus = m; lo = l; hi = h }
+
+-- what the first byte says: Table 3-7 leadRow by leadRow, and last the bytes that begin no value
 unfoldable pub leadOf : ℕ → Lead
 leadOf b =
-    pick (within 0x00 0x7F b) (row 1 128 0x80 0xBF)
-    (pick (within 0xC2 0xDF b) (row 2 32 0x80 0xBF)
-    (pick (within 0xE0 0xE0 b) (row 3 16 0xA0 0xBF)
-    (pick (within 0xE1 0xEC b) (row 3 16 0x80 0xBF)
-    (pick (within 0xED 0xED b) (row 3 16 0x80 0x9F)
-    (pick (within 0xEE 0xEF b) (row 3 16 0x80 0xBF)
-    (pick (within 0xF0 0xF0 b) (row 4 8 0x90 0xBF)
-    (pick (within 0xF1 0xF3 b) (row 4 8 0x80 0xBF)
-    (pick (within 0xF4 0xF4 b) (row 4 8 0x80 0x8F)
-    (row 0 1 0x80 0xBF)))))))))
+    pick (within 0x00 0x7F b) (leadRow 1 128 0x80 0xBF)
+    (pick (within 0xC2 0xDF b) (leadRow 2 32 0x80 0xBF)
+    (pick (within 0xE0 0xE0 b) (leadRow 3 16 0xA0 0xBF)
+    (pick (within 0xE1 0xEC b) (leadRow 3 16 0x80 0xBF)
+    (pick (within 0xED 0xED b) (leadRow 3 16 0x80 0x9F)
+    (pick (within 0xEE 0xEF b) (leadRow 3 16 0x80 0xBF)
+    (pick (within 0xF0 0xF0 b) (leadRow 4 8 0x90 0xBF)
+    (pick (within 0xF1 0xF3 b) (leadRow 4 8 0x80 0xBF)
+    (pick (within 0xF4 0xF4 b) (leadRow 4 8 0x80 0x8F)
+    (leadRow 0 1 0x80 0xBF)))))))))
 
 -- the bytes after the first: n more, the next within lo and hi; v so far, k bytes taken
 unfoldable pub conts : ℕ → ℕ → ℕ → ℕ → ℕ → List ℕ → Read
 conts zero lo hi v k s = Value v k
 conts (suc n) lo hi v k [] = Cut
 conts (suc n) lo hi v k (b ∷ s) = pick (within lo hi b) (conts n 0x80 0xBF (v * 64 + (b - 0x80)) (k + 1) s) (Bad k)
-
--- a value that was read is below a number, and so many bytes long
-abbrev pub Reached : ℕ → ℕ → Read → Type 0
-Reached n k (Value v l) = (v < n) × (l ≡ k)
-Reached n k Cut = Unit {0}
-Reached n k (Bad j) = Unit {0}
 
 -- the value in front
 unfoldable pub readValue : List ℕ → Read
