@@ -8,9 +8,10 @@ use lib.IntN.{pos, negsuc}
 use Rattle.base.specs.Meaning.{le16, Bytes}
 use Rattle.base.proofs.Parts.{byte-at}
 use Rattle.base.proofs.Tests.{below}
+use Rattle.content.specs.Meaning.{EvenGlyph}
 use Rattle.header.specs.Meaning.{rowBytes, glyphBytes}
 use Rattle.entries.specs.declared.Metrics.{Metrics}
-use Rattle.entries.specs.Meaning.{addressAt, sizeAt, signed16, metricsAt, rowsAt, colsAt, HasGlyph, Breaks}
+use Rattle.entries.specs.Meaning.{addressAt, sizeAt, signed16, metricsAt, rowsAt, colsAt, Breaks}
 use Rattle.entries.proofs.Sums.{low, high}
 use Rattle.entries.proofs.Meaning.{keeps-rules}
 use Rattle.bitmap.specs.Meaning.{evenMetrics}
@@ -29,10 +30,6 @@ signed-is x v b e = go (below x 32768)
     go (inr g) = let q : negsuc (65535 - x) ≡ pos v = sym (high x g b) ∙ e in let z : _≡_ {A = ℕ} 0 1 = cc in absurd (omega arith)
 
 module _ (s : List ℕ) (h w at : ℕ) where
-  -- an entry that has a glyph with those metrics
-  abbrev pub EvenGlyph : Type 0
-  EvenGlyph = HasGlyph s at × (metricsAt s at ≡ evenMetrics h w)
-
   -- the fields of such an entry
   abbrev pub EvenFields : Type 0
   EvenFields =
@@ -50,7 +47,7 @@ module _ (s : List ℕ) (h w at : ℕ) where
   }
 
   -- and an entry with those metrics has those fields
-  pub metrics-even : Bytes s → EvenGlyph → EvenFields
+  pub metrics-even : Bytes s → EvenGlyph s h w at → EvenFields
   unfolding metricsAt
   metrics-even y (g, e) = (
     g,

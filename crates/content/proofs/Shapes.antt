@@ -12,8 +12,7 @@ use Rattle.header.specs.declared.Font.{Font}
 use Rattle.header.specs.Meaning.{glyphBytes}
 use Rattle.entries.specs.Meaning.{entryAt}
 use Rattle.bitmap.specs.Meaning.{evenMetrics, kindMetrics}
-use Rattle.content.specs.Meaning.{bitmapIn, NoGlyph}
-use Rattle.content.proofs.Evens.{EvenGlyph}
+use Rattle.content.specs.Meaning.{bitmapIn, NoGlyph, EvenGlyph}
 
 -- what PSF1 asks besides: "256 glyphs, or 512", "Width 8"
 abbrev pub KindShape : Kind → ℕ → ℕ → Type 0

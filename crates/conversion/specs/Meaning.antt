@@ -1,6 +1,5 @@
 -- The conversions (document 01, "Conversions"): from which kind to which, what is written, and which entries of a vfont2 font PSF2 can carry.
 use Prim.Native.Nat.{ℕ, _+_, _*_, _<_}
-use mathlib.Core.Path.{_≡_}
 use mathlib.Core.List.{List}
 use Rattle.coding.specs.declared.Coding.the-variants.{Utf8, Ucs2}
 use Rattle.transcode.specs.Reading.{recoded}
@@ -8,9 +7,9 @@ use Rattle.header.specs.declared.Kind.{Kind}
 use Rattle.header.specs.declared.Kind.the-variants.{Psf1, Psf2, Vfont2}
 use Rattle.header.specs.declared.Font.{Font}
 use Rattle.header.specs.Meaning.{headerLen, entryLen}
-use Rattle.entries.specs.Meaning.{entryAt, metricsAt, HasGlyph}
-use Rattle.bitmap.specs.Meaning.{evenMetrics}
+use Rattle.entries.specs.Meaning.{entryAt}
 use Rattle.stages.specs.Meaning.{tailOf}
+use Rattle.content.specs.Meaning.{EvenGlyph}
 use Rattle.layout.specs.Meaning.{fontBytes, charSize, glyphsIn, evenly}
 use Rattle.conversion.specs.declared.Conversion.{Conversion}
 use Rattle.conversion.specs.declared.Conversion.the-variants.{Psf1ToPsf2, Psf2ToPsf1, Psf2ToVfont2, Vfont2ToPsf2}
@@ -46,11 +45,7 @@ outputOf c s f =
 unfoldable pub frontLen : Conversion → Font → ℕ
 frontLen c f = headerLen (targetKind c) + f .count * entryLen (targetKind c) + f .count * charSize f
 
--- an entry that has a glyph with the five metrics "(greatest height, 0, 0, greatest width, greatest width)"
-abbrev pub EvenGlyph : List ℕ → ℕ → ℕ → ℕ → Type 0
-EvenGlyph s h w at = HasGlyph s at × (metricsAt s at ≡ evenMetrics h w)
-
--- entry i is the first of n that is none
+-- entry i is the first of n "that has no glyph or whose five metrics are not (greatest height, 0, 0, greatest width, greatest width)"
 pub record FirstUneven (s : List ℕ) (h w n start i : ℕ) : Type 0 where
   pub within : i < n
   pub uneven : EvenGlyph s h w (entryAt start i) → ⊥

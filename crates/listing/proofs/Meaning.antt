@@ -7,7 +7,7 @@ use native.Mathlib.Omega.{arith}
 use lib.ListN.{length}
 use Rattle.refusal.specs.declared.Refusal.{Refusal}
 use Rattle.table.specs.Reading.{itemsIn}
-use Rattle.table.specs.Meaning.{IsTable}
+use Rattle.table.specs.Meaning.{IsTable, items}
 use Rattle.table.proofs.Meaning.{items-read}
 use Rattle.header.specs.declared.Font.{Font}
 use Rattle.header.specs.declared.Checked.the-variants.{Sound, Refused}
@@ -15,7 +15,7 @@ use Rattle.stages.specs.Meaning.{codingOf, tailOf}
 use Rattle.stages.specs.Reading.{checkOf}
 use Rattle.base.specs.Meaning.{over}
 use Rattle.listing.specs.declared.Listed.the-variants.{Wrote}
-use Rattle.listing.specs.Meaning.{numeral, firstLine, refusedText, bigText, glyphLines, numberIn, NoLeadingZero}
+use Rattle.listing.specs.Meaning.{digitOf, digits, numeral, firstLine, refusedText, bigText, glyphLines, numberIn, NoLeadingZero}
 use Rattle.listing.specs.Reading.{linesOf, tableText, linesText, listingOf, listedOf, leftOf}
 use Rattle.listing.proofs.Numerals.{numeral-back, numeral-leads}
 use Rattle.listing.proofs.Described.{lines-of}
@@ -27,7 +27,7 @@ pub table-listed : (s : List ℕ) (f : Font) → length s ≤ 65536 → checkOf 
 unfolding linesText tableText
 table-listed s f h ok e t =
     let c = codingOf (f .kind) in
-    let i : itemsIn c (tailOf s f) ≡ Rattle.table.specs.Grammar.items (t .reading) = ap (itemsIn c) (t .same) ∙ items-read c (t .reading) (t .values) in
+    let i : itemsIn c (tailOf s f) ≡ items (t .reading) = ap (itemsIn c) (t .same) ∙ items-read c (t .reading) (t .values) in
     let l : linesText s f ≡ glyphLines 0 (t .reading) = rw e (ap (linesOf 0 true) i ∙ lines-of 0 (t .reading)) in
     sym (listing-answer s (Sound f) h (sym ok)) ∙ font-text s f ∙ ap (λ (z : List ℕ). firstLine f ++ z) l
 
@@ -60,7 +60,7 @@ pub numeral-no-zero : (radix n : ℕ) → 2 ≤ radix → radix ≤ 16 → 1 ≤
 numeral-no-zero = numeral-leads
 
 pub numeral-zero : (radix : ℕ) → numeral radix 0 ≡ 48 ∷ []
-unfolding numeral Rattle.listing.specs.Text.digits Rattle.listing.specs.Text.digitOf
+unfolding numeral digits digitOf
 numeral-zero radix = refl
 
 -- so are decimal ones

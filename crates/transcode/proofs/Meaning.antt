@@ -10,7 +10,7 @@ use Rattle.coding.specs.declared.Coding.{Coding}
 use Rattle.table.specs.declared.Item.{Item}
 use Rattle.table.specs.declared.Item.the-variants.{Single, Start, Value, End}
 use Rattle.table.specs.Meaning.{Desc, items, bytes, OfCoding, encode, Readable, InGlyph}
-use Rattle.table.specs.Reading.{endsIn, stepsFrom}
+use Rattle.table.specs.Reading.{endsIn, stepsFrom, itemsIn}
 use Rattle.table.proofs.Meaning.{items-read, glyph-of-item}
 use Rattle.transcode.specs.declared.Measured.{Measured}
 use Rattle.transcode.specs.declared.Measured.the-variants.{Length, Uncarried}
@@ -77,4 +77,4 @@ module _ (from to : Coding) (ds : List Desc) (s : List ℕ) (o : Readable from d
   -- what is written is the same descriptions in the other coding
   pub recoded-table : recoded from to s ≡ encode to ds
   unfolding recoded
-  recoded-table = ap (bytes to) (ap (Rattle.table.specs.Steps.itemsIn from) e ∙ items-read from ds o)
+  recoded-table = ap (bytes to) (ap (itemsIn from) e ∙ items-read from ds o)
