@@ -28,6 +28,7 @@ FIGURE(vfont2_to_psf2, lav_vfont2_to_psf2(file, length, out, ROOM).number)
 FIGURE(glyph, lav_glyph(file, length, 0).length)
 FIGURE(row, lav_row(file, length, 0, 0).length)
 FIGURE(pixel, lav_pixel(file, length, 0, 0, 0).number)
+FIGURE(metrics, lav_metrics(file, length, 0).right)
 FIGURE(item, lav_item(file, length, 0, 0).value)
 FIGURE(sequence, lav_find_sequence(file, length, &last, 1).number)
 __attribute__((noinline)) void bench_copy(void) { memcpy(out, file, length); kept += out[length - 1]; }
@@ -38,7 +39,8 @@ static const struct { const char *name; void (*call)(void); } FIGURES[] = {
     {"check", bench_check}, {"find_value, nothing found", bench_none}, {"find_value, last glyph", bench_last},
     {"psf1_to_psf2", bench_psf1_to_psf2}, {"psf2_to_psf1", bench_psf2_to_psf1},
     {"psf2_to_vfont2", bench_psf2_to_vfont2}, {"vfont2_to_psf2", bench_vfont2_to_psf2},
-    {"glyph", bench_glyph}, {"row", bench_row}, {"pixel", bench_pixel}, {"item", bench_item}, {"find_sequence", bench_sequence},
+    {"glyph", bench_glyph}, {"row", bench_row}, {"pixel", bench_pixel}, {"metrics", bench_metrics},
+    {"item", bench_item}, {"find_sequence", bench_sequence},
 };
 
 static double best_of(void (*call)(void), int rounds) {

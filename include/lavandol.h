@@ -1,9 +1,10 @@
 /*
  * lavandol.h: bitmap fonts in the formats PSF1, PSF2 and vfont2, read from memory.
  *
- * Link with target/staticlib/liblavandol.a, which `rt staticlib lavandol` makes (x86-64). Every function is proved to answer as its
- * comment says on any bytes and any numbers, to end, and to read nothing outside the slices that it is lent. The proof ends at this
- * header: nothing checks the declarations below against the library, and the caller must keep the three rules that follow.
+ * Link with target/staticlib/liblavandol.a, which `rt staticlib lavandol` makes: x86-64 ELF, its functions called by the System V
+ * calling convention. Every function is proved to answer as its comment says on any bytes and any numbers, to end, and to read nothing
+ * outside the slices that it is lent. The proof ends at this header: nothing checks the declarations below against the library, and
+ * the caller must keep the three rules that follow.
  *
  * - A slice is a pointer and a number of elements: `file, file_len` are bytes, `values, value_count` are uint32_t. The pointer is not
  *   NULL, also where the length is 0, and so many elements can be read there (written, for a buffer). A slice of uint32_t is aligned.
@@ -11,9 +12,10 @@
  * - The pointers are not kept: memory may be moved or freed after the call.
  *
  * The functions allocate nothing, have no global state and no locks, and call nothing: the archive needs no C library. So they may run
- * in an interrupt handler or in several threads at once. They need at most about 600 bytes of stack (docs/BENCHMARK.md), whatever the
- * font. Each call checks the font first, one pass over the header, the vfont2 entries and the Unicode table; a walk or a lookup is
- * another pass over the Unicode table at most, a conversion two.
+ * in several threads at once, and in an interrupt handler; but lav_check and the four conversions use SSE registers (the compiler's
+ * doing), so a handler that does not save them must not call these five. They need at most about 600 bytes of stack
+ * (docs/BENCHMARK.md), whatever the font. Each call checks the font first, one pass over the header, the vfont2 entries and the Unicode
+ * table; a walk or a lookup is another pass over the Unicode table at most, a conversion two.
  *
  * Numbers in the files are little endian. Glyphs, rows, columns and items are counted from 0.
  */
@@ -22,6 +24,9 @@
 
 #include <stddef.h>
 #include <stdint.h>
+
+/* The number of this interface: it grows when a declaration below changes. */
+#define LAVANDOL_VERSION 1
 
 #ifdef __cplusplus
 extern "C" {
@@ -32,7 +37,8 @@ extern "C" {
  * `refusal` is one of the numbers below, `place` tells where, and all other members are 0.
  *
  * Every call gives the font's own refusal, 1 to 12, before any other. They are tried in this order and the first that applies is
- * given, so a font that is refused is refused by all calls alike. Places 1 to 12 are offsets in the file.
+ * given, so a font that is refused is refused by all calls alike. The places of 1 to 12 are offsets in the file; the place of 13 to 16
+ * is 0.
  */
 enum {
     LAV_OK = 0,
@@ -54,12 +60,12 @@ enum {
     LAV_ASK = 13,        /* the question's fault: glyph, item, row or column number too high, value above 10FFFF, empty sequence */
     LAV_NO_TABLE = 14,   /* a walk or lookup on a font without a Unicode table */
     LAV_UNMAPPED = 15,   /* no glyph lists it */
-    LAV_NO_GLYPH = 16,   /* a bitmap asked of a vfont2 entry of size 0 */
+    LAV_NO_GLYPH = 16,   /* a bitmap or metrics asked of a vfont2 entry of size 0 */
 
     LAV_WRONG_KIND = 17, /* the conversion wants another kind; place 0 */
     LAV_GLYPHS = 18,     /* the target can't have these glyphs; to PSF1: not 256 or 512 of them (place 16), then width not 8 (28);
-                            vfont2 to PSF2: place is the start of the first entry that has no glyph, or not the greatest height and
-                            width with nothing below the line or left of the origin */
+                            vfont2 to PSF2: place is the start of the first entry that has no glyph or whose five metrics are not
+                            (greatest height, 0, 0, greatest width, greatest width) */
     LAV_VALUE = 19,      /* the target can't have a value: a surrogate (PSF1 to PSF2), above FFFD (to PSF1); place: its first byte */
     LAV_SIZE = 20,       /* the output would be over 1,048,576 bytes; place 0 */
     LAV_ROOM = 21        /* the lent buffer is shorter than the output; place: the size needed */
@@ -94,6 +100,17 @@ typedef struct {
     size_t length;
 } lav_part;
 
+/* A glyph's metrics, in pixels; each may be negative. All are 0 where the question is refused. */
+typedef struct {
+    uint32_t refusal;
+    size_t place;
+    int32_t up;      /* rows above the baseline point, */
+    int32_t down;    /* and below it */
+    int32_t left;    /* columns left of the baseline point, */
+    int32_t right;   /* and right of it */
+    int32_t logical; /* logical width: from this glyph's baseline point to the next glyph's */
+} lav_metrics_answer;
+
 /* One item of a glyph's description. A mark has the value 0. */
 typedef struct {
     uint32_t refusal;
@@ -109,24 +126,55 @@ typedef struct {
     size_t number;
 } lav_number;
 
+/* The sizes that the library's own structs have. */
+#if defined SIZE_MAX && SIZE_MAX > 0xFFFFFFFF
+#if defined __cplusplus && __cplusplus >= 201103L
+#define LAVANDOL_ASSERT static_assert
+#elif defined __STDC_VERSION__ && __STDC_VERSION__ >= 201112L
+#define LAVANDOL_ASSERT _Static_assert
+#endif
+#ifdef LAVANDOL_ASSERT
+LAVANDOL_ASSERT(sizeof(lav_font) == 80, "lav_font has 80 bytes");
+LAVANDOL_ASSERT(sizeof(lav_part) == 32, "lav_part has 32 bytes");
+LAVANDOL_ASSERT(sizeof(lav_metrics_answer) == 40, "lav_metrics_answer has 40 bytes");
+LAVANDOL_ASSERT(sizeof(lav_item_answer) == 24, "lav_item_answer has 24 bytes");
+LAVANDOL_ASSERT(sizeof(lav_number) == 24, "lav_number has 24 bytes");
+#undef LAVANDOL_ASSERT
+#endif
+#endif
+
 /* Checks a font. Refusals: 1 to 12. A font that passes is refused by no later call on the same bytes with 1 to 12. */
 lav_font lav_check(const uint8_t *file, size_t file_len);
 
 /*
  * Where glyph g's bitmap stands in the file: rows from the top, each row so many whole bytes as its pixels fill, pixels from a byte's
- * top bit on, 1 is drawn. Bits after a row's last pixel may be anything. Refusals: 1 to 12, ASK (no glyph g), NO_GLYPH.
+ * top bit on, 1 is drawn. Bits after a row's last pixel may be anything. Where it is not refused, offset + length <= file_len.
+ * Refusals: 1 to 12, ASK (no glyph g), NO_GLYPH.
  */
 lav_part lav_glyph(const uint8_t *file, size_t file_len, size_t g);
 
-/* Where row y of glyph g stands. Refusals: 1 to 12, ASK (no glyph g), NO_GLYPH, ASK (no row y in this glyph). */
+/*
+ * Where row y of glyph g stands. Where it is not refused, offset + length <= file_len.
+ * Refusals: 1 to 12, ASK (no glyph g), NO_GLYPH, ASK (no row y in this glyph).
+ */
 lav_part lav_row(const uint8_t *file, size_t file_len, size_t g, size_t y);
 
-/* The pixel of row y and column x of glyph g: 1 is drawn, 0 not. Refusals: as lav_row, and ASK (no column x in this glyph). */
+/*
+ * The pixel of row y and column x of glyph g: 1 is drawn, 0 not. Each call checks the font again: to draw a glyph, rather ask
+ * lav_glyph once and read its bytes. Refusals: as lav_row, and ASK (no column x in this glyph).
+ */
 lav_number lav_pixel(const uint8_t *file, size_t file_len, size_t g, size_t y, size_t x);
 
 /*
+ * The metrics of glyph g: the entry's own five numbers in a vfont2 font, (height, 0, 0, width, width) in a PSF1 or PSF2 font.
+ * up + down and left + right are the glyph's own height and width, 1 to 255. Refusals: 1 to 12, ASK (no glyph g), NO_GLYPH.
+ */
+lav_metrics_answer lav_metrics(const uint8_t *file, size_t file_len, size_t g);
+
+/*
  * Item k of glyph g's description, in the order of the file: its singles, then for each sequence a start mark and its values, last the
- * end mark. So a walk asks k = 0, 1, .. up to LAV_END. Refusals: 1 to 12, NO_TABLE, ASK (no glyph g, or no item k).
+ * end mark. So a walk asks k = 0, 1, .. up to LAV_END. Each call checks the font again, its whole table too, so walking all glyphs
+ * takes time quadratic in the table's length. Refusals: 1 to 12, NO_TABLE, ASK (no glyph g, or no item k).
  */
 lav_item_answer lav_item(const uint8_t *file, size_t file_len, size_t g, size_t k);
 
@@ -142,7 +190,8 @@ lav_number lav_find_sequence(const uint8_t *file, size_t file_len, const uint32_
 /*
  * Conversions. Each writes the whole output to the front of the lent buffer `out` and answers how many bytes that is; what stands
  * behind them in the buffer stays. A refused conversion leaves the buffer as it was. To learn the size needed, lend a buffer of length
- * 0: ROOM gives it as its place. The written header has 32 bytes (4 for PSF1) and version 0; extra header bytes are dropped.
+ * 0 (its pointer not NULL): ROOM gives it as its place. The written header has 32 bytes (4 for PSF1) and version 0; extra header bytes
+ * are dropped.
  * Refusals, tried in this order: 1 to 12, WRONG_KIND, GLYPHS, VALUE, SIZE, ROOM; a conversion that can't meet one is named so.
  */
 

@@ -3,6 +3,7 @@
  * Build, in the repository's folder after `rt staticlib lavandol`:
  *   gcc -O2 -Wall -Wextra -Iinclude -o target/lookup examples/c/lookup.c target/staticlib/liblavandol.a
  */
+#include <ctype.h>
 #include <lavandol.h>
 #include <stdio.h>
 #include <stdlib.h>
@@ -19,26 +20,33 @@ int main(int argc, char **argv) {
         fprintf(stderr, "usage: lookup FONT HEX\n");
         return 2;
     }
+    char *end;
+    unsigned long long value = strtoull(argv[2], &end, 16);
+    if (!isxdigit((unsigned char)argv[2][0]) || *end || value > UINT32_MAX) {
+        fprintf(stderr, "%s: not a hexadecimal code point\n", argv[2]);
+        return 2;
+    }
     FILE *in = fopen(argv[1], "rb");
-    if (!in) {
+    size_t length = in ? fread(file, 1, sizeof file, in) : 0;
+    if (!in || ferror(in)) { /* a folder can be opened, but not read */
         perror(argv[1]);
         return 2;
     }
-    size_t length = fread(file, 1, sizeof file, in);
     fclose(in);
 
     lav_font font = lav_check(file, length);
     if (font.refusal) return refused(argv[1], font.refusal, font.place);
 
-    lav_number glyph = lav_find_value(file, length, (uint32_t)strtoul(argv[2], NULL, 16));
+    lav_number glyph = lav_find_value(file, length, (uint32_t)value);
     if (glyph.refusal) return refused(argv[2], glyph.refusal, glyph.place);
     printf("glyph %zu of %zu\n", glyph.number, font.count);
 
-    for (size_t y = 0; y < font.height; y++) {
-        for (size_t x = 0; x < font.width; x++) {
-            lav_number pixel = lav_pixel(file, length, glyph.number, y, x);
-            if (pixel.refusal) break; /* this glyph is smaller than the font's greatest */
-            putchar(pixel.number ? '#' : '.');
+    lav_metrics_answer metrics = lav_metrics(file, length, glyph.number);
+    if (metrics.refusal) return refused(argv[2], metrics.refusal, metrics.place); /* LAV_NO_GLYPH: listed, but not drawn */
+
+    for (int y = 0; y < metrics.up + metrics.down; y++) {
+        for (int x = 0; x < metrics.left + metrics.right; x++) {
+            putchar(lav_pixel(file, length, glyph.number, y, x).number ? '#' : '.');
         }
         putchar('\n');
     }

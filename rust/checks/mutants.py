@@ -2,7 +2,7 @@
 import subprocess
 import sys
 
-F, C = 'fonts', 'conversions'
+F, C, M = 'fonts', 'conversions', 'metrics'
 SLIPS = [
     (F, "len(f) > LIMIT", "len(f) >= LIMIT"),
     (F, "no(1, LIMIT)", "no(1, len(f))"),
@@ -89,6 +89,18 @@ SLIPS = [
     (C, "struct.pack('<IIhhhhh', i * c, c,", "struct.pack('<IIhhhhh', 0, c,"),
     (C, "    o = check(f)\n    if o.kind !=", "    if which != 0 and f[:2] == b'\\x36\\x04':\n        no(17, 0)\n    o = check(f)\n    if o.kind !="),
     (C, "bits = b''.join(f[a:a + c] for a, _, _ in o.cells)", "m = 256 - (1 << -o.w % 8); bits = bytes(b & m if o.w < 8 else b for a, _, _ in o.cells for b in f[a:a + c])"),
+    (M, "return o.h, 0, 0, o.w, o.w", "return 0, o.h, 0, o.w, o.w"),
+    (M, "return o.h, 0, 0, o.w, o.w", "return o.h, 0, 0, o.w, 8"),
+    (M, "return o.h, 0, 0, o.w, o.w", "return o.w, 0, 0, o.h, o.h"),
+    (M, "def metrics(f, g):\n    o = check(f)\n", "def metrics(f, g):\n    o = check(f)\n    g &= 0xFFFFFFFF\n"),
+    (M, "def metrics(f, g):\n    o = check(f)\n", "def metrics(f, g):\n    o = check(f)\n    g = g * 18 % 2 ** 64 // 18\n"),
+    (M, "    if o.ent[g][0] == 0:\n        no(16, 0)\n", ""),
+    (M, "    if o.ent[g][0] == 0:\n        no(16, 0)\n", "    if not any(o.ent[g]):\n        no(16, 0)\n"),
+    (M, "return o.ent[g][1:]", "return o.ent[g & 255][1:]"),
+    (M, "return o.ent[g][1:]", "return tuple(m & 0xFFFF for m in o.ent[g][1:])"),
+    (M, "return o.ent[g][1:]", "return tuple((m + 128 & 255) - 128 for m in o.ent[g][1:])"),
+    (M, "return o.ent[g][1:]", "return o.ent[g][1:5] + (o.ent[g][3] + o.ent[g][4],)"),
+    (M, "return o.ent[g][1:]", "return o.ent[g][1:3] + (o.ent[g][4], o.ent[g][3], o.ent[g][5])"),
 ]
 source = open('oracle.py').read()
 kept = 0

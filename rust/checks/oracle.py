@@ -231,6 +231,17 @@ def pixel(f, g, r, c):
     return f[at + r * ((w + 7) // 8) + c // 8] >> (7 - c % 8) & 1
 
 
+def metrics(f, g):
+    o = check(f)
+    if g >= o.n:
+        no(13, 0)
+    if o.kind != 'vfont2':
+        return o.h, 0, 0, o.w, o.w
+    if o.ent[g][0] == 0:
+        no(16, 0)
+    return o.ent[g][1:]
+
+
 def tabled(f):
     o = check(f)
     if not o.tab:
@@ -410,6 +421,14 @@ def main():
             except No as e:
                 a = 'refused %d %d' % e.args
             put('sequence %s %s\n' % (''.join('+%X' % v for v in vs) or '-', a))
+        elif op == 0x17:
+            g, asked = num(8), [num(2) for _ in range(5)]
+            try:
+                signed = tuple(a - 65536 if a >= 32768 else a for a in asked)
+                a = 'is' if metrics(f, g) == signed else 'is not'
+            except No as e:
+                a = 'refused %d %d' % e.args
+            put('metrics %d %d %d %d %d %d %s\n' % (g, *asked, a))
         elif op == 0x20:
             which, room = num(1), num(4)
             buf = b'\xa5' * room

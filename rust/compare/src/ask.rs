@@ -134,6 +134,13 @@ impl Asking<'_> {
         self.same(a, b, || format!("pixel {g} {y} {x}"));
     }
 
+    pub fn metrics(&mut self, g: usize) {
+        let a = ours(lavandol::metrics(self.file, g));
+        let a = a.map(|m| [m.up, m.down, m.left, m.right, m.logical]);
+        let b = theirs(second::metrics(self.file, g as u64));
+        self.same(a, b, || format!("metrics {g}"));
+    }
+
     pub fn item(&mut self, g: usize, k: usize) {
         let a = ours(lavandol::item(self.file, g, k)).map(|i| match i {
             lavandol::Item::Single(v) => Item::Single(v),
@@ -163,15 +170,20 @@ impl Asking<'_> {
         self.glyph(g);
         self.row(g, y);
         self.pixel(g, y, random.below(9));
+        self.metrics(g);
         self.item(g, y);
         self.value(random.of(&EDGES));
         self.sequence(&[random.of(&EDGES)]);
         self.conversions(random);
     }
 
-    /// A sound font's bitmaps: glyphs, rows and pixels around their bounds.
+    /// A sound font's bitmaps: glyphs, rows and pixels around their bounds; metrics, of
+    /// vfont2 every glyph's.
     fn bitmaps(&mut self, font: &second::Font, random: &mut Random) {
         let n = font.count;
+        for g in 0..font.entries.len() {
+            self.metrics(g);
+        }
         for g in [random.below(n), random.below(n), n - 1] {
             let (height, width) = match font.entries.get(g) {
                 Some(e) if e.size == 0 => (1, 1),
@@ -179,6 +191,9 @@ impl Asking<'_> {
                 None => (font.height, font.width),
             };
             self.glyph(g);
+            if font.entries.is_empty() {
+                self.metrics(g);
+            }
             for y in [random.below(height), height - 1, height] {
                 self.row(g, y);
                 self.pixel(g, y, random.below(width));
@@ -192,6 +207,7 @@ impl Asking<'_> {
             self.glyph(g);
             self.row(g, 0);
             self.pixel(g, 0, 0);
+            self.metrics(g);
         }
     }
 
@@ -258,9 +274,16 @@ impl Asking<'_> {
         let n = font.count;
         for g in [random.below(n), n - 1] {
             self.glyph(g);
+            self.metrics(g);
             self.pixel(g, random.below(font.height.max(1)), random.below(font.width.max(1)));
         }
         self.row(random.below(n), 0);
+        if !font.entries.is_empty() {
+            // every glyph would take too long
+            for g in (0..n).step_by(n / 16 + 1).chain([255, 256, 257, n]) {
+                self.metrics(g);
+            }
+        }
         if font.has_table {
             let g = random.below(n);
             self.item(g, random.below(font.reading[g].len() + 1));

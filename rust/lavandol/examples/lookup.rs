@@ -1,7 +1,20 @@
 //! Looks a letter up in a font and draws its glyph:
 //! `cargo run --offline --example lookup -- FONT Å`
 
-fn main() -> Result<(), Box<dyn std::error::Error>> {
+use std::process::ExitCode;
+
+/// A refusal is told as `refused 15 0 (unmapped)`: number, place, name.
+fn main() -> ExitCode {
+    match run() {
+        Ok(()) => ExitCode::SUCCESS,
+        Err(e) => {
+            eprintln!("lookup: {e}");
+            ExitCode::FAILURE
+        }
+    }
+}
+
+fn run() -> Result<(), Box<dyn std::error::Error>> {
     let mut words = std::env::args().skip(1);
     let (Some(path), Some(text)) = (words.next(), words.next()) else {
         return Err("usage: lookup FONT LETTER".into());
@@ -13,13 +26,12 @@ fn main() -> Result<(), Box<dyn std::error::Error>> {
         _ => lavandol::find_sequence(&file, &values)?,
     };
     println!("glyph {g} of {}", lavandol::check(&file)?.count);
-    let mut y = 0;
-    while lavandol::row_part(&file, g, y).is_ok() {
-        let drawn = |x| lavandol::pixel(&file, g, y, x);
-        let line: String =
-            (0..).map_while(|x| drawn(x).ok()).map(|d| if d { '#' } else { '.' }).collect();
-        println!("{line}");
-        y += 1;
+    let m = lavandol::metrics(&file, g)?;
+    for y in 0..(m.up + m.down) as usize {
+        for x in 0..(m.left + m.right) as usize {
+            print!("{}", if lavandol::pixel(&file, g, y, x)? { '#' } else { '.' });
+        }
+        println!();
     }
     Ok(())
 }

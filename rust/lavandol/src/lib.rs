@@ -8,6 +8,7 @@
 //! let g = lavandol::find_value(file, 0xC5)?;
 //! assert_eq!((font.count, g), (2, 1));
 //! assert_eq!(lavandol::glyph(file, g)?, [0xE0, 0x20]);
+//! assert_eq!(lavandol::metrics(file, g)?.logical, 3);
 //! # Ok::<(), lavandol::Refusal>(())
 //! ```
 
@@ -51,8 +52,10 @@ const NAMES: [&str; 21] = [
 ];
 
 impl Refusal {
+    /// The refusal's name; a number that is none (0, or above 21) is "unknown".
     pub fn name(&self) -> &'static str {
-        NAMES[self.number as usize - 1]
+        let at = (self.number as usize).wrapping_sub(1);
+        NAMES.get(at).copied().unwrap_or("unknown")
     }
 }
 
@@ -88,6 +91,20 @@ pub struct Font {
     pub size: usize,
     /// Where the bitmaps end and the Unicode table begins.
     pub end: usize,
+}
+
+/// A glyph's metrics, in pixels. Each may be negative; up + down and left + right are its
+/// bitmap's height and width, 1 to 255.
+#[derive(Debug, Clone, Copy, PartialEq, Eq)]
+pub struct Metrics {
+    /// Rows above the baseline point and below it.
+    pub up: i32,
+    pub down: i32,
+    /// Columns left of the baseline point and right of it.
+    pub left: i32,
+    pub right: i32,
+    /// From this glyph's baseline point to the next one's.
+    pub logical: i32,
 }
 
 /// An item of a glyph's description.
@@ -166,6 +183,14 @@ pub fn row(file: &[u8], g: usize, y: usize) -> Result<&[u8], Refusal> {
 pub fn pixel(file: &[u8], g: usize, y: usize, x: usize) -> Result<bool, Refusal> {
     let bit = number(unsafe { lav_pixel(file.as_ptr(), file.len(), g, y, x) })?;
     Ok(bit == 1)
+}
+
+/// The metrics of glyph g: a vfont2 entry's own; (height, 0, 0, width, width) in PSF1 and
+/// PSF2. Refusals: 1 to 12, ASK, NO GLYPH.
+pub fn metrics(file: &[u8], g: usize) -> Result<Metrics, Refusal> {
+    let m = unsafe { lav_metrics(file.as_ptr(), file.len(), g) };
+    let LavMetrics { refusal, place, up, down, left, right, logical } = m;
+    unless_refused(refusal, place, Metrics { up, down, left, right, logical })
 }
 
 /// Item k of glyph g's description, in the order of the file; the end mark comes

@@ -80,6 +80,29 @@ pub fn pixel(file: &[u8], g: u64, row: u64, col: u64) -> Result<bool, Refusal> {
     Ok(bits[col % 8])
 }
 
+/// A glyph's metrics: up, down, left, right, logical width. Those of vfont2 are the
+/// entry's own; a PSF1 or PSF2 glyph has all its rows above the line and its columns
+/// right of the origin. Refusals: 1 to 12, ASK, NO GLYPH.
+pub fn metrics(file: &[u8], g: u64) -> Result<[i32; 5], Refusal> {
+    let font = check(file)?;
+    if g >= font.count as u64 {
+        return refuse(ASK, 0);
+    }
+    match font.kind {
+        Kind::Psf1 | Kind::Psf2 => {
+            let (height, width) = (font.height as i32, font.width as i32);
+            Ok([height, 0, 0, width, width])
+        }
+        Kind::Vfont2 => {
+            let e = font.entries[g as usize];
+            if !e.has_glyph() {
+                return refuse(NO_GLYPH, 0);
+            }
+            Ok([e.up, e.down, e.left, e.right, e.logical_width].map(|m| m as i32))
+        }
+    }
+}
+
 /// The font with its table, or NO TABLE.
 fn with_table(file: &[u8]) -> Result<Font, Refusal> {
     let font = check(file)?;

@@ -14,7 +14,7 @@ mod font;
 mod lister;
 pub mod table;
 
-pub use ask::{find_sequence, find_value, glyph, pixel, row, walk};
+pub use ask::{find_sequence, find_value, glyph, metrics, pixel, row, walk};
 pub use convert::{psf1_to_psf2, psf2_to_psf1, psf2_to_vfont2, vfont2_to_psf2};
 pub use font::{check, Entry, Font, Kind};
 pub use lister::{first_line, list};

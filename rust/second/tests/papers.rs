@@ -61,7 +61,7 @@ fn small_tables() {
         (Utf8, 2, &[0xFF, 0xFF], Complete),
         (Units, 1, &[0xFE, 0xFF, 0xFE, 0xFF, 0xFF, 0xFF], Bad(3)),
         (Units, 1, &[0x41, 0, 0xFF], Cut),
-        // OPEN-POINTS A10 and A11
+        // behind a complete table nothing can go on; an end mark can't follow a start mark
         (Utf8, 1, &[0xFF, 0xC0], Trailing(1)),
         (Units, 1, &[0xFF, 0xFF, 0x41], Trailing(2)),
         (Units, 1, &[0xFE, 0xFF, 0xFF], Cut),

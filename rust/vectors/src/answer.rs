@@ -146,6 +146,17 @@ pub fn answer(script: &[u8]) -> (String, usize, usize) {
                 let words = found(second::find_sequence(&file, &values));
                 writeln!(text, "sequence {name} {words}").unwrap();
             }
+            METRICS => {
+                let g = script.number(8);
+                let asked = [(); 5].map(|_| script.number(2) as u16);
+                let words = match second::metrics(&file, g) {
+                    Ok(m) if m == asked.map(|n| n as i16 as i32) => "is".to_string(),
+                    Ok(_) => "is not".to_string(),
+                    Err(r) => refused(r),
+                };
+                let asked = asked.map(|n| n.to_string()).join(" ");
+                writeln!(text, "metrics {g} {asked} {words}").unwrap();
+            }
             CONVERT => {
                 let which = script.number(1) as u8;
                 let room = script.number(4) as usize;

@@ -1,11 +1,12 @@
-//! Writes two corpora of questions and expected answers:
-//! OUTDIR/fonts/{stdin,stdout} and OUTDIR/conversions/{stdin,stdout}.
+//! Writes three corpora of questions and expected answers: OUTDIR/fonts/{stdin,stdout},
+//! and likewise OUTDIR/conversions and OUTDIR/metrics.
 //! With the word `answer` alone: answers a script from standard input.
 
 mod answer;
 mod conversions;
 mod fonts;
 mod make;
+mod metrics;
 mod script;
 
 use std::fs;
@@ -33,4 +34,5 @@ fn main() {
     let out = Path::new(&out);
     write(&out.join("fonts"), &fonts::script());
     write(&out.join("conversions"), &conversions::script());
+    write(&out.join("metrics"), &metrics::script());
 }

@@ -14,6 +14,7 @@ pub const PIXEL: u8 = 0x13;
 pub const WALK: u8 = 0x14;
 pub const VALUE: u8 = 0x15;
 pub const SEQUENCE: u8 = 0x16;
+pub const METRICS: u8 = 0x17;
 pub const CONVERT: u8 = 0x20;
 pub const TAKE: u8 = 0x21;
 
@@ -148,6 +149,12 @@ impl Script {
         for v in values {
             self.bytes.extend_from_slice(&v.to_le_bytes());
         }
+    }
+
+    /// Asks whether glyph g's up, down, left, right and logical width are these.
+    pub fn metrics(&mut self, g: u64, asked: [i16; 5]) {
+        self.op(METRICS, &[g]);
+        self.bytes.extend(asked.iter().flat_map(|m| m.to_le_bytes()));
     }
 
     /// Asks for a conversion and gives the length it has, if it is good.
