@@ -1,4 +1,4 @@
-// Inner layer: the two codings of a table's values, as one, and values and marks written. Definitions: specs/Coding.antt.
+// Inner layer: the two codings of a table's values, as one, and values and marks written. Definitions: specs/Meaning.antt, specs/Reading.antt.
 ghost use mathlib.Core.Path.{_≡_};
 ghost use Prim.Native.Nat.{_≤_};
 ghost use lib.ListN.{length};

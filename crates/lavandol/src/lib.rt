@@ -1,5 +1,5 @@
 // The boundary for C and Rust: every public call on numbers and slices, each answer one struct by value. A slice is lent for the call only;
-// nothing is allocated or kept, and only a conversion changes what it is lent, its buffer. Definitions: specs/Boundary.antt. The C side: include/lavandol.h.
+// nothing is allocated or kept, and only a conversion changes what it is lent, its buffer. Definitions: specs/Meaning.antt. The C side: include/lavandol.h.
 use bitmap::GlyphMetrics;
 use bitmap::Part;
 use bitmap::Pixel;

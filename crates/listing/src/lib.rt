@@ -1,4 +1,4 @@
-// Inner layer: the text of a font's listing, written to a lent buffer. Definitions: specs/Text.antt.
+// Inner layer: the text of a font's listing, written to a lent buffer. Definitions: specs/Meaning.antt, specs/Reading.antt.
 use coding::Coding;
 use header::Checked;
 use header::Font;

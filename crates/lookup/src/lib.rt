@@ -1,5 +1,5 @@
 // Inner layer: a table's items by number, and lookups of values and sequences, each one walk over the tail.
-// Definitions: specs/Lookup.antt. They hold on any tail, as far as it can be read.
+// Definitions: specs/Meaning.antt (what is listed), specs/Reading.antt (what is answered). They hold on any tail, as far as it can be read.
 ghost use mathlib.Core.Path.{_≡_};
 ghost use lib.ListN.{drop};
 ghost use Rattle.table.specs.Reading.{itemsIn};

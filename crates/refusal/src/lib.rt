@@ -1,4 +1,4 @@
-// Inner layer: every refusal of document 01: why, and where. Definitions: specs/Refusals.antt.
+// Inner layer: every refusal of document 01: why, and where. Definitions: specs/Meaning.antt.
 ghost use mathlib.Core.Path.{_≡_};
 ghost use Rattle.refusal.specs.Meaning.{numberOf, refusal};
 

@@ -1,4 +1,4 @@
--- The answers and their places, in the words of specs/Table.antt; and that each kind of tail has its answer only.
+-- The answers and their places, in the words of specs/Meaning.antt; and that each kind of tail has its answer only.
 use mathlib.Core.Path.{_≡_, refl, sym, _∙_, ap, subst}
 use mathlib.Core.Bool.{false}
 use mathlib.Core.Logic.{_⊎_, inl, inr}

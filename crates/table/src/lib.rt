@@ -1,5 +1,5 @@
-// Inner layer: the table, n descriptions end to end, in either coding. Definitions: specs/Grammar.antt (what a table is),
-// specs/Steps.antt (its items one by one), specs/Check.antt (what the check answers).
+// Inner layer: the table, n descriptions end to end, in either coding. Definitions: specs/Meaning.antt (what a table is),
+// specs/Reading.antt (its items one by one, and what the check answers).
 ghost use mathlib.Core.Path.{_≡_};
 ghost use Prim.Native.Nat.{_-_, _≤_};
 ghost use Rattle.table.specs.declared.TableAnswer.the-variants.{Bad as TableBad};

@@ -1,4 +1,4 @@
-// Inner layer: a table's items written in another coding. Definitions: specs/Transcode.antt.
+// Inner layer: a table's items written in another coding. Definitions: specs/Meaning.antt, specs/Reading.antt.
 ghost use mathlib.Core.Path.{_≡_};
 ghost use Prim.Native.Nat.{_≤_};
 ghost use lib.ListN.{length};

@@ -1,5 +1,5 @@
-// Inner layer: one token at the front of some bytes, in PSF1's two-byte coding, and a value written. Definitions: specs/Ucs2.antt,
-// specs/Word.antt.
+// Inner layer: one token at the front of some bytes, in PSF1's two-byte coding, and a value written. Definitions: specs/Meaning.antt,
+// specs/Reading.antt.
 ghost use mathlib.Core.Path.{_≡_};
 ghost use Prim.Native.Nat.{_≤_};
 ghost use lib.ListN.{length};

@@ -1,5 +1,5 @@
-// Inner layer: one value at the front of some bytes, in UTF-8, or one token, FE and FF being marks; and a value written. Definitions: specs/Utf8.antt,
-// specs/Scalar.antt.
+// Inner layer: one value at the front of some bytes, in UTF-8, or one token, FE and FF being marks; and a value written. Definitions: specs/Meaning.antt,
+// specs/Reading.antt.
 ghost use mathlib.Core.Path.{_≡_};
 ghost use Prim.Native.Nat.{_+_, _-_, _*_, _≤_, _<_};
 ghost use lib.ListN.{length, drop};
