@@ -12,8 +12,8 @@
  * - The pointers are not kept: memory may be moved or freed after the call.
  *
  * The functions allocate nothing, have no global state and no locks, and call nothing: the archive needs no C library. So they may run
- * in several threads at once, and in an interrupt handler; but lav_check and the four conversions use SSE registers (the compiler's
- * doing), so a handler that does not save them must not call these five. They need at most about 600 bytes of stack
+ * in several threads at once, and in an interrupt handler; but lav_check, lav_metrics and the four conversions use SSE registers (the
+ * compiler's doing), so a handler that does not save them must not call these six. They need at most about 600 bytes of stack
  * (docs/BENCHMARK.md), whatever the font. Each call checks the font first, one pass over the header, the vfont2 entries and the Unicode
  * table; a walk or a lookup is another pass over the Unicode table at most, a conversion two.
  *
