@@ -19,6 +19,7 @@ figures! {
     bench_check() = |file| second::check(file).is_ok();
     bench_none() = |file| second::find_value(file, 0x10FFF0).is_ok();
     bench_last(v: u32) = |file, v| second::find_value(file, v).is_ok();
+    bench_metrics() = |file| second::metrics(file, 0).is_ok();
     bench_psf1_to_psf2(out: &mut [u8]) = |file, out| second::psf1_to_psf2(file, out).is_ok();
     bench_psf2_to_psf1(out: &mut [u8]) = |file, out| second::psf2_to_psf1(file, out).is_ok();
     bench_psf2_to_vfont2(out: &mut [u8]) = |file, out| second::psf2_to_vfont2(file, out).is_ok();
@@ -33,6 +34,7 @@ fn main() {
     bench_check(&file);
     bench_none(&file);
     bench_last(&file, last);
+    bench_metrics(&file);
     bench_psf1_to_psf2(&file, &mut out);
     bench_psf2_to_psf1(&file, &mut out);
     bench_psf2_to_vfont2(&file, &mut out);

@@ -5,7 +5,7 @@ use Prim.Native.Nat.{ℕ, _+_, _-_, _≤_}
 use native.Mathlib.Omega.{arith}
 use borrow.Rule.Slice.PartMut.{midOf, putMid}
 use lib.ListN.{length, take, drop, length-drop}
-use Rattle.base.specs.Meaning.{over}
+use Rattle.base.specs.Reading.{over}
 use Rattle.base.proofs.Parts.{rest-all}
 use Rattle.base.proofs.Over.{over-none, turn-within, turn-left, turn-over, turn-length, turn-room, all-over}
 

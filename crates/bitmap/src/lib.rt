@@ -4,8 +4,8 @@
 use entries::Entry;
 use entries::Metrics;
 use header::Font;
-use header::Kind;
-use header::Vfont2;
+use kinds::Kind;
+use kinds::Vfont2;
 use refusal::Reason;
 use refusal::Refusal;
 ghost use mathlib.Core.Path.{_≡_};

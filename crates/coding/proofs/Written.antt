@@ -7,7 +7,7 @@ use Prim.Native.Nat.{ℕ, _≤_}
 use native.Mathlib.Omega.{arith}
 use lib.ListN.{length}
 use lib.Seq.{sets}
-use Rattle.base.specs.Meaning.{over}
+use Rattle.base.specs.Reading.{over}
 use Rattle.base.proofs.Over.{stores}
 use Rattle.utf8.specs.Meaning.{Scalar, utf8Bytes}
 use Rattle.utf8.specs.Reading.{isScalar}

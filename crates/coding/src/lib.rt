@@ -2,7 +2,7 @@
 ghost use mathlib.Core.Path.{_≡_};
 ghost use Prim.Native.Nat.{_≤_};
 ghost use lib.ListN.{length};
-ghost use Rattle.base.specs.Meaning.{over};
+ghost use Rattle.base.specs.Reading.{over};
 ghost use Rattle.coding.specs.Reading.{markLen, carriesOf};
 ghost use Rattle.coding.specs.Meaning.{valueOf, valueBytes, startBytes, endBytes};
 

@@ -6,7 +6,8 @@ use native.Mathlib.Omega.{arith}
 use lib.ListN.{length, getD, drop}
 use lib.Seq.{drop-append-add}
 use borrow.Author.Tests.{lt-ltb, le-ltb}
-use Rattle.base.specs.Meaning.{le16, le32, bytes16, bytes32}
+use Rattle.base.specs.Meaning.{le16, le32}
+use Rattle.base.specs.Reading.{bytes16, bytes32}
 use Rattle.base.proofs.Numbers.{le16-bytes, le32-bytes, le16-drop, le32-drop}
 use Rattle.header.specs.Meaning.{glyphBytes}
 use Rattle.entries.specs.declared.Entry.the-variants.{Glyph}
@@ -14,7 +15,7 @@ use Rattle.entries.specs.declared.Scan.the-variants.{Greatest}
 use Rattle.entries.specs.Meaning.{entryAt, addressAt, sizeAt, rowsAt, colsAt}
 use Rattle.entries.specs.Reading.{entryOf, larger, scanOf}
 use Rattle.entries.proofs.Cases as cases
-use Rattle.layout.specs.Meaning.{metricsBytes, entryBytes, entriesAt}
+use Rattle.layout.specs.Reading.{metricsBytes, entryBytes, entriesAt}
 use Rattle.layout.proofs.Parts.{entry-length}
 use Rattle.content.proofs.Evens.{EvenFields, even-rows, even-cols}
 

@@ -10,7 +10,7 @@ use Rattle.base.specs.Meaning.{Bytes}
 use Rattle.base.proofs.Parts.{bytes-drop, bytes-take, bytes-append}
 use Rattle.header.specs.declared.Font.{Font}
 use Rattle.entries.specs.Meaning.{entryAt, addressAt}
-use Rattle.layout.specs.Meaning.{gathered}
+use Rattle.layout.specs.Reading.{gathered}
 use Rattle.layout.proofs.Parts.{part-length}
 
 -- where glyph i's bitmap stands

@@ -9,24 +9,27 @@ use native.Mathlib.Nat.{mul-le-mul}
 use lib.Dec.{eqb}
 use lib.ListN.{length, getD, take, drop, length-append}
 use lib.Seq.{drop-cons, take-add}
-use Rattle.base.specs.Reading.{when, startsWith}
-use Rattle.base.specs.Meaning.{Bytes, Begins, le32, bytes32}
-use Rattle.base.proofs.Begins.{begins-exactly}
+use Rattle.base.specs.Reading.{when, startsWith, bytes32}
+use Rattle.base.specs.Meaning.{Bytes, Begins, le32}
 use Rattle.base.proofs.Numbers.{le32-bytes}
 use Rattle.base.proofs.Parts.{byte-at}
 use Rattle.base.proofs.Lists.{same4}
-use Rattle.header.specs.declared.Kind.{Kind}
-use Rattle.header.specs.declared.Kind.the-variants.{Psf1, Psf2, Vfont2}
-use Rattle.header.specs.declared.Named.the-variants.{Is, Unknown}
+use Rattle.kinds.specs.declared.Kind.{Kind}
+use Rattle.kinds.specs.declared.Kind.the-variants.{Psf1, Psf2, Vfont2}
+use Rattle.header.specs.declared.Named.the-variants.{Is}
 use Rattle.header.specs.declared.Fields.{Fields}
 use Rattle.header.specs.declared.Font.{Font}
 use Rattle.header.specs.declared.Head.the-variants.{Read}
 use Rattle.header.specs.declared.Checked.the-variants.{Sound}
-use Rattle.header.specs.Meaning.{magicOf, headerLen, glyphBytes, psf1Count, psf1Table, psf1Font, psf2Font, vfont2Font, fields, flagsOf, modeOf, fixedFields, headerBytes}
+use Rattle.header.specs.Meaning.{glyphBytes, psf1Font, psf2Font, vfont2Font}
+use Rattle.kinds.specs.Meaning.{magicOf, headerLen, psf1Count, psf1Table}
 use Rattle.header.specs.Reading.{kindOf, headOf, psf2Shaped, vfont2Shaped, onFields, saysOf}
+use Rattle.kinds.specs.Reading.{fields, flagsOf, modeOf, fixedFields, headerBytes}
 use Rattle.header.proofs.Cases.{psf1-read, head-read, psf2-sound, vfont2-sound, named-as}
 use Rattle.header.proofs.Known.{source}
-use Rattle.header.proofs.Written.{header-length}
+use Rattle.kinds.proofs.Written.{header-length}
+use Rattle.content.specs.Meaning.{Plain}
+use Rattle.content.proofs.Magic.{magic-begins}
 
 -- a glyph's bytes are few
 pub glyph-small : (h w : ℕ) → h ≤ 255 → w ≤ 255 → glyphBytes h w ≤ 8160
@@ -131,6 +134,22 @@ module _ (t : Bool) (n z h w : ℕ) (r o : List ℕ) where
       ∙ ap (onFields vfont2Shaped) (head-written 0x27 0x5B 0xA4 0x68 t n z h w r o e (omega arith) lz (omega arith) (omega arith) l an bn)
       ∙ sym (vfont2-sound (writtenFields t n z h w) (bh, bw))
 
+  psf2-plain : o ≡ headerBytes Psf2 t n z h w ++ r → HeaderAsks Psf2 n z h w → Plain o Psf2
+  unfolding headerBytes
+  psf2-plain e (an, bn, ah, bh, aw, bw, ez) =
+      let lz : z < 4294967296 = omega (arith, ez, glyph-small h w bh bw) in
+      fields4 0x72 0xB5 0x4A 0x86 t n z h w r o e (omega arith) lz (omega arith) (omega arith) .1
+
+  vfont2-plain : o ≡ headerBytes Vfont2 t n z h w ++ r → HeaderAsks Vfont2 n z h w → Plain o Vfont2
+  unfolding headerBytes
+  vfont2-plain e (an, bn, bh, bw, lz) = fields4 0x27 0x5B 0xA4 0x68 t n z h w r o e (omega arith) lz (omega arith) (omega arith) .1
+
+  -- and its header has no extra bytes
+  pub header-plain : (k : Kind) → o ≡ headerBytes k t n z h w ++ r → HeaderAsks k n z h w → Plain o k
+  header-plain Psf1 e (two, some) = omega (arith, psf1-fields t n z h w r o e .0, mode-back n t two .2)
+  header-plain Psf2 e a = psf2-plain e a
+  header-plain Vfont2 e a = vfont2-plain e a
+
   -- the same, whatever the kind
   pub says-written : (k : Kind) → o ≡ headerBytes k t n z h w ++ r → HeaderAsks k n z h w → saysOf o ≡ Sound (writtenFont k t n z h w)
   says-written Psf1 e a = psf1-says t n z h w r o e a
@@ -173,40 +192,6 @@ unfolding flagsOf
 flags-is zero h = refl
 flags-is (suc zero) h = refl
 flags-is (suc (suc v)) h = absurd (omega arith)
-
--- a header with no extra bytes: PSF1's mode says no more than the count and the table, the others' headers end behind their fields
-abbrev pub Plain : List ℕ → Kind → Type 0
-Plain s Psf1 = getD s 2 0 ≤ 3
-Plain s Psf2 = le32 s 8 ≡ 32
-Plain s Vfont2 = le32 s 8 ≡ 32
-
--- a file begins with the magic of the kind that it is
-abbrev testOf : Kind → Bool → Bool → Bool → Bool
-testOf Psf1 a b c = a
-testOf Psf2 a b c = b
-testOf Vfont2 a b c = c
-
-chosen : (k : Kind) (a b c : Bool) → when a (Is Psf1) (when b (Is Psf2) (when c (Is Vfont2) Unknown)) ≡ Is k → testOf k a b c ≡ true
-unfolding when
-chosen Psf1 true b c e = refl
-chosen Psf1 false true c e = let z : _≡_ {A = ℕ} 0 1 = cc in absurd (omega arith)
-chosen Psf1 false false true e = let z : _≡_ {A = ℕ} 0 1 = cc in absurd (omega arith)
-chosen Psf1 false false false e = let z : _≡_ {A = ℕ} 0 1 = cc in absurd (omega arith)
-chosen Psf2 true b c e = let z : _≡_ {A = ℕ} 0 1 = cc in absurd (omega arith)
-chosen Psf2 false true c e = refl
-chosen Psf2 false false true e = let z : _≡_ {A = ℕ} 0 1 = cc in absurd (omega arith)
-chosen Psf2 false false false e = let z : _≡_ {A = ℕ} 0 1 = cc in absurd (omega arith)
-chosen Vfont2 true b c e = let z : _≡_ {A = ℕ} 0 1 = cc in absurd (omega arith)
-chosen Vfont2 false true c e = let z : _≡_ {A = ℕ} 0 1 = cc in absurd (omega arith)
-chosen Vfont2 false false true e = refl
-chosen Vfont2 false false false e = let z : _≡_ {A = ℕ} 0 1 = cc in absurd (omega arith)
-
--- the magic stands in front
-pub magic-begins : (s : List ℕ) (k : Kind) → kindOf s ≡ Is k → Begins (magicOf k) s
-unfolding kindOf
-magic-begins s Psf1 e = begins-exactly (magicOf Psf1) s .0 (chosen Psf1 (startsWith (magicOf Psf1) s) (startsWith (magicOf Psf2) s) (startsWith (magicOf Vfont2) s) e)
-magic-begins s Psf2 e = begins-exactly (magicOf Psf2) s .0 (chosen Psf2 (startsWith (magicOf Psf1) s) (startsWith (magicOf Psf2) s) (startsWith (magicOf Vfont2) s) e)
-magic-begins s Vfont2 e = begins-exactly (magicOf Vfont2) s .0 (chosen Vfont2 (startsWith (magicOf Psf1) s) (startsWith (magicOf Psf2) s) (startsWith (magicOf Vfont2) s) e)
 
 -- PSF1's mode, of 0 to 3
 mode-is : (m : ℕ) → m ≤ 3 → m ≡ modeOf (psf1Count m) (psf1Table m)

@@ -6,18 +6,19 @@ use native.Mathlib.Omega.{arith}
 use lib.ListN.{length, take, drop}
 use Rattle.base.specs.Meaning.{Bytes}
 use Rattle.table.specs.Meaning.{Desc, encode, Readable}
-use Rattle.header.specs.declared.Kind.{Kind}
+use Rattle.kinds.specs.declared.Kind.{Kind}
 use Rattle.header.specs.declared.Font.{Font}
 use Rattle.header.specs.declared.Checked.the-variants.{Sound}
-use Rattle.header.specs.Meaning.{limit, headerLen, entryLen, glyphBytes}
-use Rattle.layout.specs.Meaning.{evenly, fieldAt20, fontBytes, charSize, glyphsIn}
+use Rattle.header.specs.Meaning.{limit, glyphBytes, charSize}
+use Rattle.kinds.specs.Meaning.{headerLen, entryLen}
+use Rattle.layout.specs.Reading.{evenly, fieldAt20, fontBytes, glyphsIn}
 use Rattle.layout.proofs.Parts.{evenly-length}
 use Rattle.stages.specs.Meaning.{codingOf, tailOf}
 use Rattle.stages.specs.Reading.{checkOf}
-use Rattle.content.specs.Meaning.{Content, bitmapIn, HasContent}
+use Rattle.content.specs.Meaning.{Content, bitmapIn, HasContent, Plain}
 use Rattle.content.proofs.Tails.{tail-known}
 use Rattle.content.proofs.Tables.{Carries}
-use Rattle.content.proofs.Headers.{Plain, written-is}
+use Rattle.content.proofs.Headers.{written-is}
 use Rattle.content.proofs.Shapes.{KindShape, AllEven}
 use Rattle.content.proofs.Source.{is-placed, glyphs-bytes, source-shape, source-length, source-glyph}
 use Rattle.content.proofs.Written.{WrittenAs, fontOf, placeIn, font-length, evenly-place, evenly-addressed, written-tail, written-width, written-sound, written-glyph, written-glyphs}

@@ -2,6 +2,7 @@
 pub mod Stretches
 pub mod Tails
 pub mod Tables
+pub mod Magic
 pub mod Headers
 pub mod Evens
 pub mod Gathered

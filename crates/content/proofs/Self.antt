@@ -7,18 +7,21 @@ use native.Mathlib.Omega.{arith}
 use lib.ListN.{take, drop, take-append-drop}
 use lib.Seq.{drop-drop}
 use Rattle.base.specs.Meaning.{Bytes}
-use Rattle.header.specs.declared.Kind.{Kind}
-use Rattle.header.specs.declared.Kind.the-variants.{Psf1, Psf2, Vfont2}
+use Rattle.kinds.specs.declared.Kind.{Kind}
+use Rattle.kinds.specs.declared.Kind.the-variants.{Psf1, Psf2, Vfont2}
 use Rattle.header.specs.declared.Font.{Font}
 use Rattle.header.specs.declared.Checked.the-variants.{Sound}
-use Rattle.header.specs.Meaning.{headerLen, headerBytes}
+use Rattle.header.specs.Meaning.{charSize}
+use Rattle.kinds.specs.Meaning.{headerLen}
+use Rattle.kinds.specs.Reading.{headerBytes}
 use Rattle.header.specs.Bounds.{Even}
 use Rattle.header.proofs.Known.{source}
-use Rattle.layout.specs.Meaning.{fontBytes, charSize, kindGlyphs, glyphsIn}
+use Rattle.layout.specs.Reading.{fontBytes, kindGlyphs, glyphsIn}
 use Rattle.layout.proofs.Parts.{glyphs-of}
 use Rattle.stages.specs.Meaning.{tailOf}
 use Rattle.stages.specs.Reading.{checkOf}
-use Rattle.content.proofs.Headers.{Plain, header-self}
+use Rattle.content.specs.Meaning.{Plain}
+use Rattle.content.proofs.Headers.{header-self}
 use Rattle.content.proofs.Source.{is-kind, says-font}
 
 -- three parts, end to end

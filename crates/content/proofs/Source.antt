@@ -10,17 +10,18 @@ use lib.ListN.{length, getD, take, drop, length-drop}
 use lib.Seq.{drop-drop, length-take-le}
 use Rattle.base.specs.Meaning.{pick, Bytes}
 use Rattle.base.proofs.Parts.{byte-at, bytes-drop, bytes-take}
-use Rattle.header.specs.declared.Kind.{Kind}
-use Rattle.header.specs.declared.Kind.the-variants.{Psf1, Psf2, Vfont2}
+use Rattle.kinds.specs.declared.Kind.{Kind}
+use Rattle.kinds.specs.declared.Kind.the-variants.{Psf1, Psf2, Vfont2}
 use Rattle.header.specs.declared.Font.{Font}
 use Rattle.header.specs.declared.Checked.the-variants.{Sound}
-use Rattle.header.specs.Meaning.{psf1Count}
+use Rattle.header.specs.Meaning.{charSize}
+use Rattle.kinds.specs.Meaning.{psf1Count}
 use Rattle.header.specs.Bounds.{Placed, KindPlaced, Even, Dispatched}
 use Rattle.header.specs.Reading.{saysOf}
 use Rattle.header.proofs.Known.{source}
 use Rattle.entries.specs.Meaning.{entryAt, addressAt, sizeAt, rowsAt, colsAt, Breaks}
 use Rattle.entries.proofs.Meaning.{scan-greatest}
-use Rattle.layout.specs.Meaning.{charSize, kindGlyphs, glyphsIn}
+use Rattle.layout.specs.Reading.{kindGlyphs, glyphsIn}
 use Rattle.stages.specs.Reading.{checkOf}
 use Rattle.stages.proofs.Cases.{accepted, passed-entries, passed-body, placed, scan-right}
 use Rattle.content.proofs.Stretches.{part-of-take, nth-within}

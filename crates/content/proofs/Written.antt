@@ -7,27 +7,29 @@ use native.Mathlib.Omega.{arith}
 use lib.ListN.{length, getD, take, drop, length-append}
 use lib.Seq.{drop-at, take-all}
 use Rattle.base.specs.Meaning.{Bytes}
-use Rattle.header.specs.declared.Kind.{Kind}
-use Rattle.header.specs.declared.Kind.the-variants.{Psf1, Psf2, Vfont2}
+use Rattle.kinds.specs.declared.Kind.{Kind}
+use Rattle.kinds.specs.declared.Kind.the-variants.{Psf1, Psf2, Vfont2}
 use Rattle.header.specs.declared.Font.{Font}
 use Rattle.header.specs.declared.Checked.the-variants.{Sound}
-use Rattle.header.specs.Meaning.{limit, headerLen, entryLen, glyphBytes, headerBytes}
+use Rattle.header.specs.Meaning.{limit, glyphBytes}
+use Rattle.kinds.specs.Meaning.{headerLen, entryLen}
 use Rattle.header.specs.Reading.{saysOf}
+use Rattle.kinds.specs.Reading.{headerBytes}
 use Rattle.header.proofs.Known.{eight}
-use Rattle.header.proofs.Written.{header-length}
+use Rattle.kinds.proofs.Written.{header-length}
 use Rattle.entries.specs.declared.Entry.the-variants.{Glyph}
 use Rattle.entries.specs.Meaning.{entryAt, addressAt, sizeAt}
 use Rattle.entries.specs.Reading.{entryOf, scanOf}
 use Rattle.bitmap.specs.Meaning.{evenMetrics}
-use Rattle.layout.specs.Meaning.{evenly, dispatchBytes, fieldAt20, fontBytes, kindGlyphs, glyphsIn}
+use Rattle.layout.specs.Reading.{evenly, dispatchBytes, fieldAt20, fontBytes, kindGlyphs, glyphsIn}
 use Rattle.layout.proofs.Parts.{dispatch-length, evenly-length, glyphs-of}
 use Rattle.stages.specs.Meaning.{codingOf, tailOf}
 use Rattle.stages.specs.Reading.{scanned, kindEntries, throughBody, throughEntries, checkOf}
 use Rattle.stages.proofs.Cases.{body-after, body-whole, entries-after, entries-of, greatest-right}
-use Rattle.content.specs.Meaning.{bitmapIn}
+use Rattle.content.specs.Meaning.{bitmapIn, Plain}
 use Rattle.content.proofs.Stretches.{part-of-middle, nth-within, parts-same}
 use Rattle.content.proofs.Tails.{Tail, tail-sound}
-use Rattle.content.proofs.Headers.{glyph-small, writtenFont, written-is, HeaderAsks, says-written}
+use Rattle.content.proofs.Headers.{glyph-small, writtenFont, written-is, HeaderAsks, says-written, header-plain}
 use Rattle.content.proofs.Evens.{EvenFields, even-metrics, even-rows, even-cols}
 use Rattle.content.proofs.Gathered.{startAt, gathered-is}
 use Rattle.content.proofs.Shapes.{Shape, Fills, GlyphIs, AllEven, glyph-some}
@@ -145,6 +147,11 @@ module _ (k : Kind) (t : Bool) (n c h w : ℕ) (xs b tl o : List ℕ) (r : Writt
   says : saysOf o ≡ Sound font
   says = says-written t n (fieldAt20 k c b) h w (table ++ (b ++ tl)) o k flat (asked t n c h w xs b k (r .shape) (r .size) (omega (arith, small)))
 
+  -- its header has no extra bytes
+  pub written-plain : Plain o k
+  written-plain =
+      header-plain t n (fieldAt20 k c b) h w (table ++ (b ++ tl)) o k flat (asked t n c h w xs b k (r .shape) (r .size) (omega (arith, small)))
+
   through-body : throughBody o ≡ Sound font
   through-body = sym (body-after o (Sound font) says (r .short)) ∙ sym (body-whole (length o) font (omega (arith, all-length)))
 
@@ -204,6 +211,11 @@ module _ (t : Bool) (n c h w : ℕ) (xs b tl o : List ℕ) (r : WrittenAs Vfont2
   scan-passes =
       ap (scanned (fontOf Vfont2 t n c h w b)) (scan-even o (length b) 32 h w n (r .shape .0) (r .shape .2) (r .shape .4) entry-glyph)
       ∙ sym (greatest-right (fontOf Vfont2 t n c h w b) h w (refl, refl))
+
+-- each entry has the address that was written
+pub written-address : (k : Kind) (t : Bool) (n c h w : ℕ) (xs b tl o : List ℕ) → WrittenAs k t n c h w xs b tl o → k ≡ Vfont2 → (i : ℕ) → i < n →
+    addressAt o (entryAt (headerLen Vfont2) i) ≡ getD xs i 0
+written-address k t n c h w xs b tl o r q i l = numbers t n c h w xs b tl o (subst (λ (j : Kind). WrittenAs j t n c h w xs b tl o) q r) i l .0
 
 module _ (t : Bool) (n c h w : ℕ) (xs b tl o : List ℕ) where
   entries-pass : (k : Kind) → WrittenAs k t n c h w xs b tl o → kindEntries o (fontOf k t n c h w b) k ≡ Sound (fontOf k t n c h w b)

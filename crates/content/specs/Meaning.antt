@@ -1,14 +1,15 @@
 -- What a font is, whatever its kind of file: how many glyphs it has and whether it has a table; for each glyph its metrics and pixels, or
 -- that it has none; its descriptions.
-use Prim.Native.Nat.{ℕ, _<_}
+use Prim.Native.Nat.{ℕ, _≤_, _<_}
 use mathlib.Core.Path.{_≡_}
 use mathlib.Core.Bool.{Bool, true, false}
 use mathlib.Core.List.{List, []}
 use mathlib.Core.Option.{Option, none, some}
-use lib.ListN.{length}
+use lib.ListN.{length, getD}
+use Rattle.base.specs.Meaning.{le32}
 use Rattle.table.specs.Meaning.{Desc, encode, Readable}
-use Rattle.header.specs.declared.Kind.{Kind}
-use Rattle.header.specs.declared.Kind.the-variants.{Psf1, Psf2, Vfont2}
+use Rattle.kinds.specs.declared.Kind.{Kind}
+use Rattle.kinds.specs.declared.Kind.the-variants.{Psf1, Psf2, Vfont2}
 use Rattle.header.specs.declared.Font.{Font}
 use Rattle.header.specs.declared.Checked.the-variants.{Sound}
 use Rattle.entries.specs.declared.Metrics.{Metrics}
@@ -69,3 +70,9 @@ pub record HasContent (s : List ℕ) (m : Content) : Type 0 where
 -- an entry that has a glyph which fills a height and a width: its five metrics are "(height, 0, 0, width, width)"
 abbrev pub EvenGlyph : List ℕ → ℕ → ℕ → ℕ → Type 0
 EvenGlyph s h w at = HasGlyph s at × (metricsAt s at ≡ evenMetrics h w)
+
+-- a header with no extra bytes: PSF1's mode says no more than the count and the table, the others' headers end behind their fields
+abbrev pub Plain : List ℕ → Kind → Type 0
+Plain s Psf1 = getD s 2 0 ≤ 3
+Plain s Psf2 = le32 s 8 ≡ 32
+Plain s Vfont2 = le32 s 8 ≡ 32

@@ -12,14 +12,15 @@ use Rattle.refusal.specs.declared.Reason.the-variants.{WrongKind, Glyphs, Value
 use Rattle.coding.specs.declared.Coding.the-variants.{Utf8, Ucs2}
 use Rattle.transcode.specs.declared.Measured.{Measured}
 use Rattle.transcode.specs.declared.Measured.the-variants.{Length, Uncarried}
-use Rattle.transcode.specs.Reading.{tableLen}
-use Rattle.header.specs.declared.Kind.{Kind}
-use Rattle.header.specs.declared.Kind.the-variants.{Psf1, Psf2, Vfont2}
+use Rattle.transcode.specs.Reading.{tableLen, recoded}
+use Rattle.kinds.specs.declared.Kind.{Kind}
+use Rattle.kinds.specs.declared.Kind.the-variants.{Psf1, Psf2, Vfont2}
 use Rattle.header.specs.declared.Font.{Font}
 use Rattle.header.specs.declared.Checked.{Checked}
 use Rattle.header.specs.declared.Checked.the-variants.{Sound, Refused}
-use Rattle.header.specs.Meaning.{limit}
+use Rattle.header.specs.Meaning.{limit, charSize}
 use Rattle.entries.specs.Meaning.{entryAt, sizeAt}
+use Rattle.layout.specs.Reading.{fontBytes, glyphsIn, evenly}
 use Rattle.stages.specs.Meaning.{tailOf}
 use Rattle.stages.specs.Reading.{andThen, checkOf}
 use Rattle.conversion.specs.declared.Conversion.{Conversion}
@@ -30,7 +31,7 @@ use Rattle.conversion.specs.declared.Suits.{Suits}
 use Rattle.conversion.specs.declared.Suits.the-variants.{Yes, Refused as Unsuited}
 use Rattle.conversion.specs.declared.Prepared.{Prepared}
 use Rattle.conversion.specs.declared.Prepared.the-variants.{Ready, Refused as Unprepared}
-use Rattle.conversion.specs.Meaning.{sourceKind, frontLen}
+use Rattle.conversion.specs.Meaning.{sourceKind, targetKind, frontLen}
 
 abbrev pub sameKind : Kind → Kind → Bool
 sameKind Psf1 Psf1 = true
@@ -116,3 +117,16 @@ preparedOn c s f = suitsThen (suitsOf c s f) (measuredThen c f (measuredOf c (ta
 -- the font's own, 17 to 20
 unfoldable pub preparedOf : Conversion → List ℕ → Prepared
 preparedOf c s = openedThen (openedOf (sourceKind c) s) (preparedOn c s)
+
+-- the table "in the target's coding"
+abbrev pub tableIn : Conversion → List ℕ → List ℕ
+tableIn Psf1ToPsf2 tail = recoded Ucs2 Utf8 tail
+tableIn Psf2ToPsf1 tail = recoded Utf8 Ucs2 tail
+tableIn Psf2ToVfont2 tail = tail
+tableIn Vfont2ToPsf2 tail = tail
+
+-- the output: a header, "entry i has address i × c", the bitmaps, the table
+unfoldable pub outputOf : Conversion → List ℕ → Font → List ℕ
+outputOf c s f =
+    fontBytes (targetKind c) (f .table) (f .count) (charSize f) (f .height) (f .width) (evenly (charSize f) 0 (f .count)) (glyphsIn s f)
+    (tableIn c (tailOf s f))

@@ -8,11 +8,12 @@ use Rattle.base.specs.Meaning.{Bytes}
 use Rattle.coding.specs.declared.Coding.the-variants.{Utf8, Ucs2}
 use Rattle.transcode.specs.declared.Measured.the-variants.{Length}
 use Rattle.transcode.proofs.Measuring.{length-recoded}
-use Rattle.header.specs.declared.Kind.the-variants.{Vfont2}
+use Rattle.kinds.specs.declared.Kind.the-variants.{Vfont2}
 use Rattle.header.specs.declared.Font.{Font}
 use Rattle.header.specs.Bounds.{Placed}
 use Rattle.entries.specs.Meaning.{entryAt, addressAt}
-use Rattle.layout.specs.Meaning.{charSize, glyphsIn}
+use Rattle.layout.specs.Reading.{glyphsIn}
+use Rattle.header.specs.Meaning.{charSize}
 use Rattle.stages.specs.Meaning.{tailOf}
 use Rattle.content.proofs.Evens.{even-metrics}
 use Rattle.content.proofs.Shapes.{AllEven}
@@ -20,8 +21,8 @@ use Rattle.content.proofs.Source.{is-placed, source-length, entry-stands}
 use Rattle.conversion.specs.declared.Conversion.{Conversion}
 use Rattle.conversion.specs.declared.Conversion.the-variants.{Psf1ToPsf2, Psf2ToPsf1, Psf2ToVfont2, Vfont2ToPsf2}
 use Rattle.conversion.specs.declared.Prepared.the-variants.{Ready}
-use Rattle.conversion.specs.Meaning.{sourceKind, tableIn, frontLen}
-use Rattle.conversion.specs.Reading.{measuredOf, preparedOf}
+use Rattle.conversion.specs.Meaning.{sourceKind, frontLen}
+use Rattle.conversion.specs.Reading.{tableIn, measuredOf, preparedOf}
 use Rattle.conversion.proofs.Cases.{measured-is, suits-is}
 use Rattle.conversion.proofs.Ready.{Known, known, even-fields, all-even}
 

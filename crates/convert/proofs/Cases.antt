@@ -6,24 +6,25 @@ use Prim.Native.Nat.{ℕ, _+_, _-_, _*_, _≤_, _<_}
 use native.Mathlib.Omega.{arith}
 use lib.ListN.{length, take, drop, length-append}
 use borrow.Author.Tests.{lt-ltb, le-ltb}
-use Rattle.base.specs.Reading.{when}
-use Rattle.base.specs.Meaning.{over}
+use Rattle.base.specs.Reading.{when, over}
 use Rattle.base.proofs.Parts.{rest-all}
 use Rattle.refusal.specs.Meaning.{refusal}
 use Rattle.refusal.specs.declared.Refusal.{Refusal}
 use Rattle.refusal.specs.declared.Reason.the-variants.{Room}
-use Rattle.header.specs.declared.Kind.{Kind}
-use Rattle.header.specs.declared.Kind.the-variants.{Psf1, Psf2, Vfont2}
+use Rattle.kinds.specs.declared.Kind.{Kind}
+use Rattle.kinds.specs.declared.Kind.the-variants.{Psf1, Psf2, Vfont2}
 use Rattle.header.specs.declared.Font.{Font}
-use Rattle.header.specs.Meaning.{headerLen, entryLen, headerBytes}
-use Rattle.header.proofs.Written.{header-length}
-use Rattle.layout.specs.Meaning.{dispatchBytes, fieldAt20, fontBytes, charSize, glyphsIn, evenly}
+use Rattle.header.specs.Meaning.{charSize}
+use Rattle.kinds.specs.Meaning.{headerLen, entryLen}
+use Rattle.kinds.specs.Reading.{headerBytes}
+use Rattle.kinds.proofs.Written.{header-length}
+use Rattle.layout.specs.Reading.{dispatchBytes, fieldAt20, fontBytes, glyphsIn, evenly}
 use Rattle.layout.proofs.Parts.{dispatch-length, evenly-length}
 use Rattle.stages.specs.Meaning.{tailOf}
 use Rattle.conversion.specs.declared.Conversion.{Conversion}
 use Rattle.conversion.specs.declared.Prepared.the-variants.{Ready, Refused as Unprepared}
-use Rattle.conversion.specs.Meaning.{targetKind, tableIn, outputOf}
-use Rattle.conversion.specs.Reading.{preparedOf}
+use Rattle.conversion.specs.Meaning.{targetKind}
+use Rattle.conversion.specs.Reading.{tableIn, outputOf, preparedOf}
 use Rattle.convert.specs.declared.Converted.the-variants.{Wrote, Refused}
 use Rattle.convert.specs.Reading.{convertedOf, convertedInto}
 

@@ -6,34 +6,16 @@ use bitmap::Pixel;
 use conversion::Conversion;
 use convert::Converted;
 use header::Checked;
-use header::Font;
-use lookup::Found;
-use lookup::Walked;
-use refusal::Reason;
-use refusal::Refusal;
-use table::Item;
+use questions::Lookup;
+use questions::Walk;
 ghost use mathlib.Core.Path.{_≡_};
-ghost use Rattle.header.specs.Bounds.{Placed};
 ghost use lib.ListN.{length};
 ghost use Rattle.stages.specs.Reading.{checkOf};
 ghost use Rattle.conversion.specs.declared.Conversion.the-variants.{Psf1ToPsf2, Psf2ToPsf1, Psf2ToVfont2, Vfont2ToPsf2};
 ghost use Rattle.convert.specs.Reading.{convertedOf, convertedInto};
 ghost use Rattle.bitmap.specs.Reading.{viewOf};
 ghost use Rattle.bitmap.specs.Bounds.{PartInside};
-ghost use Rattle.fonts.specs.Reading.{glyphPartOf, rowPartOf, pixelAt, glyphMetricsOf, fontItems, itemOn, itemOf, valueOn, valueGlyph, anyHigh, askable, sequenceOn, sequenceGlyph};
-ghost use Rattle.lookup.specs.Reading.{itemAt, findValue, findSequence};
-
-// An item of a glyph's description; or the refusal.
-pub enum Walk {
-    Is(Item),
-    Refused(Refusal),
-}
-
-// The glyph found; or the refusal.
-pub enum Lookup {
-    Glyph(usize),
-    Refused(Refusal),
-}
+ghost use Rattle.fonts.specs.Reading.{glyphPartOf, rowPartOf, pixelAt, glyphMetricsOf, itemOf, valueGlyph, sequenceGlyph};
 
 // The check of a font. Refusals: 1 to 12, in their order.
 pub fn check(file: &[u8]) -> Checked
@@ -112,23 +94,6 @@ pub fn metrics(file: &[u8], g: usize) -> GlyphMetrics
     }
 }
 
-// Item k of glyph g of a font whose parts stand in the file (`Placed`).
-fn item_on(file: &[u8], f: Font, g: usize, k: usize) -> Walk
-    requires { ⌜ Placed (now file) f ⌝ }
-    ensures { λ r. ⌜ r ≡ itemOn (now (file .entry)) g k f ⌝ }
-{
-    if f.table {
-        let end = f.end;
-        let kind = f.kind;
-        let w = lookup::item_at(stages::coding_of(kind), &file[end..], g, k);
-        return match w {
-            Walked::Found(i) => Walk::Is(i),
-            Walked::Nothing => Walk::Refused(refusal::refuse(Reason::Ask, 0)),
-        };
-    }
-    Walk::Refused(refusal::refuse(Reason::NoTable, 0))
-}
-
 // Item k of glyph g's description, counted from 0 in the order of the file: single, start mark, value in a sequence, end mark.
 // Refusals: the font's own (1 to 12), NO TABLE, ASK.
 pub fn item(file: &[u8], g: usize, k: usize) -> Walk
@@ -136,29 +101,9 @@ pub fn item(file: &[u8], g: usize, k: usize) -> Walk
 {
     let a = stages::check(file);
     match a {
-        Checked::Sound(f) => item_on(file, f, g, k),
+        Checked::Sound(f) => questions::item_on(file, f, g, k),
         Checked::Refused(r) => Walk::Refused(r),
     }
-}
-
-// The lowest glyph that lists v as a single, in a font whose parts stand in the file (`Placed`).
-fn value_on(file: &[u8], f: Font, v: u32) -> Lookup
-    requires { ⌜ Placed (now file) f ⌝ }
-    ensures { λ r. ⌜ r ≡ valueOn (now (file .entry)) v f ⌝ }
-{
-    if f.table {
-        if 0x10FFFF < v {
-            return Lookup::Refused(refusal::refuse(Reason::Ask, 0));
-        }
-        let end = f.end;
-        let kind = f.kind;
-        let w = lookup::find_value(stages::coding_of(kind), &file[end..], v);
-        return match w {
-            Found::At(g) => Lookup::Glyph(g),
-            Found::Nothing => Lookup::Refused(refusal::refuse(Reason::Unmapped, 0)),
-        };
-    }
-    Lookup::Refused(refusal::refuse(Reason::NoTable, 0))
 }
 
 // The lowest glyph that lists the value v as a single.
@@ -168,53 +113,9 @@ pub fn find_value(file: &[u8], v: u32) -> Lookup
 {
     let a = stages::check(file);
     match a {
-        Checked::Sound(f) => value_on(file, f, v),
+        Checked::Sound(f) => questions::value_on(file, f, v),
         Checked::Refused(r) => Lookup::Refused(r),
     }
-}
-
-// Whether some value is above 10FFFF.
-fn any_high(vs: &[u32]) -> bool
-    ensures { λ r. ⌜ r ≡ anyHigh (now (vs .entry)) ⌝ }
-{
-    let mut i = 0;
-    while i < vs.len() {
-        if 0x10FFFF < vs[i] {
-            return true;
-        }
-        i += 1;
-    }
-    false
-}
-
-// Whether a sequence may be asked.
-fn may_ask(vs: &[u32]) -> bool
-    ensures { λ r. ⌜ r ≡ askable (now (vs .entry)) ⌝ }
-{
-    if vs.len() == 0 {
-        return false;
-    }
-    !any_high(vs)
-}
-
-// The lowest glyph that lists the sequence vs, in a font whose parts stand in the file (`Placed`).
-fn sequence_on(file: &[u8], f: Font, vs: &[u32]) -> Lookup
-    requires { ⌜ Placed (now file) f ⌝ }
-    ensures { λ r. ⌜ r ≡ sequenceOn (now (file .entry)) (now (vs .entry)) f ⌝ }
-{
-    if f.table {
-        if may_ask(vs) {
-            let end = f.end;
-            let kind = f.kind;
-            let w = lookup::find_sequence(stages::coding_of(kind), &file[end..], vs);
-            return match w {
-                Found::At(g) => Lookup::Glyph(g),
-                Found::Nothing => Lookup::Refused(refusal::refuse(Reason::Unmapped, 0)),
-            };
-        }
-        return Lookup::Refused(refusal::refuse(Reason::Ask, 0));
-    }
-    Lookup::Refused(refusal::refuse(Reason::NoTable, 0))
 }
 
 // The lowest glyph that lists the sequence vs: after some start mark, exactly these values up to the next mark.
@@ -224,7 +125,7 @@ pub fn find_sequence(file: &[u8], vs: &[u32]) -> Lookup
 {
     let a = stages::check(file);
     match a {
-        Checked::Sound(f) => sequence_on(file, f, vs),
+        Checked::Sound(f) => questions::sequence_on(file, f, vs),
         Checked::Refused(r) => Lookup::Refused(r),
     }
 }

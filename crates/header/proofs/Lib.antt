@@ -1,4 +1,3 @@
 -- Laws of the headers.
 pub mod Cases
 pub mod Known
-pub mod Written

@@ -1,34 +1,18 @@
--- The three kinds of file: what their headers say (source document 000 for PSF1 and PSF2, 004 for vfont2), and the headers that are written.
-use Prim.Native.Nat.{ℕ, _+_, _*_, _/_, _%_}
-use mathlib.Core.List.{List, [], _∷_, _++_}
+-- What the headers of the three kinds say (source document 000 for PSF1 and PSF2, 004 for vfont2).
+use Prim.Native.Nat.{ℕ, _+_, _*_, _/_}
+use mathlib.Core.List.{List}
 use mathlib.Core.Bool.{Bool}
 use lib.Dec.{eqb}
-use Rattle.base.specs.Meaning.{pick, le32, bytes32}
-use Rattle.header.specs.declared.Kind.{Kind}
-use Rattle.header.specs.declared.Kind.the-variants.{Psf1, Psf2, Vfont2}
+use Rattle.base.specs.Meaning.{le32}
+use Rattle.kinds.specs.Meaning.{headerLen, entryLen}
+use Rattle.kinds.specs.declared.Kind.{Kind}
+use Rattle.kinds.specs.declared.Kind.the-variants.{Psf1, Psf2, Vfont2}
 use Rattle.header.specs.declared.Font.{Font}
 use Rattle.header.specs.declared.Fields.{Fields}
 
 -- the file limit: "over 1,048,576 bytes" is too long
 abbrev pub limit : ℕ
 limit = 1048576
-
--- "Each kind carries its own magic, fixed header length and first bitmap rule as constants of that kind."
-abbrev pub magicOf : Kind → List ℕ
-magicOf Psf1 = 0x36 ∷ 0x04 ∷ []
-magicOf Psf2 = 0x72 ∷ 0xB5 ∷ 0x4A ∷ 0x86 ∷ []
-magicOf Vfont2 = 0x27 ∷ 0x5B ∷ 0xA4 ∷ 0x68 ∷ []
-
-abbrev pub headerLen : Kind → ℕ
-headerLen Psf1 = 4
-headerLen Psf2 = 32
-headerLen Vfont2 = 32
-
--- the bytes that stand for each glyph between the header's end and the first bitmap: "n entries of 18 bytes"
-abbrev pub entryLen : Kind → ℕ
-entryLen Psf1 = 0
-entryLen Psf2 = 0
-entryLen Vfont2 = 18
 
 -- the bytes of a row of so many pixels: "(width + 7) / 8, rounded down"
 abbrev pub rowBytes : ℕ → ℕ
@@ -38,27 +22,25 @@ rowBytes w = (w + 7) / 8
 unfoldable pub glyphBytes : ℕ → ℕ → ℕ
 glyphBytes h w = h * rowBytes w
 
--- "256 glyphs, or 512 if bit 0 of the mode is set"
-unfoldable pub psf1Count : ℕ → ℕ
-psf1Count mode = pick (eqb (mode % 2) 1) 512 256
-
--- "The table is there exactly when bit 1 of the mode is set."
-unfoldable pub psf1Table : ℕ → Bool
-psf1Table mode = eqb (mode / 2 % 2) 1
+-- what a font's header says, from the fields of its kind, where its bitmaps begin and where they end
+abbrev pub headerFont : Kind → Fields → ℕ → ℕ → Font
+headerFont k f begin stop = record {
+  kind = k;
+  count = f .count;
+  entries = f .header;
+  bitmaps = begin;
+  size = f .size;
+  height = f .height;
+  width = f .width;
+  end = stop;
+  table = f .table;
+}
 
 -- a PSF1 font of so many glyphs of so many bytes: "Width 8, height equal to the size byte. Bitmaps at offset 4."
 abbrev pub psf1Font : ℕ → ℕ → Bool → Font
-psf1Font n size t = record {
-  kind = Psf1;
-  count = n;
-  entries = headerLen Psf1;
-  bitmaps = headerLen Psf1;
-  size = size;
-  height = size;
-  width = 8;
-  end = headerLen Psf1 + n * size;
-  table = t;
-}
+psf1Font n size t =
+    headerFont Psf1 (record { header = headerLen Psf1; count = n; size = size; height = size; width = 8; table = t }) (headerLen Psf1)
+    (headerLen Psf1 + n * size)
 
 -- the fields that PSF2 and vfont2 have at the same places: "at 4 version, 8 header size, 12 flags, 16 glyph count n, 20 bytes per glyph"
 -- (vfont2: "the total of bitmap bytes"), "24 height, 28 width. Flag bit 0 says that a table follows the bitmaps."
@@ -67,51 +49,12 @@ fieldsOf s = record { header = le32 s 8; count = le32 s 16; size = le32 s 20; he
 
 -- PSF2: "Bitmaps start at the header size."
 abbrev pub psf2Font : Fields → Font
-psf2Font f = record {
-  kind = Psf2;
-  count = f .count;
-  entries = f .header;
-  bitmaps = f .header;
-  size = f .size;
-  height = f .height;
-  width = f .width;
-  end = f .header + f .count * f .size;
-  table = f .table;
-}
+psf2Font f = headerFont Psf2 f (f .header) (f .header + f .count * f .size)
 
 -- vfont2: "At the header size stands the dispatch table, n entries of 18 bytes. Bitmaps follow, then the table if flagged."
 abbrev pub vfont2Font : Fields → Font
-vfont2Font f = record {
-  kind = Vfont2;
-  count = f .count;
-  entries = f .header;
-  bitmaps = f .header + f .count * entryLen Vfont2;
-  size = f .size;
-  height = f .height;
-  width = f .width;
-  end = f .header + f .count * entryLen Vfont2 + f .size;
-  table = f .table;
-}
+vfont2Font f = headerFont Vfont2 f (f .header + f .count * entryLen Vfont2) (f .header + f .count * entryLen Vfont2 + f .size)
 
--- four numbers of four bytes each
-unfoldable pub fields : ℕ → ℕ → ℕ → ℕ → List ℕ
-fields a b c d = bytes32 a ++ bytes32 b ++ bytes32 c ++ bytes32 d
-
--- the flags: bit 0 for a table
-unfoldable pub flagsOf : Bool → ℕ
-flagsOf table = pick table 1 0
-
--- "Mode is 1 for 512 glyphs plus 2 for a table."
-unfoldable pub modeOf : ℕ → Bool → ℕ
-modeOf n table = pick (eqb n 512) 1 0 + pick table 2 0
-
--- version, header size and flags
-unfoldable pub fixedFields : Bool → List ℕ
-fixedFields table = bytes32 0 ++ bytes32 (headerLen Psf2) ++ bytes32 (flagsOf table)
-
--- "Written headers are 32 bytes (4 for PSF1), version 0": magic, mode, size byte; or magic, version, header size, flags, n, the number at
--- 20, height, width
-unfoldable pub headerBytes : Kind → Bool → ℕ → ℕ → ℕ → ℕ → List ℕ
-headerBytes Psf1 table n size height width = magicOf Psf1 ++ (modeOf n table ∷ height ∷ [])
-headerBytes Psf2 table n size height width = magicOf Psf2 ++ fixedFields table ++ fields n size height width
-headerBytes Vfont2 table n size height width = magicOf Vfont2 ++ fixedFields table ++ fields n size height width
+-- bytes per glyph of a font whose glyphs all have its height and width
+abbrev pub charSize : Font → ℕ
+charSize f = glyphBytes (f .height) (f .width)

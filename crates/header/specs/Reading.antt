@@ -4,11 +4,11 @@ use mathlib.Core.List.{List}
 use mathlib.Core.Bool.{not}
 use lib.Dec.{ltb, eqb}
 use lib.ListN.{length, getD}
-use Rattle.base.specs.Reading.{when, startsWith}
 use Rattle.base.specs.Meaning.{le32}
+use Rattle.base.specs.Reading.{when, startsWith}
 use Rattle.refusal.specs.Meaning.{refusal}
 use Rattle.refusal.specs.declared.Reason.the-variants.{Kind, HeaderCut, Version, HeaderSize, Count, Shape}
-use Rattle.header.specs.declared.Kind.the-variants.{Psf1, Psf2, Vfont2}
+use Rattle.kinds.specs.declared.Kind.the-variants.{Psf1, Psf2, Vfont2}
 use Rattle.header.specs.declared.Named.{Named}
 use Rattle.header.specs.declared.Named.the-variants.{Is, Unknown}
 use Rattle.header.specs.declared.Fields.{Fields}
@@ -16,7 +16,8 @@ use Rattle.header.specs.declared.Head.{Head}
 use Rattle.header.specs.declared.Head.the-variants.{Read, Refused as NoHead}
 use Rattle.header.specs.declared.Checked.{Checked}
 use Rattle.header.specs.declared.Checked.the-variants.{Sound, Refused}
-use Rattle.header.specs.Meaning.{magicOf, headerLen, glyphBytes, psf1Count, psf1Table, psf1Font, fieldsOf, psf2Font, vfont2Font}
+use Rattle.header.specs.Meaning.{glyphBytes, psf1Font, fieldsOf, psf2Font, vfont2Font}
+use Rattle.kinds.specs.Meaning.{magicOf, headerLen, psf1Count, psf1Table}
 
 -- the kind whose magic a file begins with
 unfoldable pub kindOf : List ℕ → Named

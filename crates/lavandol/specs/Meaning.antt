@@ -5,8 +5,8 @@ use lib.IntN.{pos}
 use mathlib.Core.Bool.{Bool, true, false}
 use Rattle.refusal.specs.declared.Refusal.{Refusal}
 use Rattle.refusal.specs.Meaning.{numberOf}
-use Rattle.header.specs.declared.Kind.{Kind}
-use Rattle.header.specs.declared.Kind.the-variants.{Psf1, Psf2, Vfont2}
+use Rattle.kinds.specs.declared.Kind.{Kind}
+use Rattle.kinds.specs.declared.Kind.the-variants.{Psf1, Psf2, Vfont2}
 use Rattle.header.specs.declared.Checked.{Checked}
 use Rattle.header.specs.declared.Checked.the-variants.{Sound, Refused}
 use Rattle.bitmap.specs.declared.Part.{Part}
@@ -17,10 +17,10 @@ use Rattle.bitmap.specs.declared.GlyphMetrics.{GlyphMetrics}
 use Rattle.bitmap.specs.declared.GlyphMetrics.the-variants.{Is as IsMetrics, Refused as NoMetrics}
 use Rattle.table.specs.declared.Item as I
 use Rattle.table.specs.declared.Item.the-variants.{Single, Start, Value, End}
-use Rattle.fonts.specs.declared.Walk.{Walk}
-use Rattle.fonts.specs.declared.Walk.the-variants.{Is, Refused as NoWalk}
-use Rattle.fonts.specs.declared.Lookup.{Lookup}
-use Rattle.fonts.specs.declared.Lookup.the-variants.{Glyph, Refused as NoLookup}
+use Rattle.questions.specs.declared.Walk.{Walk}
+use Rattle.questions.specs.declared.Walk.the-variants.{Is, Refused as NoWalk}
+use Rattle.questions.specs.declared.Lookup.{Lookup}
+use Rattle.questions.specs.declared.Lookup.the-variants.{Glyph, Refused as NoLookup}
 use Rattle.convert.specs.declared.Converted.{Converted}
 use Rattle.convert.specs.declared.Converted.the-variants.{Wrote, Refused as NoOutput}
 use Rattle.lavandol.specs.declared.LavFont.{LavFont}

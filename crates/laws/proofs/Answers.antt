@@ -10,10 +10,10 @@ use Rattle.bitmap.specs.declared.Pixel.{Pixel}
 use Rattle.bitmap.specs.declared.Pixel.the-variants.{Bit, Refused as NoPixel}
 use Rattle.bitmap.specs.declared.GlyphMetrics.{GlyphMetrics}
 use Rattle.bitmap.specs.declared.GlyphMetrics.the-variants.{Is as IsMetrics, Refused as NoMetrics}
-use Rattle.fonts.specs.declared.Walk.{Walk}
-use Rattle.fonts.specs.declared.Walk.the-variants.{Is, Refused as NoWalk}
-use Rattle.fonts.specs.declared.Lookup.{Lookup}
-use Rattle.fonts.specs.declared.Lookup.the-variants.{Glyph, Refused as NoLookup}
+use Rattle.questions.specs.declared.Walk.{Walk}
+use Rattle.questions.specs.declared.Walk.the-variants.{Is, Refused as NoWalk}
+use Rattle.questions.specs.declared.Lookup.{Lookup}
+use Rattle.questions.specs.declared.Lookup.the-variants.{Glyph, Refused as NoLookup}
 
 pub clash : {A B : Type 0} (number : B → ℕ) {x y : B} → x ≡ y → (number x ≡ number y → ⊥) → A
 clash number e n = absurd (n (ap number e))

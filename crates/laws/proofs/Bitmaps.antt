@@ -9,7 +9,7 @@ use native.Mathlib.Omega.{arith}
 use Rattle.base.specs.Meaning.{Bytes}
 use Rattle.refusal.specs.Meaning.{refusal}
 use Rattle.refusal.specs.declared.Reason.the-variants.{Ask, NoGlyph}
-use Rattle.header.specs.declared.Kind.the-variants.{Vfont2}
+use Rattle.kinds.specs.declared.Kind.the-variants.{Vfont2}
 use Rattle.header.specs.declared.Font.{Font}
 use Rattle.header.specs.declared.Checked.the-variants.{Sound}
 use Rattle.header.specs.Meaning.{rowBytes}
@@ -26,7 +26,7 @@ use Rattle.content.specs.Meaning.{bitmapIn}
 use Rattle.content.proofs.Source.{is-placed, unbroken}
 use Rattle.stages.specs.Reading.{checkOf}
 use Rattle.fonts.specs.Reading.{glyphPartOf, rowPartOf, pixelAt, glyphMetricsOf}
-use Rattle.laws.specs.Glyphs.{Missing, Has}
+use Rattle.laws.specs.Meaning.{Missing, Has}
 use Rattle.laws.proofs.Answers.{partNumber, pixelNumber, metricsNumber}
 use Rattle.laws.proofs.Located.{located-has, no-glyph, ask-high, ask, gives, part-is, row-no-other, row-past, row-is, pixel-no-other, pixel-out, pixel-is}
 

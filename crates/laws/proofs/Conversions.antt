@@ -1,7 +1,7 @@
 -- What the conversions mean. The calls answer `convertedOf c s (length xs)` and leave `convertedInto c s xs` in the buffer xs; Bytes s holds
 -- of any slice.
 use mathlib.Core.Path.{_≡_, sym, _∙_, ap, subst}
-use mathlib.Core.Logic.{_↔_}
+use mathlib.Core.Logic.{_↔_, _⊎_}
 use mathlib.Core.List.{List}
 use Prim.Native.Nat.{ℕ, _+_, _*_, _≤_, _<_}
 use native.Mathlib.Omega.{arith}
@@ -13,23 +13,24 @@ use Rattle.refusal.specs.declared.Reason.the-variants.{WrongKind, Glyphs, Value
 use Rattle.table.specs.Meaning.{Desc, items, encode, Readable}
 use Rattle.transcode.specs.Meaning.{FirstUncarried}
 use Rattle.coding.specs.declared.Coding.the-variants.{Utf8, Ucs2}
-use Rattle.header.specs.declared.Kind.{Kind}
+use Rattle.kinds.specs.declared.Kind.{Kind}
+use Rattle.kinds.specs.declared.Kind.the-variants.{Psf1, Psf2, Vfont2}
+use Rattle.entries.specs.Meaning.{entryAt, addressAt}
 use Rattle.header.specs.declared.Font.{Font}
 use Rattle.header.specs.declared.Checked.the-variants.{Sound, Refused as Unsound}
-use Rattle.header.specs.Meaning.{limit}
-use Rattle.layout.specs.Meaning.{charSize}
+use Rattle.header.specs.Meaning.{limit, charSize}
+use Rattle.kinds.specs.Meaning.{headerLen}
 use Rattle.stages.specs.Meaning.{codingOf, tailOf}
 use Rattle.stages.specs.Reading.{checkOf}
-use Rattle.content.specs.Meaning.{Content, HasContent}
-use Rattle.content.proofs.Headers.{Plain}
-use Rattle.content.proofs.Self.{Bare}
+use Rattle.content.specs.Meaning.{Content, HasContent, Plain}
 use Rattle.conversion.specs.declared.Conversion.{Conversion}
 use Rattle.conversion.specs.declared.Conversion.the-variants.{Psf1ToPsf2, Psf2ToPsf1, Psf2ToVfont2, Vfont2ToPsf2}
-use Rattle.conversion.specs.Meaning.{sourceKind, targetKind, tableIn, outputOf, frontLen}
+use Rattle.conversion.specs.Meaning.{sourceKind, targetKind, frontLen}
+use Rattle.conversion.specs.Reading.{tableIn, outputOf}
 use Rattle.convert.specs.declared.Converted.the-variants.{Wrote as Written, Refused}
 use Rattle.convert.specs.Reading.{convertedOf, convertedInto}
-use Rattle.laws.specs.Conversions.{Reads, Keeps, Wrote, GlyphsAt, NoGlyphs, ValueAt, NoValue, needed, Holds}
-use Rattle.laws.proofs.Converting.{has-reading, table-encodes, is-sound, is-source, output-length, output-bytes, output-keeps, output-back, keeps-twice, rest-is, stays, readied, output-is}
+use Rattle.laws.specs.Meaning.{Reads, Keeps, Wrote, GlyphsAt, Never, ValueAt, needed, Holds}
+use Rattle.laws.proofs.Converting.{has-reading, table-encodes, is-sound, is-source, output-length, output-bytes, output-keeps, output-plain, output-addresses, output-back, keeps-twice, rest-is, stays, readied, output-is}
 use Rattle.laws.proofs.Refusing.{own-given, own-only, kind-given, kind-only, glyphs-given, glyphs-only, value-given, value-only, size-given, size-only, room-given, room-only, wrote-given, wrote-only, later, one-coding, first-value, is-surrogate, is-above}
 
 module _ (c : Conversion) (s xs : List ℕ) where
@@ -52,6 +53,8 @@ module _ (c : Conversion) (s xs : List ℕ) where
           behind = ap (drop n) (w .2) ∙ rest-is (outputOf c s f) xs n (output-length c s f n y (w .1));
           octets = subst Bytes (sym (output-is c s xs n y e)) (output-bytes c s f n y (w .1));
           keeps = subst (λ (x : List ℕ). Keeps s f x (targetKind c)) (sym (output-is c s xs n y e)) (output-keeps c s f n y (w .1));
+          plain = subst (λ (x : List ℕ). Plain x (targetKind c)) (sym (output-is c s xs n y e)) (output-plain c s f n y (w .1));
+          addresses = λ q i l. ap (λ (x : List ℕ). addressAt x (entryAt (headerLen Vfont2) i)) (output-is c s xs n y e) ∙ output-addresses c s f n y (w .1) q i l;
         }
 
 -- there and back, where both steps are accepted: xs and ys are the two buffers
@@ -69,7 +72,7 @@ module _ (c d : Conversion) (s xs ys : List ℕ) (n k : ℕ) (y : Bytes s) (e : 
 
   -- "A PSF2 file with header size 32, converted either way and back where both steps are accepted, gives its own bytes again. So, likewise,
   -- does a PSF1 file of mode 0 to 3 through PSF2."
-  pub back-bytes : targetKind d ≡ sourceKind c → Bare (sourceKind c) → Plain s (sourceKind c) → take k (convertedInto d (take n (convertedInto c s xs)) ys) ≡ s
+  pub back-bytes : targetKind d ≡ sourceKind c → (sourceKind c ≡ Psf1) ⊎ (sourceKind c ≡ Psf2) → Plain s (sourceKind c) → take k (convertedInto d (take n (convertedInto c s xs)) ys) ≡ s
   back-bytes same b p =
       let w = readied c s xs n e in
       let f = w .0 in
@@ -105,11 +108,11 @@ module _ (c : Conversion) (s : List ℕ) (m : ℕ) (y : Bytes s) where
       glyphs-exactly p = (glyphs-only c s f m y sound kind ds reads p, glyphs-given c s f m y sound kind ds reads p)
 
       -- 19
-      pub value-exactly : (p : ℕ) → (convertedOf c s m ≡ Refused (refusal Value p)) ↔ (NoGlyphs c s f × ValueAt c f ds p)
+      pub value-exactly : (p : ℕ) → (convertedOf c s m ≡ Refused (refusal Value p)) ↔ (Never (GlyphsAt c s f) × ValueAt c f ds p)
       value-exactly p = (value-only c s f m y sound kind ds reads p, λ (n, v). value-given c s f m y sound kind ds reads n p v)
 
       -- 20: "the output is over 1,048,576 bytes"
-      pub size-exactly : (p : ℕ) → (convertedOf c s m ≡ Refused (refusal Size p)) ↔ ((p ≡ 0) × NoGlyphs c s f × NoValue c f ds × (limit < needed c f ds))
+      pub size-exactly : (p : ℕ) → (convertedOf c s m ≡ Refused (refusal Size p)) ↔ ((p ≡ 0) × Never (GlyphsAt c s f) × Never (ValueAt c f ds) × (limit < needed c f ds))
       size-exactly p = (
         size-only c s f m y sound kind ds reads p,
         λ (z, n, v, h). size-given c s f m y sound kind ds reads n v h ∙ ap (λ (x : ℕ). Refused (refusal Size x)) (sym z),
@@ -117,7 +120,7 @@ module _ (c : Conversion) (s : List ℕ) (m : ℕ) (y : Bytes s) where
 
       -- 21: "the lent buffer is shorter than the output", place "size needed"
       pub room-exactly : (p : ℕ) →
-          (convertedOf c s m ≡ Refused (refusal Room p)) ↔ ((p ≡ needed c f ds) × NoGlyphs c s f × NoValue c f ds × (needed c f ds ≤ limit) × (m < needed c f ds))
+          (convertedOf c s m ≡ Refused (refusal Room p)) ↔ ((p ≡ needed c f ds) × Never (GlyphsAt c s f) × Never (ValueAt c f ds) × (needed c f ds ≤ limit) × (m < needed c f ds))
       room-exactly p = (
         room-only c s f m y sound kind ds reads p,
         λ (z, n, v, h, l). room-given c s f m y sound kind ds reads n v h l ∙ ap (λ (x : ℕ). Refused (refusal Room x)) (sym z),
@@ -125,7 +128,7 @@ module _ (c : Conversion) (s : List ℕ) (m : ℕ) (y : Bytes s) where
 
       -- and else the output is written, and its length answered
       pub wrote-exactly : (n : ℕ) →
-          (convertedOf c s m ≡ Written n) ↔ ((n ≡ needed c f ds) × NoGlyphs c s f × NoValue c f ds × (needed c f ds ≤ limit) × (needed c f ds ≤ m))
+          (convertedOf c s m ≡ Written n) ↔ ((n ≡ needed c f ds) × Never (GlyphsAt c s f) × Never (ValueAt c f ds) × (needed c f ds ≤ limit) × (needed c f ds ≤ m))
       wrote-exactly n = (
         wrote-only c s f m y sound kind ds reads n,
         λ (z, g, v, h, l). wrote-given c s f m y sound kind ds reads g v h l ∙ ap Written (sym z),
@@ -142,7 +145,7 @@ module _ (c : Conversion) (s : List ℕ) (m : ℕ) (y : Bytes s) where
           ap (λ (x : List ℕ). frontLen c f + length x) (sym (table-encodes c (tailOf s f) ds (r .0) (r .1)))
 
       -- between PSF2 and vfont2 VALUE never applies
-      pub value-never : codingOf (sourceKind c) ≡ codingOf (targetKind c) → NoValue c f ds
+      pub value-never : codingOf (sourceKind c) ≡ codingOf (targetKind c) → Never (ValueAt c f ds)
       value-never z = one-coding c f ds (subst (λ (k : Kind). Readable (codingOf k) ds) kind (reads .0)) z
 
 -- the bytes before the table, n glyphs of charSize f bytes each: "32 + nc", "4 + nc", "32 + 18n + nc", "32 + nc"

@@ -7,7 +7,8 @@ use Prim.Native.Nat.{ℕ, _*_, _≤_, _<_}
 use native.Mathlib.Omega.{arith}
 use lib.ListN.{length, take, drop}
 use lib.Seq.{take-at, drop-at}
-use Rattle.base.specs.Meaning.{Bytes, over}
+use Rattle.base.specs.Meaning.{Bytes}
+use Rattle.base.specs.Reading.{over}
 use Rattle.base.proofs.Parts.{bytes-drop}
 use Rattle.base.proofs.Tests.{below}
 use Rattle.refusal.specs.declared.Refusal.{Refusal}
@@ -15,10 +16,13 @@ use Rattle.coding.specs.declared.Coding.the-variants.{Utf8, Ucs2}
 use Rattle.table.specs.Meaning.{Desc, encode, Readable}
 use Rattle.transcode.specs.declared.Measured.the-variants.{Length}
 use Rattle.transcode.proofs.Meaning.{recoded-table}
-use Rattle.header.specs.declared.Kind.{Kind}
+use Rattle.kinds.specs.declared.Kind.{Kind}
+use Rattle.kinds.specs.declared.Kind.the-variants.{Vfont2}
 use Rattle.header.specs.declared.Font.{Font}
 use Rattle.header.specs.declared.Checked.the-variants.{Sound}
-use Rattle.header.specs.Meaning.{limit, glyphBytes}
+use Rattle.header.specs.Meaning.{limit, glyphBytes, charSize}
+use Rattle.kinds.specs.Meaning.{headerLen}
+use Rattle.entries.specs.Meaning.{entryAt, addressAt}
 use Rattle.bitmap.specs.declared.Bitmap.{Bitmap}
 use Rattle.bitmap.specs.declared.Located.{Located}
 use Rattle.bitmap.specs.declared.Located.the-variants.{Found}
@@ -27,17 +31,17 @@ use Rattle.bitmap.specs.declared.Pixel.the-variants.{Bit}
 use Rattle.bitmap.specs.Meaning.{evenMetrics}
 use Rattle.bitmap.specs.Reading.{bitmapOf, wholeOf, pixelOf, metricsOf, viewOf}
 use Rattle.bitmap.proofs.Places.{too-high, pixel-in, pixel-past, pixel-below}
-use Rattle.layout.specs.Meaning.{charSize, evenly, fieldAt20, glyphsIn}
+use Rattle.layout.specs.Reading.{evenly, fieldAt20, glyphsIn}
 use Rattle.stages.specs.Meaning.{codingOf, tailOf}
 use Rattle.stages.specs.Reading.{checkOf}
-use Rattle.content.specs.Meaning.{bitmapIn}
+use Rattle.content.specs.Meaning.{bitmapIn, Plain}
 use Rattle.content.proofs.Tails.{Tail, tail-known}
 use Rattle.content.proofs.Tables.{Carries, recoded-carries, same-carries}
-use Rattle.content.proofs.Headers.{Plain, written-is}
+use Rattle.content.proofs.Headers.{written-is}
 use Rattle.content.proofs.Shapes.{KindShape, GlyphIs}
 use Rattle.content.proofs.Source.{source-glyph}
 use Rattle.content.proofs.Found.{glyph-found}
-use Rattle.content.proofs.Written.{evenly-place, written-width, written-glyph}
+use Rattle.content.proofs.Written.{evenly-place, written-width, written-plain, written-address, written-glyph}
 use Rattle.content.proofs.Same.{same-pixels}
 use Rattle.content.proofs.Self.{Bare}
 use Rattle.content.proofs.Kept.{rewritten, rewrittenFont, rewritten-length, rewritten-bytes, rewritten-as, rewritten-sound, rewritten-tail, rewritten-content, rewritten-back}
@@ -45,8 +49,8 @@ use Rattle.conversion.specs.declared.Conversion.{Conversion}
 use Rattle.conversion.specs.declared.Conversion.the-variants.{Psf1ToPsf2, Psf2ToPsf1, Psf2ToVfont2, Vfont2ToPsf2}
 use Rattle.conversion.specs.declared.Prepared.{Prepared}
 use Rattle.conversion.specs.declared.Prepared.the-variants.{Ready, Refused as Unprepared}
-use Rattle.conversion.specs.Meaning.{sourceKind, targetKind, tableIn, outputOf, frontLen}
-use Rattle.conversion.specs.Reading.{measuredOf, preparedOf}
+use Rattle.conversion.specs.Meaning.{sourceKind, targetKind, frontLen}
+use Rattle.conversion.specs.Reading.{tableIn, outputOf, measuredOf, preparedOf}
 use Rattle.conversion.proofs.Cases.{measured-is, suits-is}
 use Rattle.conversion.proofs.Ready.{psf1-suits}
 use Rattle.convert.specs.declared.Converted.{Converted}
@@ -54,7 +58,7 @@ use Rattle.convert.specs.declared.Converted.the-variants.{Wrote as Written, Ref
 use Rattle.convert.specs.Reading.{convertedOf, convertedInto}
 use Rattle.convert.proofs.Cases.{unprepared, no-room, wrote}
 use Rattle.convert.proofs.Asks.{ready, ready-even, ready-long}
-use Rattle.laws.specs.Conversions.{Reads, Keeps}
+use Rattle.laws.specs.Meaning.{Reads, Keeps}
 
 -- the descriptions of a sound font
 tail-reads : (s : List ℕ) (f : Font) (t : Bool) → Tail t (codingOf (f .kind)) (f .count) (tailOf s f) → (ds : List Desc) × Reads s f ds
@@ -228,6 +232,21 @@ module _ (c : Conversion) (s : List ℕ) (f : Font) (n : ℕ) (y : Bytes s) (e :
     reading = reading-kept;
     content = rewritten-content s f y is-sound (ready-even c s f n y e) (targetKind c) tl shape carried short;
   })
+
+  -- its header has no extra bytes
+  pub output-plain : Plain (outputOf c s f) (targetKind c)
+  output-plain =
+      subst (λ (x : List ℕ). Plain x (targetKind c)) (sym output-rewritten)
+      (written-plain (targetKind c) (f .table) (f .count) (charSize f) (f .height) (f .width) (evenly (charSize f) 0 (f .count)) (glyphsIn s f) tl o
+      (rewritten-as s f y is-sound (ready-even c s f n y e) (targetKind c) tl shape carried short))
+
+  -- its entries' addresses are evenly spaced
+  pub output-addresses : targetKind c ≡ Vfont2 → (i : ℕ) → i < f .count → addressAt (outputOf c s f) (entryAt (headerLen Vfont2) i) ≡ i * charSize f
+  output-addresses q i l =
+      ap (λ (x : List ℕ). addressAt x (entryAt (headerLen Vfont2) i)) output-rewritten
+      ∙ written-address (targetKind c) (f .table) (f .count) (charSize f) (f .height) (f .width) (evenly (charSize f) 0 (f .count)) (glyphsIn s f) tl o
+      (rewritten-as s f y is-sound (ready-even c s f n y e) (targetKind c) tl shape carried short) q i l
+      ∙ evenly-place Vfont2 (charSize f) (f .count) i l
 
   pub output-length : length (outputOf c s f) ≡ n
   output-length = ap length output-rewritten ∙ out-length

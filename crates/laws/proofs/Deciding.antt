@@ -11,7 +11,7 @@ use Rattle.refusal.specs.Meaning.{refusal}
 use Rattle.refusal.specs.declared.Reason.{Reason}
 use Rattle.refusal.specs.declared.Reason.the-variants.{Kind, BodyCut}
 use Rattle.refusal.specs.declared.Refusal.{Refusal}
-use Rattle.header.specs.declared.Kind.the-variants.{Psf1, Psf2, Vfont2}
+use Rattle.kinds.specs.declared.Kind.the-variants.{Psf1, Psf2, Vfont2}
 use Rattle.header.specs.declared.Named.{Named}
 use Rattle.header.specs.declared.Named.the-variants.{Is, Unknown}
 use Rattle.header.specs.declared.Font.{Font}
@@ -19,7 +19,8 @@ use Rattle.header.specs.declared.Fields.{Fields}
 use Rattle.header.specs.declared.Head.the-variants.{Refused as NoHead}
 use Rattle.header.specs.declared.Checked.{Checked}
 use Rattle.header.specs.declared.Checked.the-variants.{Sound, Refused}
-use Rattle.header.specs.Meaning.{limit, magicOf, rowBytes, glyphBytes, psf1Count, psf1Table, psf1Font, fieldsOf, psf2Font, vfont2Font}
+use Rattle.header.specs.Meaning.{limit, rowBytes, glyphBytes, psf1Font, fieldsOf, psf2Font, vfont2Font}
+use Rattle.kinds.specs.Meaning.{magicOf, psf1Count, psf1Table}
 use Rattle.header.specs.Reading.{kindOf, headOf, psf2Shaped, vfont2Shaped, onFields, saysOf}
 use Rattle.header.proofs.Cases as header
 use Rattle.entries.specs.Meaning.{rowsAt, colsAt, IsGreatest}
@@ -29,8 +30,8 @@ use Rattle.entries.specs.declared.Scan.the-variants.{BrokenAt, Greatest}
 use Rattle.entries.proofs.Meaning.{scan-broken, scan-greatest, one-greatest}
 use Rattle.stages.specs.Reading.{scanned, entriesOf, throughBody, throughEntries}
 use Rattle.stages.proofs.Cases as stages
-use Rattle.laws.specs.Rows.{Row, given, skipped, given-at, skipped-at, Psf1Rows, HeadRows, Psf2Rows, EntryRows, Vfont2Rows, KindRows, RowsThen}
-use Rattle.laws.proofs.Magic.{kind-says}
+use Rattle.content.proofs.Magic.{kind-says}
+use Rattle.laws.specs.Meaning.{Row, given, skipped, given-at, skipped-at, Psf1Rows, HeadRows, Psf2Rows, EntryRows, Vfont2Rows, KindRows, RowsThen}
 
 -- a row that can be decided
 pub decide : {P : Type 0} {why : Reason} {place : ℕ} {rest : Checked → Type 0} {a : Checked} →

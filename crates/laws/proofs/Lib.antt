@@ -6,7 +6,6 @@ pub mod Questions
 pub mod Bitmaps
 pub mod Conversions
 pub mod Answers
-pub mod Magic
 pub mod Deciding
 pub mod Tails
 pub mod Reading

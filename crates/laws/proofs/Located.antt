@@ -9,12 +9,12 @@ use Rattle.base.proofs.Tests.{below, same}
 use Rattle.refusal.specs.Meaning.{refusal, numberOf}
 use Rattle.refusal.specs.declared.Reason.the-variants.{Ask, NoGlyph}
 use Rattle.refusal.specs.declared.Refusal.{Refusal}
-use Rattle.header.specs.declared.Kind.{Kind}
-use Rattle.header.specs.declared.Kind.the-variants.{Psf1, Psf2, Vfont2}
+use Rattle.kinds.specs.declared.Kind.{Kind}
+use Rattle.kinds.specs.declared.Kind.the-variants.{Psf1, Psf2, Vfont2}
 use Rattle.header.specs.declared.Font.{Font}
 use Rattle.header.specs.declared.Checked.the-variants.{Sound}
 use Rattle.header.specs.Meaning.{rowBytes}
-use Rattle.entries.specs.Meaning.{entryAt, sizeAt, HasGlyph}
+use Rattle.entries.specs.Meaning.{entryAt, sizeAt}
 use Rattle.bitmap.specs.declared.Bitmap.{Bitmap}
 use Rattle.bitmap.specs.declared.Located.{Located}
 use Rattle.bitmap.specs.declared.Located.the-variants.{Found, Refused as NotLocated}
@@ -26,40 +26,27 @@ use Rattle.bitmap.proofs.Places.{too-high, row-in, row-below, pixel-in, pixel-p
 use Rattle.content.specs.Meaning.{bitmapIn, NoGlyph as Without}
 use Rattle.content.proofs.Found.{glyph-found, glyph-missing}
 use Rattle.stages.specs.Reading.{checkOf}
-use Rattle.laws.specs.Glyphs.{Missing, Has}
+use Rattle.laws.specs.Meaning.{Missing, Has}
 use Rattle.laws.proofs.Answers.{clash, partNumber, pixelNumber}
 
--- every number is one too high, that of an entry of size 0, or that of a glyph with a bitmap
+-- every number is one too high, that of a glyph without a bitmap, or that of one with a bitmap
 module _ (s : List ℕ) (f : Font) (g : ℕ) where
-  without : (k : Kind) → k ≡ Vfont2 → sizeAt s (entryAt (f .entries) g) ≡ 0 → Without s f g k
-  without Psf1 e z = let z : _≡_ {A = ℕ} 0 1 = cc in absurd (omega arith)
-  without Psf2 e z = let z : _≡_ {A = ℕ} 0 1 = cc in absurd (omega arith)
-  without Vfont2 e z = z
-
-  with : (k : Kind) → (k ≡ Vfont2 → HasGlyph s (entryAt (f .entries) g)) → Without s f g k → ⊥
-  with Psf1 h n = n
-  with Psf2 h n = n
-  with Vfont2 h n = h refl n
+  glyph-or-none : (k : Kind) → Without s f g k ⊎ (Without s f g k → ⊥)
+  glyph-or-none Psf1 = inr (λ n. n)
+  glyph-or-none Psf2 = inr (λ n. n)
+  glyph-or-none Vfont2 = same (sizeAt s (entryAt (f .entries) g)) 0
 
   which : (f .count ≤ g) ⊎ (Missing s f g ⊎ Has s f g)
-  which = go (below g (f .count))
+  which = go (below g (f .count)) (glyph-or-none (f .kind))
     where
-      some : g < f .count → (sizeAt s (entryAt (f .entries) g) ≡ 0) ⊎ HasGlyph s (entryAt (f .entries) g) → Missing s f g ⊎ Has s f g
-      some l (inl z) = kinds (f .kind) refl
-        where
-          kinds : (k : Kind) → f .kind ≡ k → Missing s f g ⊎ Has s f g
-          kinds Psf1 e = inr (l, λ v n. let z : _≡_ {A = ℕ} 0 1 = cc in omega arith)
-          kinds Psf2 e = inr (l, λ v n. let z : _≡_ {A = ℕ} 0 1 = cc in omega arith)
-          kinds Vfont2 e = inl (l, e, z)
-      some l (inr n) = inr (l, λ v. n)
-
-      go : (g < f .count) ⊎ (f .count ≤ g) → (f .count ≤ g) ⊎ (Missing s f g ⊎ Has s f g)
-      go (inl l) = inr (some l (same (sizeAt s (entryAt (f .entries) g)) 0))
-      go (inr h) = inl h
+      go : (g < f .count) ⊎ (f .count ≤ g) → Without s f g (f .kind) ⊎ (Without s f g (f .kind) → ⊥) → (f .count ≤ g) ⊎ (Missing s f g ⊎ Has s f g)
+      go (inl l) (inl n) = inr (inl (l, n))
+      go (inl l) (inr n) = inr (inr (l, n))
+      go (inr h) n = inl h
 
 -- the last is found where it stands
 pub located-has : (s : List ℕ) (y : Bytes s) (f : Font) → checkOf s ≡ Sound f → (g : ℕ) → Has s f g → bitmapOf s f g ≡ Found (bitmapIn s f g (f .kind))
-located-has s y f sound g h = glyph-found s f y sound g (h .0) (with s f g (f .kind) (h .1))
+located-has s y f sound g h = glyph-found s f y sound g (h .0) (h .1)
 
 -- a question x on where glyph g's bitmap stands, which hands a refusal on
 module _ (s : List ℕ) (y : Bytes s) (f : Font) (sound : checkOf s ≡ Sound f) (g : ℕ) {A : Type 0} (number : A → ℕ) (refuse : Refusal → A)
@@ -69,7 +56,7 @@ module _ (s : List ℕ) (y : Bytes s) (f : Font) (sound : checkOf s ≡ Sound f)
   at-high h = asks ∙ ap answer (sym (too-high s f g h)) ∙ hands _
 
   at-missing : Missing s f g → x ≡ refuse (refusal NoGlyph 0)
-  at-missing m = asks ∙ ap answer (glyph-missing s f y sound g (m .0) (without s f g (f .kind) (m .1) (m .2))) ∙ hands _
+  at-missing m = asks ∙ ap answer (glyph-missing s f y sound g (m .0) (m .1)) ∙ hands _
 
   at-has : Has s f g → x ≡ answer (Found (bitmapIn s f g (f .kind)))
   at-has h = asks ∙ ap answer (located-has s y f sound g h)

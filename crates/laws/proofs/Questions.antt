@@ -26,10 +26,11 @@ use Rattle.lookup.specs.declared.Found.the-variants.{At as FoundAt, Nothing}
 use Rattle.lookup.specs.Reading.{itemAt, findValue, findSequence}
 use Rattle.lookup.specs.Meaning.{Any}
 use Rattle.stages.specs.Reading.{checkOf}
-use Rattle.fonts.specs.declared.Walk.the-variants.{Refused as NoWalk}
-use Rattle.fonts.specs.declared.Lookup.{Lookup}
-use Rattle.fonts.specs.declared.Lookup.the-variants.{Refused as NoLookup}
-use Rattle.fonts.specs.Reading.{glyphPartOf, rowPartOf, pixelAt, glyphMetricsOf, fontItems, walkOf, itemOn, itemOf, lookupOf, valueOn, valueGlyph, anyHigh, askable, sequenceGlyph}
+use Rattle.questions.specs.declared.Walk.the-variants.{Refused as NoWalk}
+use Rattle.questions.specs.declared.Lookup.{Lookup}
+use Rattle.questions.specs.declared.Lookup.the-variants.{Refused as NoLookup}
+use Rattle.questions.specs.Reading.{fontItems, walkOf, itemOn, lookupOf, valueOn, anyHigh, askable}
+use Rattle.fonts.specs.Reading.{glyphPartOf, rowPartOf, pixelAt, glyphMetricsOf, itemOf, valueGlyph, sequenceGlyph}
 use Rattle.laws.proofs.Answers.{clash, walkNumber, lookupNumber}
 
 -- "Every question … gives the font's own refusal (1 to 12) first."

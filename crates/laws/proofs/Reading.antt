@@ -23,9 +23,10 @@ use Rattle.header.specs.declared.Font.{Font}
 use Rattle.header.specs.declared.Checked.the-variants.{Sound}
 use Rattle.stages.specs.Meaning.{codingOf, tailOf}
 use Rattle.stages.specs.Reading.{throughEntries, checkOf}
-use Rattle.fonts.specs.declared.Walk.the-variants.{Is, Refused as NoWalk}
-use Rattle.fonts.specs.declared.Lookup.the-variants.{Glyph, Refused as NoLookup}
-use Rattle.fonts.specs.Reading.{fontItems, walkOf, itemOf, lookupOf, valueGlyph, askable, sequenceGlyph}
+use Rattle.questions.specs.declared.Walk.the-variants.{Is, Refused as NoWalk}
+use Rattle.questions.specs.declared.Lookup.the-variants.{Glyph, Refused as NoLookup}
+use Rattle.questions.specs.Reading.{fontItems, walkOf, lookupOf, askable}
+use Rattle.fonts.specs.Reading.{itemOf, valueGlyph, sequenceGlyph}
 use Rattle.laws.proofs.Answers.{clash, walkNumber, lookupNumber}
 use Rattle.laws.proofs.Tails.{accepted-exactly}
 

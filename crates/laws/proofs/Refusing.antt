@@ -24,8 +24,8 @@ use Rattle.transcode.specs.declared.Measured.the-variants.{Length, Uncarried}
 use Rattle.transcode.specs.Reading.{tableLen}
 use Rattle.transcode.specs.Meaning.{FirstUncarried}
 use Rattle.transcode.proofs.Meaning.{length-exactly, uncarried-place}
-use Rattle.header.specs.declared.Kind.{Kind}
-use Rattle.header.specs.declared.Kind.the-variants.{Psf1, Psf2, Vfont2}
+use Rattle.kinds.specs.declared.Kind.{Kind}
+use Rattle.kinds.specs.declared.Kind.the-variants.{Psf1, Psf2, Vfont2}
 use Rattle.header.specs.declared.Font.{Font}
 use Rattle.header.specs.declared.Checked.{Checked}
 use Rattle.header.specs.declared.Checked.the-variants.{Sound, Refused as Unsound}
@@ -52,7 +52,7 @@ use Rattle.convert.specs.declared.Converted.{Converted}
 use Rattle.convert.specs.declared.Converted.the-variants.{Wrote, Refused}
 use Rattle.convert.specs.Reading.{converted, convertedOf}
 use Rattle.laws.proofs.Converting.{has-reading}
-use Rattle.laws.specs.Conversions.{Reads, GlyphsAt, NoGlyphs, ValueAt, NoValue, needed, Holds}
+use Rattle.laws.specs.Meaning.{Reads, GlyphsAt, Never, ValueAt, needed, Holds}
 
 -- the number of an answer, 0 where there is no refusal
 abbrev pub numbered : Converted → ℕ
@@ -238,7 +238,7 @@ module _ (c : Conversion) (tl : List ℕ) (ds : List Desc) (o : Readable (coding
   not-carried x n k g a b = let z : _≡_ {A = ℕ} 0 1 = cc in absurd (omega arith)
 
 -- where the codings are one, every value is carried
-pub one-coding : (c : Conversion) (f : Font) (ds : List Desc) → Readable (codingOf (sourceKind c)) ds → codingOf (sourceKind c) ≡ codingOf (targetKind c) → NoValue c f ds
+pub one-coding : (c : Conversion) (f : Font) (ds : List Desc) → Readable (codingOf (sourceKind c)) ds → codingOf (sourceKind c) ≡ codingOf (targetKind c) → Never (ValueAt c f ds)
 one-coding c f ds o z p (k, q, u) =
     let r = value-by c (encode (codingOf (sourceKind c)) ds) ds o refl k u in
     let w = length-exactly (codingOf (sourceKind c)) (codingOf (targetKind c)) ds (encode (codingOf (sourceKind c)) ds) o refl (length (encode (codingOf (targetKind c)) ds)) .1
@@ -309,20 +309,20 @@ module _ (c : Conversion) (s : List ℕ) (f : Font) (m : ℕ) (y : Bytes s) (e :
   pub glyphs-given : (p : ℕ) → GlyphsAt c s f p → convertedOf c s m ≡ Refused (refusal Glyphs p)
   glyphs-given p g = from-font (Unprepared (refusal Glyphs p)) (unsuited c s f (refusal Glyphs p) (glyphs-by s f y e c p g))
 
-  suits : NoGlyphs c s f → suitsOf c s f ≡ Yes
+  suits : Never (GlyphsAt c s f) → suitsOf c s f ≡ Yes
   suits n = go (suits-or s f y e c)
     where
       go : (suitsOf c s f ≡ Yes) ⊎ ((p : ℕ) × GlyphsAt c s f p) → suitsOf c s f ≡ Yes
       go (inl z) = z
       go (inr (p, g)) = absurd (n p g)
 
-  pub value-given : NoGlyphs c s f → (p : ℕ) → ValueAt c f ds p → convertedOf c s m ≡ Refused (refusal Value p)
+  pub value-given : Never (GlyphsAt c s f) → (p : ℕ) → ValueAt c f ds p → convertedOf c s m ≡ Refused (refusal Value p)
   value-given n p (k, z, u) =
       let v = value-by c (tailOf s f) ds (of-source .0) (of-source .1) k u in
       from-font (measuredThen c f (measuredOf c (tailOf s f))) (suited c s f (suits n))
       ∙ ap (λ (x : Measured). converted (measuredThen c f x) m) (v .1) ∙ ap (λ (x : ℕ). Refused (refusal Value x)) (sym z)
 
-  fitted : NoGlyphs c s f → NoValue c f ds → convertedOf c s m ≡ converted (fitting f (needed c f ds)) m
+  fitted : Never (GlyphsAt c s f) → Never (ValueAt c f ds) → convertedOf c s m ≡ converted (fitting f (needed c f ds)) m
   fitted n v = go (carried-or c (tailOf s f) ds (of-source .0) (of-source .1))
     where
       go : (measuredOf c (tailOf s f) ≡ Length (length (encode (codingOf (targetKind c)) ds))) ⊎ ((k : ℕ) × FirstUncarried (codingOf (sourceKind c)) (codingOf (targetKind c)) (items ds) 0 k) →
@@ -330,33 +330,33 @@ module _ (c : Conversion) (s : List ℕ) (f : Font) (m : ℕ) (y : Bytes s) (e :
       go (inl z) = from-font (measuredThen c f (measuredOf c (tailOf s f))) (suited c s f (suits n)) ∙ ap (λ (x : Measured). converted (measuredThen c f x) m) z
       go (inr (k, u)) = absurd (v (f .end + k) (k, refl, u))
 
-  pub size-given : NoGlyphs c s f → NoValue c f ds → limit < needed c f ds → convertedOf c s m ≡ Refused (refusal Size 0)
+  pub size-given : Never (GlyphsAt c s f) → Never (ValueAt c f ds) → limit < needed c f ds → convertedOf c s m ≡ Refused (refusal Size 0)
   size-given n v h = fitted n v ∙ over-limit f (needed c f ds) m h
 
-  pub room-given : NoGlyphs c s f → NoValue c f ds → needed c f ds ≤ limit → m < needed c f ds → convertedOf c s m ≡ Refused (refusal Room (needed c f ds))
+  pub room-given : Never (GlyphsAt c s f) → Never (ValueAt c f ds) → needed c f ds ≤ limit → m < needed c f ds → convertedOf c s m ≡ Refused (refusal Room (needed c f ds))
   room-given n v h k = fitted n v ∙ under-room f (needed c f ds) m h k
 
-  pub wrote-given : NoGlyphs c s f → NoValue c f ds → needed c f ds ≤ limit → needed c f ds ≤ m → convertedOf c s m ≡ Wrote (needed c f ds)
+  pub wrote-given : Never (GlyphsAt c s f) → Never (ValueAt c f ds) → needed c f ds ≤ limit → needed c f ds ≤ m → convertedOf c s m ≡ Wrote (needed c f ds)
   wrote-given n v h k = fitted n v ∙ in-room f (needed c f ds) m h k
 
   -- one of the five is given
   abbrev pub Decided : Type 0
   Decided =
       ((p : ℕ) × GlyphsAt c s f p × (convertedOf c s m ≡ Refused (refusal Glyphs p)))
-      ⊎ (((p : ℕ) × NoGlyphs c s f × ValueAt c f ds p × (convertedOf c s m ≡ Refused (refusal Value p)))
-      ⊎ ((NoGlyphs c s f × NoValue c f ds × (limit < needed c f ds) × (convertedOf c s m ≡ Refused (refusal Size 0)))
-      ⊎ ((NoGlyphs c s f × NoValue c f ds × (needed c f ds ≤ limit) × (m < needed c f ds) × (convertedOf c s m ≡ Refused (refusal Room (needed c f ds))))
-      ⊎ (NoGlyphs c s f × NoValue c f ds × (needed c f ds ≤ limit) × (needed c f ds ≤ m) × (convertedOf c s m ≡ Wrote (needed c f ds))))))
+      ⊎ (((p : ℕ) × Never (GlyphsAt c s f) × ValueAt c f ds p × (convertedOf c s m ≡ Refused (refusal Value p)))
+      ⊎ ((Never (GlyphsAt c s f) × Never (ValueAt c f ds) × (limit < needed c f ds) × (convertedOf c s m ≡ Refused (refusal Size 0)))
+      ⊎ ((Never (GlyphsAt c s f) × Never (ValueAt c f ds) × (needed c f ds ≤ limit) × (m < needed c f ds) × (convertedOf c s m ≡ Refused (refusal Room (needed c f ds))))
+      ⊎ (Never (GlyphsAt c s f) × Never (ValueAt c f ds) × (needed c f ds ≤ limit) × (needed c f ds ≤ m) × (convertedOf c s m ≡ Wrote (needed c f ds))))))
 
   pub decided : Decided
   decided = by-glyphs (suits-or s f y e c)
     where
-      by-size : NoGlyphs c s f → NoValue c f ds → (limit < needed c f ds) ⊎ (needed c f ds ≤ limit) → (m < needed c f ds) ⊎ (needed c f ds ≤ m) → Decided
+      by-size : Never (GlyphsAt c s f) → Never (ValueAt c f ds) → (limit < needed c f ds) ⊎ (needed c f ds ≤ limit) → (m < needed c f ds) ⊎ (needed c f ds ≤ m) → Decided
       by-size n v (inl h) k = inr (inr (inl (n, v, h, size-given n v h)))
       by-size n v (inr h) (inl k) = inr (inr (inr (inl (n, v, h, k, room-given n v h k))))
       by-size n v (inr h) (inr k) = inr (inr (inr (inr (n, v, h, k, wrote-given n v h k))))
 
-      by-value : NoGlyphs c s f → (measuredOf c (tailOf s f) ≡ Length (length (encode (codingOf (targetKind c)) ds))) ⊎ ((k : ℕ) × FirstUncarried (codingOf (sourceKind c)) (codingOf (targetKind c)) (items ds) 0 k) → Decided
+      by-value : Never (GlyphsAt c s f) → (measuredOf c (tailOf s f) ≡ Length (length (encode (codingOf (targetKind c)) ds))) ⊎ ((k : ℕ) × FirstUncarried (codingOf (sourceKind c)) (codingOf (targetKind c)) (items ds) 0 k) → Decided
       by-value n (inl z) =
           by-size n (λ p v. let w = value-by c (tailOf s f) ds (of-source .0) (of-source .1) (v .0) (v .2) in not-carried c (tailOf s f) ds (of-source .0) (of-source .1) _ _ _ _ z (w .1))
           (below limit (needed c f ds)) (below m (needed c f ds))
@@ -377,20 +377,20 @@ module _ (c : Conversion) (s : List ℕ) (f : Font) (m : ℕ) (y : Bytes s) (e :
       go (inr (inr (inr (inl x)))) = absurd (omega (arith, ap numbered (sym z ∙ x .4)))
       go (inr (inr (inr (inr x)))) = absurd (omega (arith, ap numbered (sym z ∙ x .4)))
 
-  pub value-only : (p : ℕ) → convertedOf c s m ≡ Refused (refusal Value p) → NoGlyphs c s f × ValueAt c f ds p
+  pub value-only : (p : ℕ) → convertedOf c s m ≡ Refused (refusal Value p) → Never (GlyphsAt c s f) × ValueAt c f ds p
   value-only p z = go decided
     where
-      go : Decided → NoGlyphs c s f × ValueAt c f ds p
+      go : Decided → Never (GlyphsAt c s f) × ValueAt c f ds p
       go (inl x) = absurd (omega (arith, ap numbered (sym z ∙ x .2)))
       go (inr (inl (i, n, v, x))) = let w : i ≡ p = ap placed-at (sym x ∙ z) in (n, subst (ValueAt c f ds) w v)
       go (inr (inr (inl x))) = absurd (omega (arith, ap numbered (sym z ∙ x .3)))
       go (inr (inr (inr (inl x)))) = absurd (omega (arith, ap numbered (sym z ∙ x .4)))
       go (inr (inr (inr (inr x)))) = absurd (omega (arith, ap numbered (sym z ∙ x .4)))
 
-  pub size-only : (p : ℕ) → convertedOf c s m ≡ Refused (refusal Size p) → (p ≡ 0) × NoGlyphs c s f × NoValue c f ds × (limit < needed c f ds)
+  pub size-only : (p : ℕ) → convertedOf c s m ≡ Refused (refusal Size p) → (p ≡ 0) × Never (GlyphsAt c s f) × Never (ValueAt c f ds) × (limit < needed c f ds)
   size-only p z = go decided
     where
-      go : Decided → (p ≡ 0) × NoGlyphs c s f × NoValue c f ds × (limit < needed c f ds)
+      go : Decided → (p ≡ 0) × Never (GlyphsAt c s f) × Never (ValueAt c f ds) × (limit < needed c f ds)
       go (inl x) = absurd (omega (arith, ap numbered (sym z ∙ x .2)))
       go (inr (inl x)) = absurd (omega (arith, ap numbered (sym z ∙ x .3)))
       go (inr (inr (inl x))) = (ap placed-at (sym z ∙ x .3), x .0, x .1, x .2)
@@ -398,20 +398,20 @@ module _ (c : Conversion) (s : List ℕ) (f : Font) (m : ℕ) (y : Bytes s) (e :
       go (inr (inr (inr (inr x)))) = absurd (omega (arith, ap numbered (sym z ∙ x .4)))
 
   pub room-only : (p : ℕ) → convertedOf c s m ≡ Refused (refusal Room p) →
-      (p ≡ needed c f ds) × NoGlyphs c s f × NoValue c f ds × (needed c f ds ≤ limit) × (m < needed c f ds)
+      (p ≡ needed c f ds) × Never (GlyphsAt c s f) × Never (ValueAt c f ds) × (needed c f ds ≤ limit) × (m < needed c f ds)
   room-only p z = go decided
     where
-      go : Decided → (p ≡ needed c f ds) × NoGlyphs c s f × NoValue c f ds × (needed c f ds ≤ limit) × (m < needed c f ds)
+      go : Decided → (p ≡ needed c f ds) × Never (GlyphsAt c s f) × Never (ValueAt c f ds) × (needed c f ds ≤ limit) × (m < needed c f ds)
       go (inl x) = absurd (omega (arith, ap numbered (sym z ∙ x .2)))
       go (inr (inl x)) = absurd (omega (arith, ap numbered (sym z ∙ x .3)))
       go (inr (inr (inl x))) = absurd (omega (arith, ap numbered (sym z ∙ x .3)))
       go (inr (inr (inr (inl x)))) = (ap placed-at (sym z ∙ x .4), x .0, x .1, x .2, x .3)
       go (inr (inr (inr (inr x)))) = absurd (omega (arith, ap numbered (sym z ∙ x .4)))
 
-  pub wrote-only : (n : ℕ) → convertedOf c s m ≡ Wrote n → (n ≡ needed c f ds) × NoGlyphs c s f × NoValue c f ds × (needed c f ds ≤ limit) × (needed c f ds ≤ m)
+  pub wrote-only : (n : ℕ) → convertedOf c s m ≡ Wrote n → (n ≡ needed c f ds) × Never (GlyphsAt c s f) × Never (ValueAt c f ds) × (needed c f ds ≤ limit) × (needed c f ds ≤ m)
   wrote-only n z = go decided
     where
-      go : Decided → (n ≡ needed c f ds) × NoGlyphs c s f × NoValue c f ds × (needed c f ds ≤ limit) × (needed c f ds ≤ m)
+      go : Decided → (n ≡ needed c f ds) × Never (GlyphsAt c s f) × Never (ValueAt c f ds) × (needed c f ds ≤ limit) × (needed c f ds ≤ m)
       go (inl x) = absurd (omega (arith, ap numbered (sym z ∙ x .2)))
       go (inr (inl x)) = absurd (omega (arith, ap numbered (sym z ∙ x .3)))
       go (inr (inr (inl x))) = absurd (omega (arith, ap numbered (sym z ∙ x .3)))

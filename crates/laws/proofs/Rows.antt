@@ -6,7 +6,7 @@ use Rattle.base.specs.Meaning.{Bytes}
 use Rattle.header.specs.declared.Checked.the-variants.{Sound, Refused}
 use Rattle.stages.specs.Reading.{throughEntries, checkOf}
 use Rattle.stages.proofs.Cases.{tail-after}
-use Rattle.laws.specs.Rows.{RowsTo9, TailRows, Rows}
+use Rattle.laws.specs.Meaning.{RowsTo9, TailRows, Rows}
 use Rattle.laws.proofs.Deciding.{rows-then}
 use Rattle.laws.proofs.Tails.{tail-rows}
 

@@ -24,7 +24,7 @@ use Rattle.header.proofs.Known.{never}
 use Rattle.stages.specs.Meaning.{codingOf, tailOf}
 use Rattle.stages.specs.Reading.{answered, throughEntries, checkOf}
 use Rattle.stages.proofs.Cases.{with-table, bare-trailing, bare-sound, tail-after, placed}
-use Rattle.laws.specs.Rows.{given, skipped, given-at, skipped-at, TableRows, BareRows, TailRows}
+use Rattle.laws.specs.Meaning.{given, skipped, given-at, skipped-at, TableRows, TailRows}
 use Rattle.laws.proofs.Answers.{clash, checkNumber}
 use Rattle.laws.proofs.Deciding.{decide, less}
 
@@ -202,7 +202,7 @@ module _ (s : List ℕ) (y : Bytes s) (f : Font) (passed : throughEntries s ≡ 
           (given-at k (meaning.trailing-exactly (codingOf (f .kind)) (f .count) (tailOf s f) k t-bytes .0 e) q))
 
 module _ (s : List ℕ) (y : Bytes s) (f : Font) (passed : throughEntries s ≡ Sound f) where
-  bare-rows : f .table ≡ false → BareRows s f (checkOf s)
+  bare-rows : f .table ≡ false → TailRows s f false (checkOf s)
   bare-rows t =
       let there = tail-after s (Sound f) passed in
       decide (less (f .end) (length s)) (λ h. sym (bare-trailing s f t h ∙ there)) (λ n. sym (bare-sound s f t (omega arith) ∙ there))

@@ -1,2 +1,2 @@
 -- A written font.
-pub mod Meaning
+pub mod Reading

@@ -1,19 +1,21 @@
 // Inner layer: writers for the parts of a font, each to the front of the part that it is lent. Definitions: specs/Meaning.antt. Each asks
 // for room, and for numbers that its bytes can hold: the callers work out the size from a checked font.
 use header::Font;
-use header::Kind;
-use header::Psf1;
-use header::Psf2;
-use header::Vfont2;
+use kinds::Kind;
+use kinds::Psf1;
+use kinds::Psf2;
+use kinds::Vfont2;
 ghost use mathlib.Core.Path.{_≡_};
 ghost use Prim.Native.Nat.{ℕ, _+_, _*_, _≤_, _<_};
 ghost use lib.ListN.{length};
-ghost use Rattle.base.specs.Meaning.{over};
-ghost use Rattle.header.specs.declared.Kind.the-variants.{Psf1 as psf1, Psf2 as psf2, Vfont2 as vfont2};
-ghost use Rattle.header.specs.Meaning.{headerLen, entryLen, headerBytes};
+ghost use Rattle.base.specs.Reading.{over};
+ghost use Rattle.kinds.specs.declared.Kind.the-variants.{Psf1 as psf1, Psf2 as psf2, Vfont2 as vfont2};
+ghost use Rattle.header.specs.Meaning.{charSize};
+ghost use Rattle.kinds.specs.Meaning.{headerLen, entryLen};
+ghost use Rattle.kinds.specs.Reading.{headerBytes};
 ghost use Rattle.header.specs.Bounds.{Placed};
 ghost use Rattle.entries.specs.Meaning.{entryAt, addressAt};
-ghost use Rattle.layout.specs.Meaning.{metricsBytes, entryBytes, entriesAt, evenly, dispatchBytes, gathered, charSize, glyphsIn};
+ghost use Rattle.layout.specs.Reading.{metricsBytes, entryBytes, entriesAt, evenly, dispatchBytes, gathered, glyphsIn};
 
 // A kind's header. Asks for numbers that the header holds, and for room.
 pub fn put_header(

@@ -8,8 +8,7 @@ use lib.ListN.{length, take, drop, length-append}
 use lib.Seq.{take-append-seam}
 use lib.Dec.{ltb}
 use borrow.Author.Tests.{lt-ltb, le-ltb, ltb-false}
-use Rattle.base.specs.Meaning.{over}
-use Rattle.base.specs.Reading.{when}
+use Rattle.base.specs.Reading.{over, when}
 use Rattle.base.proofs.Parts.{rest-all}
 use Rattle.refusal.specs.Meaning.{refusal}
 use Rattle.refusal.specs.declared.Refusal.{Refusal}

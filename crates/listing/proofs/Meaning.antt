@@ -13,11 +13,13 @@ use Rattle.header.specs.declared.Font.{Font}
 use Rattle.header.specs.declared.Checked.the-variants.{Sound, Refused}
 use Rattle.stages.specs.Meaning.{codingOf, tailOf}
 use Rattle.stages.specs.Reading.{checkOf}
-use Rattle.base.specs.Meaning.{over}
+use Rattle.base.specs.Reading.{over}
 use Rattle.listing.specs.declared.Listed.the-variants.{Wrote}
-use Rattle.listing.specs.Meaning.{digitOf, digits, numeral, firstLine, refusedText, bigText, glyphLines, numberIn, NoLeadingZero}
+use Rattle.listing.specs.Meaning.{firstLine, refusedText, bigText, glyphLines}
+use Rattle.text.specs.Meaning.{numberIn, NoLeadingZero}
+use Rattle.text.specs.Reading.{digitOf, digits, numeral}
 use Rattle.listing.specs.Reading.{linesOf, tableText, linesText, listingOf, listedOf, leftOf}
-use Rattle.listing.proofs.Numerals.{numeral-back, numeral-leads}
+use Rattle.text.proofs.Numerals.{numeral-back, numeral-leads}
 use Rattle.listing.proofs.Described.{lines-of}
 use Rattle.listing.proofs.Answers.{listing-big, listing-answer, font-text, lines-bare, wrote-inside, always-wrote}
 

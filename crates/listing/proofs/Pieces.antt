@@ -1,5 +1,5 @@
--- The pieces of the listing: a number and the byte after it, an item with or without its glyph's number, and the lines by the first step.
-use mathlib.Core.Path.{_≡_, refl, sym, _∙_, ap, subst}
+-- The pieces of the listing: the names and words, an item with or without its glyph's number, and the lines by the first step.
+use mathlib.Core.Path.{_≡_, refl, sym, _∙_, ap}
 use mathlib.Core.Bool.{Bool, true, false}
 use mathlib.Core.List.{List, [], _∷_, _++_}
 use Prim.Native.Nat.{ℕ, _+_, _-_, _≤_, _<_}
@@ -13,32 +13,19 @@ use Rattle.table.specs.Reading.{valueItem, stepItems, stepsAt}
 use Rattle.table.proofs.Telling.{told-value, told-start, told-end, told-cut, told-bad, told-past}
 use Rattle.coding.specs.declared.Coding.{Coding}
 use borrow.Rule.Slice.PartMut.{midOf, putMid}
-use Rattle.base.specs.Meaning.{over}
-use Rattle.listing.proofs.Putting.{Written, written-within, written-room, written-next}
+use Rattle.base.specs.Reading.{over}
+use Rattle.text.proofs.Putting.{Written, written-within, written-room, written-next}
 use Rattle.refusal.specs.declared.Refusal.{Refusal}
 use Rattle.refusal.specs.Meaning.{numberOf}
-use Rattle.header.specs.declared.Kind.{Kind}
-use Rattle.header.specs.declared.Kind.the-variants.{Psf1, Psf2, Vfont2}
+use Rattle.kinds.specs.declared.Kind.{Kind}
+use Rattle.kinds.specs.declared.Kind.the-variants.{Psf1, Psf2, Vfont2}
 use Rattle.header.specs.declared.Font.{Font}
-use Rattle.listing.proofs.Digits.{decimal-20}
-use Rattle.listing.specs.Meaning.{numeral, numberText, kindText, tableWord, firstLine, refusedText}
+use Rattle.listing.specs.Meaning.{kindText, tableWord, firstLine, refusedText}
+use Rattle.text.specs.Meaning.{numberText}
+use Rattle.text.specs.Reading.{numeral}
 use Rattle.listing.specs.Reading.{itemText, pieceOf, linesOf, tableText}
 
--- a number under another name
-pub same-numeral : (b m n : ℕ) (xs ys : List ℕ) (k : ℕ) → m ≡ n → (k ≡ length (numeral b m)) × (ys ≡ over (numeral b m) xs) → (k ≡ length (numeral b n)) × (ys ≡ over (numeral b n) xs)
-same-numeral b m n xs ys k e = subst (λ (x : ℕ). (k ≡ length (numeral b x)) × (ys ≡ over (numeral b x) xs)) e
-
-pub number-text : (n b : ℕ) → numberText n b ≡ numeral 10 n ++ (b ∷ [])
-unfolding numberText
-number-text n b = refl
-
-pub number-length : (n b : ℕ) → length (numberText n b) ≡ length (numeral 10 n) + 1
-number-length n b = ap length (number-text n b) ∙ length-append (numeral 10 n) (b ∷ [])
-
--- no number is longer than 21 bytes with the byte after it; no kind's name is longer than 7, and no word at the line's end than 6
-pub number-21 : (n b : ℕ) → n < 18446744073709551616 → length (numberText n b) ≤ 21
-number-21 n b h = omega (arith, number-length n b, decimal-20 n h)
-
+-- no kind's name is longer than 7 bytes, and no word at the line's end than 6
 pub kind-7 : (k : Kind) → length (kindText k) ≤ 7
 kind-7 Psf1 = omega arith
 kind-7 Psf2 = omega arith

@@ -10,7 +10,9 @@ use Rattle.table.specs.Reading.{stepsFrom, valueItem, stepItems, checkSteps}
 use Rattle.header.specs.Meaning.{glyphBytes}
 use Rattle.header.specs.Reading.{kindOf, headOf, psf2Shaped, saysOf}
 use Rattle.stages.specs.Reading.{sized, entriesOf, tailed, throughBody, throughEntries, checkOf}
-use Rattle.listing.specs.Meaning.{digitOf, digits, numeral, numberText, firstLine}
+use Rattle.listing.specs.Meaning.{firstLine}
+use Rattle.text.specs.Meaning.{numberText}
+use Rattle.text.specs.Reading.{digitOf, digits, numeral}
 use Rattle.listing.specs.Reading.{pieceOf, linesOf, tableText, linesText, fontText, listingOf}
 
 -- the header with header size 32, flags 1, n = 2, c = 2, height 2, width 3; bitmaps A0 40 E0 20; table 41 FF C3 85 FE 41 CC 8A FF

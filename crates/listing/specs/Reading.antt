@@ -2,8 +2,8 @@
 use Prim.Native.Nat.{ℕ, _+_}
 use mathlib.Core.List.{List, [], _∷_, _++_}
 use lib.Dec.{ltb}
-use Rattle.base.specs.Meaning.{pick, over}
-use Rattle.base.specs.Reading.{when}
+use Rattle.base.specs.Meaning.{pick}
+use Rattle.base.specs.Reading.{over, when}
 use mathlib.Core.Bool.{Bool, true, false}
 use lib.ListN.{length}
 use Rattle.refusal.specs.declared.Reason.the-variants.{Room}
@@ -19,7 +19,8 @@ use Rattle.stages.specs.Meaning.{codingOf, tailOf}
 use Rattle.stages.specs.Reading.{checkOf}
 use Rattle.listing.specs.declared.Listed.{Listed}
 use Rattle.listing.specs.declared.Listed.the-variants.{Wrote, Refused as Unlisted}
-use Rattle.listing.specs.Meaning.{numeral, firstLine, refusedText, bigText}
+use Rattle.listing.specs.Meaning.{firstLine, refusedText, bigText}
+use Rattle.text.specs.Reading.{numeral}
 
 -- an item: a single is a blank and its value; a sequence is a blank and, for each value, `+` and the value; the end is a newline
 abbrev pub itemText : Item → List ℕ

@@ -2,7 +2,7 @@
 use coding::Coding;
 use header::Checked;
 use header::Font;
-use header::Kind;
+use kinds::Kind;
 use refusal::Reason;
 use refusal::Refusal;
 use table::Item;
@@ -11,9 +11,9 @@ ghost use mathlib.Core.Path.{_≡_};
 ghost use mathlib.Core.List.{[], _∷_};
 ghost use Prim.Native.Nat.{ℕ, _+_, _*_, _≤_, _<_};
 ghost use lib.ListN.{length};
-ghost use Rattle.base.specs.Meaning.{over};
+ghost use Rattle.base.specs.Reading.{over};
 ghost use Rattle.header.specs.Bounds.{Placed};
-ghost use Rattle.listing.specs.Meaning.{digitOf, numeral, numberText, kindText, tableWord, firstLine, refusedText, bigText};
+ghost use Rattle.listing.specs.Meaning.{kindText, tableWord, firstLine, refusedText, bigText};
 ghost use Rattle.listing.specs.Reading.{itemText, pieceOf, tableText, linesText, fontText, listingOf, listedOf, leftOf};
 
 // How many bytes of text stand in front of the buffer; or ROOM with the bytes needed, and the buffer is untouched.
@@ -22,74 +22,15 @@ pub enum Listed {
     Refused(Refusal),
 }
 
-// A digit up to F. Asks that it is one: each caller has divided.
-fn digit(d: u8) -> u8
-    requires { ⌜ d < 16 ⌝ }
-    ensures { λ r. ⌜ r ≡ digitOf d ⌝ }
-{
-    if d < 10 {
-        return 48 + d;
-    }
-    55 + d
-}
-
-// How many digits a number has in a radix. Asks for a radix: each caller names 10 or 16.
-fn numeral_len(radix: usize, n: usize) -> usize
-    requires { ⌜ 2 ≤ radix ⌝ }
-    ensures { λ r. ⌜ (r ≡ length (numeral radix n)) × (r ≤ 64) ⌝ }
-{
-    let mut k: usize = 1;
-    let mut m = n;
-    while radix <= m {
-        m = m / radix;
-        k += 1;
-    }
-    k
-}
-
-// A number to the front, in a radix that has digits, and how many bytes it is. Asks for such a radix, each caller names 10 or 16, and
-// for room: the caller has measured.
-fn put_numeral(radix: usize, n: usize, out: &mut [u8]) -> usize
-    requires { ⌜ (2 ≤ radix) × (radix ≤ 16) × (length (numeral radix n) ≤ length (now out)) ⌝ }
-    ensures { λ r. ⌜ (r ≡ length (numeral radix n)) × (now (out .exit) ≡ over (numeral radix n) (now (out .entry))) ⌝ }
-{
-    if n < radix {
-        out[0] = digit(n as u8);
-        return 1;
-    }
-    let l = put_numeral(radix, n / radix, out);
-    out[l] = digit((n % radix) as u8);
-    l + 1
-}
-
-// A text to the front, and how many bytes it is. Asks for room: the caller has measured.
-fn put_text(text: &[u8], out: &mut [u8]) -> usize
-    requires { ⌜ length (now text) ≤ length (now out) ⌝ }
-    ensures { λ r. ⌜ (r ≡ length (now (text .entry))) × (now (out .exit) ≡ over (now (text .entry)) (now (out .entry))) ⌝ }
-{
-    base::copy(text, out);
-    text.len()
-}
-
-// A number and the byte after it to the front, and how many bytes they are. Asks for room: the caller has measured.
-fn put_number(n: usize, after: u8, out: &mut [u8]) -> usize
-    requires { ⌜ length (numberText n after) ≤ length (now out) ⌝ }
-    ensures { λ r. ⌜ (r ≡ length (numberText n after)) × (now (out .exit) ≡ over (numberText n after) (now (out .entry))) ⌝ }
-{
-    let l = put_numeral(10, n, out);
-    out[l] = after;
-    l + 1
-}
-
 // The name of a kind and a blank. Asks for room: the caller has measured.
 fn put_kind(kind: Kind, out: &mut [u8]) -> usize
     requires { ⌜ length (kindText kind) ≤ length (now out) ⌝ }
     ensures { λ r. ⌜ (r ≡ length (kindText kind)) × (now (out .exit) ≡ over (kindText kind) (now (out .entry))) ⌝ }
 {
     match kind {
-        Kind::Psf1 => put_text(b"psf1 ", out),
-        Kind::Psf2 => put_text(b"psf2 ", out),
-        Kind::Vfont2 => put_text(b"vfont2 ", out),
+        Kind::Psf1 => text::put_text(b"psf1 ", out),
+        Kind::Psf2 => text::put_text(b"psf2 ", out),
+        Kind::Vfont2 => text::put_text(b"vfont2 ", out),
     }
 }
 
@@ -99,9 +40,9 @@ fn put_word(table: bool, out: &mut [u8]) -> usize
     ensures { λ r. ⌜ (r ≡ length (tableWord table)) × (now (out .exit) ≡ over (tableWord table) (now (out .entry))) ⌝ }
 {
     if table {
-        return put_text(b"table\n", out);
+        return text::put_text(b"table\n", out);
     }
-    put_text(b"bare\n", out)
+    text::put_text(b"bare\n", out)
 }
 
 // How many bytes an item's text is.
@@ -109,9 +50,9 @@ fn item_len(i: Item) -> usize
     ensures { λ r. ⌜ (r ≡ length (itemText i)) × (r ≤ 9) ⌝ }
 {
     match i {
-        Item::Single(v) => 1 + numeral_len(16, base::size(v)),
+        Item::Single(v) => 1 + text::numeral_len(16, base::size(v)),
         Item::Start => 1,
-        Item::Value(v) => 1 + numeral_len(16, base::size(v)),
+        Item::Value(v) => 1 + text::numeral_len(16, base::size(v)),
         Item::End => 1,
     }
 }
@@ -122,28 +63,9 @@ fn piece_len(fresh: bool, g: usize, i: Item) -> usize
 {
     let l = item_len(i);
     if fresh {
-        return numeral_len(10, g) + l;
+        return text::numeral_len(10, g) + l;
     }
     l
-}
-
-// One byte to the front. Asks for room: the caller has measured.
-fn put_byte(b: u8, out: &mut [u8]) -> usize
-    requires { ⌜ length (b ∷ []) ≤ length (now out) ⌝ }
-    ensures { λ r. ⌜ (r ≡ length (b ∷ [])) × (now (out .exit) ≡ over (b ∷ []) (now (out .entry))) ⌝ }
-{
-    out[0] = b;
-    1
-}
-
-// A byte and a value behind it to the front, and how many bytes they are. Asks for room: the caller has measured.
-fn put_value(lead: u8, v: u32, out: &mut [u8]) -> usize
-    requires { ⌜ length (lead ∷ numeral 16 v) ≤ length (now out) ⌝ }
-    ensures { λ r. ⌜ (r ≡ length (lead ∷ numeral 16 v)) × (now (out .exit) ≡ over (lead ∷ numeral 16 v) (now (out .entry))) ⌝ }
-{
-    let a = put_byte(lead, out);
-    let l = put_numeral(16, base::size(v), &mut out[a..]);
-    a + l
 }
 
 // An item's text to the front, and how many bytes it is. Asks for room: the caller has measured.
@@ -152,10 +74,10 @@ fn put_item(i: Item, out: &mut [u8]) -> usize
     ensures { λ r. ⌜ (r ≡ length (itemText i)) × (now (out .exit) ≡ over (itemText i) (now (out .entry))) ⌝ }
 {
     match i {
-        Item::Single(v) => put_value(32, v, out),
-        Item::Start => put_byte(32, out),
-        Item::Value(v) => put_value(43, v, out),
-        Item::End => put_byte(10, out),
+        Item::Single(v) => text::put_value(32, v, out),
+        Item::Start => text::put_byte(32, out),
+        Item::Value(v) => text::put_value(43, v, out),
+        Item::End => text::put_byte(10, out),
     }
 }
 
@@ -165,7 +87,7 @@ fn put_piece(fresh: bool, g: usize, i: Item, out: &mut [u8]) -> usize
     ensures { λ r. ⌜ (r ≡ length (pieceOf fresh g i)) × (now (out .exit) ≡ over (pieceOf fresh g i) (now (out .entry))) ⌝ }
 {
     if fresh {
-        let a = put_numeral(10, g, out);
+        let a = text::put_numeral(10, g, out);
         let l = put_item(i, &mut out[a..]);
         return a + l;
     }
@@ -258,9 +180,9 @@ fn put_first(f: Font, out: &mut [u8]) -> usize
 {
     let kind = f.kind;
     let a = put_kind(kind, out);
-    let b = a + put_number(f.count, 32, &mut out[a..]);
-    let d = b + put_number(f.height, 32, &mut out[b..]);
-    let e = d + put_number(f.width, 32, &mut out[d..]);
+    let b = a + text::put_number(f.count, 32, &mut out[a..]);
+    let d = b + text::put_number(f.height, 32, &mut out[b..]);
+    let e = d + text::put_number(f.width, 32, &mut out[d..]);
     e + put_word(f.table, &mut out[e..])
 }
 
@@ -270,9 +192,9 @@ fn put_refused(r: Refusal, out: &mut [u8]) -> usize
     ensures { λ n. ⌜ (n ≡ length (refusedText r)) × (now (out .exit) ≡ over (refusedText r) (now (out .entry))) × (n ≤ 96) ⌝ }
 {
     let reason = r.reason;
-    let a = put_text(b"refused ", out);
-    let b = a + put_number(base::size(refusal::number(reason)), 32, &mut out[a..]);
-    b + put_number(r.place, 10, &mut out[b..])
+    let a = text::put_text(b"refused ", out);
+    let b = a + text::put_number(base::size(refusal::number(reason)), 32, &mut out[a..]);
+    b + text::put_number(r.place, 10, &mut out[b..])
 }
 
 // How many bytes the lines of a font's table are, none for a bare one. Asks that the header passed and the file is one that is listed.

@@ -4,12 +4,12 @@ use coding::Coding;
 use entries::Scan;
 use header::Checked;
 use header::Font;
-use header::Kind;
+use kinds::Kind;
 use refusal::Reason;
 use table::TableAnswer;
 ghost use mathlib.Core.Path.{_≡_};
 ghost use lib.ListN.{length};
-ghost use Rattle.header.specs.declared.Kind.the-variants.{Vfont2};
+ghost use Rattle.kinds.specs.declared.Kind.the-variants.{Vfont2};
 ghost use Rattle.header.specs.Bounds.{Placed};
 ghost use Rattle.entries.specs.Reading.{scanOf};
 ghost use Rattle.table.specs.Reading.{tableOf};
@@ -60,7 +60,7 @@ fn check_dispatch(file: &[u8], f: Font) -> Checked
     match s {
         Scan::BrokenAt(i) => Checked::Refused(refusal::refuse(
             Reason::Entry,
-            f.entries + i * header::Vfont2::ENTRY_LEN,
+            f.entries + i * kinds::Vfont2::ENTRY_LEN,
         )),
         Scan::Greatest(h, w) => check_greatest(f, h, w),
     }

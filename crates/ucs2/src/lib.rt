@@ -3,10 +3,9 @@
 ghost use mathlib.Core.Path.{_≡_};
 ghost use Prim.Native.Nat.{_≤_};
 ghost use lib.ListN.{length};
-ghost use Rattle.base.specs.Meaning.{over};
-ghost use Rattle.ucs2.specs.Reading.{readUcs2};
+ghost use Rattle.base.specs.Reading.{over};
+ghost use Rattle.ucs2.specs.Reading.{readUcs2, isWord};
 ghost use Rattle.ucs2.specs.Meaning.{Word, wordBytes};
-ghost use Rattle.ucs2.specs.Reading.{isWord};
 use token::Token;
 
 // Whether a number is a value of PSF1's coding: 0000 to FFFD, surrogates included.

@@ -8,7 +8,7 @@ use native.Mathlib.Omega.{arith}
 use lib.Dec.{ltb}
 use lib.ListN.{length}
 use lib.Seq.{sets}
-use Rattle.base.specs.Meaning.{over}
+use Rattle.base.specs.Reading.{over}
 use Rattle.base.proofs.Over.{stores}
 use borrow.Author.Tests.{lt-ltb, le-ltb, ltb-true}
 use Rattle.base.proofs.Tests.{below}

@@ -3,12 +3,10 @@
 ghost use mathlib.Core.Path.{_≡_};
 ghost use Prim.Native.Nat.{_+_, _-_, _*_, _≤_, _<_};
 ghost use lib.ListN.{length, drop};
-ghost use Rattle.base.specs.Reading.{within};
-ghost use Rattle.base.specs.Meaning.{over};
-ghost use Rattle.utf8.specs.Reading.{leadOf, readValue, readUtf8, conts};
+ghost use Rattle.base.specs.Reading.{within, over};
+ghost use Rattle.utf8.specs.Reading.{leadOf, readValue, readUtf8, conts, isScalar};
 ghost use Rattle.utf8.specs.Bounds.{Reached};
 ghost use Rattle.utf8.specs.Meaning.{Scalar, utf8Bytes};
-ghost use Rattle.utf8.specs.Reading.{isScalar};
 use base::wide;
 use token::Token;
 

@@ -89,41 +89,12 @@ fn wrong_kind(s: &mut Script) {
 fn refused_fonts(s: &mut Script) {
     let base1 = units_font(2, &[(0, text(&[0x41], &[]))]);
     let (base2, base3) = (worked(), worked_vfont2());
-    let with = |file: &[u8], at: usize, byte: u8| {
-        let mut file = file.to_vec();
-        file[at] = byte;
-        file
-    };
-    let cut = |file: &[u8], length: usize| file[..length].to_vec();
-    let more = |file: &[u8]| [file, &[0]].concat();
-    let fonts = [
-        ("KIND", vec![0; 50]),
-        ("KIND, no byte at all", vec![]),
-        ("HEADER CUT psf1", cut(&base1, 3)),
-        ("HEADER CUT psf2", cut(&base2, 31)),
-        ("HEADER CUT vfont2", cut(&base3, 31)),
-        ("VERSION psf1", with(&base1, 2, 6)),
-        ("VERSION psf2", with(&base2, 4, 1)),
-        ("VERSION vfont2", with(&base3, 12, 2)),
-        ("HEADER SIZE psf2", with(&base2, 8, 31)),
-        ("COUNT vfont2", with(&base3, 16, 0)),
-        ("SHAPE psf1", with(&base1, 3, 0)),
-        ("SHAPE psf2", with(&base2, 20, 3)),
-        ("SHAPE vfont2", with(&base3, 25, 1)),
-        ("BODY CUT psf1", cut(&base1, 100)),
-        ("BODY CUT psf2", cut(&base2, 35)),
-        ("BODY CUT vfont2", cut(&base3, 71)),
+    let size = ("HEADER SIZE psf2", with(&base2, 8, 31));
+    let entries = [
         ("ENTRY vfont2", with(&base3, 36, 1)),
         ("ENTRY vfont2, greatest height", with(&base3, 24, 3)),
-        ("TABLE CUT psf1", cut(&base1, 600)),
-        ("TABLE CUT psf2", cut(&base2, 44)),
-        ("TABLE CUT vfont2", cut(&base3, 80)),
-        ("TABLE BAD psf2", with(&base2, 36, 0x80)),
-        ("TABLE BAD vfont2", with(&base3, 80, 0x41)),
-        ("TRAILING psf1", more(&base1)),
-        ("TRAILING psf2", more(&base2)),
-        ("TRAILING vfont2", more(&base3)),
     ];
+    let fonts = refused([&base1, &base2, &base3], size, &entries, 80, (80, 0x41));
     for (name, file) in fonts {
         s.label(&format!("every conversion of a refused font: {name}"));
         s.file(&file);

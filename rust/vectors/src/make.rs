@@ -291,3 +291,57 @@ pub fn random_vfont2(random: &mut Random) -> Vec<u8> {
     let with = random.below(4) != 0;
     vfont2(header, &entries, &bitmaps, with.then_some(&table[..]))
 }
+
+/// A file with one byte changed.
+pub fn with(file: &[u8], at: usize, byte: u8) -> Vec<u8> {
+    let mut file = file.to_vec();
+    file[at] = byte;
+    file
+}
+
+/// A named file.
+pub type Named = (&'static str, Vec<u8>);
+
+/// Fonts for refusals 2 to 12, made of a sound one of each kind with a table: `size` is one
+/// for HEADER SIZE, `entries` those for ENTRY; the vfont2 font's table is cut at `end`, and
+/// bad with `bad`'s byte at `bad`'s offset.
+pub fn refused(
+    [base1, base2, base3]: [&[u8]; 3],
+    size: Named,
+    entries: &[Named],
+    end: usize,
+    bad: (usize, u8),
+) -> Vec<Named> {
+    let cut = |file: &[u8], length: usize| file[..length].to_vec();
+    let more = |file: &[u8]| [file, &[0]].concat();
+    let mut fonts = vec![
+        ("KIND", vec![0; 50]),
+        ("KIND, no byte at all", vec![]),
+        ("HEADER CUT psf1", cut(base1, 3)),
+        ("HEADER CUT psf2", cut(base2, 31)),
+        ("HEADER CUT vfont2", cut(base3, 31)),
+        ("VERSION psf1", with(base1, 2, 6)),
+        ("VERSION psf2", with(base2, 4, 1)),
+        ("VERSION vfont2", with(base3, 12, 2)),
+        size,
+        ("COUNT vfont2", with(base3, 16, 0)),
+        ("SHAPE psf1", with(base1, 3, 0)),
+        ("SHAPE psf2", with(base2, 20, 3)),
+        ("SHAPE vfont2", with(base3, 25, 1)),
+        ("BODY CUT psf1", cut(base1, 100)),
+        ("BODY CUT psf2", cut(base2, 35)),
+        ("BODY CUT vfont2", cut(base3, 71)),
+    ];
+    fonts.extend_from_slice(entries);
+    fonts.extend([
+        ("TABLE CUT psf1", cut(base1, 600)),
+        ("TABLE CUT psf2", cut(base2, 44)),
+        ("TABLE CUT vfont2", cut(base3, end)),
+        ("TABLE BAD psf2", with(base2, 36, 0x80)),
+        ("TABLE BAD vfont2", with(base3, bad.0, bad.1)),
+        ("TRAILING psf1", more(base1)),
+        ("TRAILING psf2", more(base2)),
+        ("TRAILING vfont2", more(base3)),
+    ]);
+    fonts
+}

@@ -261,42 +261,13 @@ fn own_refusal_first(s: &mut Script) {
     let (base1, base2) = (psf1(2, 2, 0x18, &[0xFF; 512]), worked());
     let none = (0, 0, [2, 0, 0, 9, 9]);
     let base3 = vfont2(32, &[none, entry(0, 2, 0, 0, 9)], &pattern(4), Some(&[0xFF; 2]));
-    let with = |file: &[u8], at: usize, byte: u8| {
-        let mut file = file.to_vec();
-        file[at] = byte;
-        file
-    };
-    let cut = |file: &[u8], length: usize| file[..length].to_vec();
-    let more = |file: &[u8]| [file, &[0]].concat();
-    let fonts = [
-        ("KIND", vec![0; 50]),
-        ("KIND, no byte at all", vec![]),
-        ("HEADER CUT psf1", cut(&base1, 3)),
-        ("HEADER CUT psf2", cut(&base2, 31)),
-        ("HEADER CUT vfont2", cut(&base3, 31)),
-        ("VERSION psf1", with(&base1, 2, 6)),
-        ("VERSION psf2", with(&base2, 4, 1)),
-        ("VERSION vfont2", with(&base3, 12, 2)),
-        ("HEADER SIZE vfont2", with(&base3, 8, 31)),
-        ("COUNT vfont2", with(&base3, 16, 0)),
-        ("SHAPE psf1", with(&base1, 3, 0)),
-        ("SHAPE psf2", with(&base2, 20, 3)),
-        ("SHAPE vfont2", with(&base3, 25, 1)),
-        ("BODY CUT psf1", cut(&base1, 100)),
-        ("BODY CUT psf2", cut(&base2, 35)),
-        ("BODY CUT vfont2", cut(&base3, 71)),
+    let size = ("HEADER SIZE vfont2", with(&base3, 8, 31));
+    let entries = [
         ("ENTRY vfont2", with(&base3, 54, 5)),
         ("ENTRY vfont2, greatest height", with(&base3, 24, 3)),
         ("ENTRY vfont2, greatest width", with(&base3, 28, 8)),
-        ("TABLE CUT psf1", cut(&base1, 600)),
-        ("TABLE CUT psf2", cut(&base2, 44)),
-        ("TABLE CUT vfont2", cut(&base3, 73)),
-        ("TABLE BAD psf2", with(&base2, 36, 0x80)),
-        ("TABLE BAD vfont2", with(&base3, 73, 0xC0)),
-        ("TRAILING psf1", more(&base1)),
-        ("TRAILING psf2", more(&base2)),
-        ("TRAILING vfont2", more(&base3)),
     ];
+    let fonts = refused([&base1, &base2, &base3], size, &entries, 73, (73, 0xC0));
     for (name, file) in fonts {
         s.label(&format!("metrics of a refused font: {name}"));
         s.file(&file);

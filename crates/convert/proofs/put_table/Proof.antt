@@ -4,10 +4,10 @@ use mathlib.Core.Path.{sym, _∙_, ap, subst}
 use Prim.Native.Nat.{_-_, _≤_}
 use Rattle.conversion.specs.declared.Conversion.the-variants.{Psf1ToPsf2, Psf2ToPsf1}
 use lib.ListN.{length}
-use Rattle.base.specs.Meaning.{over}
+use Rattle.base.specs.Reading.{over}
 use Rattle.transcode.specs.declared.Measured.the-variants.{Length}
 use Rattle.conversion.specs.declared.Conversion.{Conversion}
-use Rattle.conversion.specs.Meaning.{tableIn}
+use Rattle.conversion.specs.Reading.{tableIn}
 use borrow.Author.Needs.{needs}
 use Rattle.convert.proofs.put_table.Statement.{statement}
 use Rattle.convert.proofs.put_table.Tie as tie

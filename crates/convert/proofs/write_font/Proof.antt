@@ -1,16 +1,15 @@
 -- `convert::write_font` meets its contract: header, entries, bitmaps and table, one behind the other. Assumes a font that the conversion is ready for, and room.
 use mathlib.Core.List.{List, [], _++_}
 use lib.ListN.{length, length-append}
-use Rattle.base.specs.Meaning.{over}
+use Rattle.base.specs.Reading.{over}
 use Rattle.base.proofs.Over.{over-none, behind}
 use Rattle.base.proofs.Parts.{rest-all}
 use Rattle.transcode.specs.declared.Measured.the-variants.{Length}
-use Rattle.header.specs.Meaning.{headerBytes}
-use Rattle.header.proofs.Written.{header-length}
-use Rattle.layout.specs.Meaning.{dispatchBytes, evenly, glyphsIn}
+use Rattle.kinds.specs.Reading.{headerBytes}
+use Rattle.kinds.proofs.Written.{header-length}
+use Rattle.layout.specs.Reading.{dispatchBytes, evenly, glyphsIn}
 use Rattle.stages.specs.Meaning.{tailOf}
-use Rattle.conversion.specs.Meaning.{tableIn}
-use Rattle.conversion.specs.Reading.{measuredOf}
+use Rattle.conversion.specs.Reading.{tableIn, measuredOf}
 use Rattle.convert.proofs.Cases as cases
 use native.Mathlib.Omega.{arith}
 use mathlib.Core.Path.{_≡_, refl, sym, _∙_, ap, subst}

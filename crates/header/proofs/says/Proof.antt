@@ -1,5 +1,5 @@
 -- `header::says` meets its contract: by the kind that is named. Assumes nothing.
-use Rattle.header.specs.declared.Kind.the-variants.{Psf1, Psf2, Vfont2}
+use Rattle.kinds.specs.declared.Kind.the-variants.{Psf1, Psf2, Vfont2}
 use Rattle.header.specs.declared.Named.the-variants.{Is, Unknown}
 use borrow.Author.Needs.{needs}
 use mathlib.Core.Path.{sym, _∙_, ap}
@@ -17,20 +17,20 @@ enum-known-named c = search needs
 enum-told : tie.Need-enum-told
 enum-told c = search needs
 
-says-requires : tie.Need-says-requires
-says-requires c κs = search needs
+psf1-says-requires : tie.Need-psf1-says-requires
+psf1-says-requires c κs = search needs
 
 enum-told-2 : tie.Need-enum-told-2
 enum-told-2 c = search needs
 
-says-requires-2 : tie.Need-says-requires-2
-says-requires-2 c κs = search needs
+psf2-says-requires : tie.Need-psf2-says-requires
+psf2-says-requires c κs = search needs
 
 enum-told-3 : tie.Need-enum-told-3
 enum-told-3 c = search needs
 
-says-requires-3 : tie.Need-says-requires-3
-says-requires-3 c κs = search needs
+vfont2-says-requires : tie.Need-vfont2-says-requires
+vfont2-says-requires c κs = search needs
 
 enum-told-4 : tie.Need-enum-told-4
 enum-told-4 c = search needs
@@ -39,13 +39,13 @@ refuse-requires : tie.Need-refuse-requires
 refuse-requires c κs = search needs
 
 returns : tie.Need-returns
-returns c = c .says .ensures ∙ cases.named-as (c .before .before .before .before .before .before .before .before .args .file .now) (Is Psf1) (sym (c .before .before .before .before .before .before .kind-of .ensures) ∙ c .before .before .before .before .named .given .1 ∙ ap Is (c .before .enum-told .given .1))
+returns c = c .psf1-says .ensures ∙ cases.named-as (c .before .before .before .before .before .before .before .before .args .file .now) (Is Psf1) (sym (c .before .before .before .before .before .before .kind-of .ensures) ∙ c .before .before .before .before .named .given .1 ∙ ap Is (c .before .enum-told .given .1))
 
 returns-2 : tie.Need-returns-2
-returns-2 c = c .says2 .ensures ∙ cases.named-as (c .before .before .before .before .before .before .before .before .args .file .now) (Is Psf2) (sym (c .before .before .before .before .before .before .kind-of .ensures) ∙ c .before .before .before .before .named .given .1 ∙ ap Is (c .before .enum-told2 .given .1))
+returns-2 c = c .psf2-says .ensures ∙ cases.named-as (c .before .before .before .before .before .before .before .before .args .file .now) (Is Psf2) (sym (c .before .before .before .before .before .before .kind-of .ensures) ∙ c .before .before .before .before .named .given .1 ∙ ap Is (c .before .enum-told2 .given .1))
 
 returns-3 : tie.Need-returns-3
-returns-3 c = c .says3 .ensures ∙ cases.named-as (c .before .before .before .before .before .before .before .before .args .file .now) (Is Vfont2) (sym (c .before .before .before .before .before .before .kind-of .ensures) ∙ c .before .before .before .before .named .given .1 ∙ ap Is (c .before .enum-told3 .given .1))
+returns-3 c = c .vfont2-says .ensures ∙ cases.named-as (c .before .before .before .before .before .before .before .before .args .file .now) (Is Vfont2) (sym (c .before .before .before .before .before .before .kind-of .ensures) ∙ c .before .before .before .before .named .given .1 ∙ ap Is (c .before .enum-told3 .given .1))
 
 returns-4 : tie.Need-returns-4
 returns-4 c = ap Refused (c .refuse .ensures) ∙ cases.named-as (c .before .before .before .before .before .args .file .now) Unknown (sym (c .before .before .before .kind-of .ensures) ∙ c .before .enum-told4 .given .1)
@@ -57,11 +57,11 @@ says-spec =
     kind-of-requires
     enum-known-named
     enum-told
-    says-requires
+    psf1-says-requires
     enum-told-2
-    says-requires-2
+    psf2-says-requires
     enum-told-3
-    says-requires-3
+    vfont2-says-requires
     enum-told-4
     refuse-requires
     returns

@@ -1,10 +1,10 @@
 -- `layout::put_dispatch` meets its contract: by the kind. Assumes room.
 use native.Mathlib.Omega.{arith}
 use mathlib.Core.Path.{sym, _∙_, ap}
-use Rattle.base.specs.Meaning.{over}
+use Rattle.base.specs.Reading.{over}
 use Rattle.base.proofs.Over.{over-none}
-use Rattle.header.specs.declared.Kind.{Kind}
-use Rattle.layout.specs.Meaning.{dispatchBytes, evenly}
+use Rattle.kinds.specs.declared.Kind.{Kind}
+use Rattle.layout.specs.Reading.{dispatchBytes, evenly}
 use borrow.Author.Needs.{needs}
 use Rattle.layout.proofs.put_dispatch.Statement.{statement}
 use Rattle.layout.proofs.put_dispatch.Tie as tie

@@ -6,7 +6,7 @@ use Prim.Native.Nat.{ℕ, _+_, _-_, _*_, _≤_}
 use mathlib.Core.List.{_++_}
 use Rattle.base.proofs.Written.{Written, begins-as, room, goes-on, ends}
 use native.Mathlib.Nat.{mul-le-mul-right}
-use Rattle.layout.specs.Meaning.{entryBytes, entriesAt, evenly}
+use Rattle.layout.specs.Reading.{entryBytes, entriesAt, evenly}
 use Rattle.layout.proofs.Parts.{entry-length, entries-length, evenly-length, entries-next, entries-done, all-left, next-multiple}
 use Rattle.layout.proofs.put_entries.Statement.{statement}
 use Rattle.layout.proofs.put_entries.Tie as tie

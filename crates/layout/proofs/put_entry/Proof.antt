@@ -1,7 +1,7 @@
 -- `layout::put_entry` meets its contract: address, size and metrics, one behind the other. Assumes nothing.
-use Rattle.layout.specs.Meaning.{metricsBytes, entryBytes}
+use Rattle.layout.specs.Reading.{metricsBytes, entryBytes}
 use Rattle.base.proofs.Over.{over-none, behind}
-use Rattle.base.specs.Meaning.{bytes32}
+use Rattle.base.specs.Reading.{bytes32}
 use Prim.Native.Nat.{_+_, _-_}
 use mathlib.Core.List.{[], _++_}
 use mathlib.Core.Path.{refl}

@@ -9,7 +9,7 @@ use Rattle.base.proofs.Written.{Written, begins-as, room, goes-on, ends}
 use native.Mathlib.Nat.{mul-le-mul-right}
 use Rattle.base.specs.Meaning.{le32}
 use Rattle.entries.specs.Meaning.{entryAt, addressAt}
-use Rattle.layout.specs.Meaning.{gathered}
+use Rattle.layout.specs.Reading.{gathered}
 use Rattle.layout.proofs.Parts.{gathered-short, gathered-next, gathered-done, part-length, part-said, all-left, next-multiple}
 use Rattle.layout.proofs.put_gathered.Statement.{statement}
 use Rattle.layout.proofs.put_gathered.Tie as tie

@@ -1,7 +1,7 @@
 -- `layout::put_metrics` meets its contract: five numbers, one behind the other. Assumes nothing.
-use Rattle.layout.specs.Meaning.{metricsBytes}
+use Rattle.layout.specs.Reading.{metricsBytes}
 use Rattle.base.proofs.Over.{over-none, behind}
-use Rattle.base.specs.Meaning.{bytes16}
+use Rattle.base.specs.Reading.{bytes16}
 use Prim.Native.Nat.{_+_, _-_}
 use mathlib.Core.List.{[], _++_}
 use mathlib.Core.Path.{refl}

@@ -3,8 +3,8 @@ use native.Mathlib.Omega.{arith}
 use Prim.Native.Nat.{ℕ}
 use mathlib.Core.Path.{ap}
 use lib.ListN.{length}
-use Rattle.listing.specs.Meaning.{numeral}
-use Rattle.listing.proofs.Digits.{hexadecimal-8}
+use Rattle.text.specs.Reading.{numeral}
+use Rattle.text.proofs.Digits.{hexadecimal-8}
 use borrow.Author.Needs.{needs}
 use Rattle.listing.proofs.item_len.Statement.{statement}
 use Rattle.listing.proofs.item_len.Tie as tie

@@ -4,11 +4,11 @@ use mathlib.Core.Path.{sym, _∙_, ap}
 use mathlib.Core.List.{List}
 use Prim.Native.Nat.{ℕ}
 use lib.ListN.{length}
-use Rattle.listing.proofs.Putting.{first-stands, behind-stands}
+use Rattle.text.proofs.Putting.{first-stands, behind-stands}
 use Rattle.listing.proofs.Answers.{no-room-as, wrote, in-front, font-text, font-length}
 use Rattle.listing.specs.Meaning.{firstLine}
 use Rattle.listing.specs.Reading.{linesText, fontText}
-use Rattle.base.specs.Meaning.{over}
+use Rattle.base.specs.Reading.{over}
 use borrow.Author.Needs.{needs}
 use Rattle.listing.proofs.list_font.Statement.{statement}
 use Rattle.listing.proofs.list_font.Tie as tie

@@ -2,7 +2,7 @@
 use native.Mathlib.Omega.{arith}
 use mathlib.Core.Path.{ap, sym, _∙_}
 use lib.ListN.{length}
-use Rattle.listing.proofs.Digits.{decimal-5}
+use Rattle.text.proofs.Digits.{decimal-5}
 use Rattle.listing.proofs.Pieces.{piece-fresh-length, piece-plain}
 use borrow.Author.Needs.{needs}
 use Rattle.listing.proofs.piece_len.Statement.{statement}

@@ -5,11 +5,13 @@ use mathlib.Core.List.{List, _++_}
 use Prim.Native.Nat.{ℕ, _+_, _-_, _≤_}
 use lib.ListN.{length}
 use borrow.Rule.Slice.PartMut.{putMid}
-use Rattle.listing.proofs.Putting.{Stands, first-stands, behind-room, behind-stands}
-use Rattle.listing.proofs.Pieces.{number-21, kind-7, word-6, first-line}
-use Rattle.listing.specs.Meaning.{kindText, numberText, tableWord}
+use Rattle.text.proofs.Putting.{Stands, first-stands, behind-room, behind-stands}
+use Rattle.text.proofs.Digits.{number-21}
+use Rattle.listing.proofs.Pieces.{kind-7, word-6, first-line}
+use Rattle.listing.specs.Meaning.{kindText, tableWord}
+use Rattle.text.specs.Meaning.{numberText}
 use Rattle.header.specs.declared.Font.{Font}
-use Rattle.base.specs.Meaning.{over}
+use Rattle.base.specs.Reading.{over}
 use borrow.Author.Needs.{needs}
 use Rattle.listing.proofs.put_first.Statement.{statement}
 use Rattle.listing.proofs.put_first.Tie as tie

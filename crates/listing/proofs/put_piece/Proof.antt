@@ -4,11 +4,11 @@ use native.Mathlib.Omega.{arith}
 use mathlib.Core.List.{List}
 use mathlib.Core.Path.{sym, _∙_, ap}
 use lib.ListN.{length}
-use Rattle.listing.proofs.Putting.{first-stands, behind-room, behind-stands}
+use Rattle.text.proofs.Putting.{first-stands, behind-room, behind-stands}
 use Rattle.listing.proofs.Pieces.{piece-fresh, piece-fresh-length, piece-plain}
-use Rattle.listing.specs.Meaning.{numeral}
+use Rattle.text.specs.Reading.{numeral}
 use Rattle.listing.specs.Reading.{itemText}
-use Rattle.base.specs.Meaning.{over}
+use Rattle.base.specs.Reading.{over}
 use borrow.Author.Needs.{needs}
 use Rattle.listing.proofs.put_piece.Statement.{statement}
 use Rattle.listing.proofs.put_piece.Tie as tie

@@ -4,10 +4,11 @@ use mathlib.Core.Path.{_∙_, ap, refl}
 use mathlib.Core.List.{List, [], _∷_, _++_}
 use Prim.Native.Nat.{ℕ}
 use lib.ListN.{length}
-use Rattle.listing.proofs.Putting.{first-stands, behind-room, behind-stands}
-use Rattle.listing.proofs.Pieces.{number-21, refused-text}
-use Rattle.listing.specs.Meaning.{numberText}
-use Rattle.base.specs.Meaning.{over}
+use Rattle.text.proofs.Putting.{first-stands, behind-room, behind-stands}
+use Rattle.text.proofs.Digits.{number-21}
+use Rattle.listing.proofs.Pieces.{refused-text}
+use Rattle.text.specs.Meaning.{numberText}
+use Rattle.base.specs.Reading.{over}
 use borrow.Author.Needs.{needs}
 use Rattle.listing.proofs.put_refused.Statement.{statement}
 use Rattle.listing.proofs.put_refused.Tie as tie

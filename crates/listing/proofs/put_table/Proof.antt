@@ -1,5 +1,5 @@
 -- `listing::put_table` meets its contract: at each turn the lines written so far stand in front, and those from the place on are left. Assumes nothing.
-use Rattle.listing.proofs.Putting.{Written, written-none, written-all}
+use Rattle.text.proofs.Putting.{Written, written-none, written-all}
 use Rattle.listing.proofs.Pieces.{value-within, value-room, value-next, start-within, start-room, start-next, end-within, end-room, end-next, on-cut, on-bad, on-past, on-all}
 use borrow.Author.Needs.{needs}
 use native.Mathlib.Omega.{arith}

@@ -7,7 +7,7 @@ use Rattle.coding.specs.Meaning.{valueBytes, startBytes, endBytes}
 use Rattle.table.specs.Reading.{stepsAt, stepItems}
 use Rattle.table.specs.Meaning.{bytes}
 use Rattle.base.proofs.Over.{over-none, turn-within, turn-left, turn-over, turn-length, turn-room, all-over}
-use Rattle.base.specs.Meaning.{over}
+use Rattle.base.specs.Reading.{over}
 use lib.ListN.{length, take, drop}
 use Prim.Native.Nat.{_-_, _≤_}
 use mathlib.Core.Bool.{false}

@@ -1,0 +1,3 @@
+-- The three kinds of file.
+pub mod Meaning
+pub mod Reading

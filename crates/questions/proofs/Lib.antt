@@ -1,0 +1,2 @@
+-- Laws of the questions that their proofs cite.
+pub mod Answers

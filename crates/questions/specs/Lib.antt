@@ -1,0 +1,2 @@
+-- What the questions about a table answer.
+pub mod Reading

@@ -1,0 +1,3 @@
+-- Numbers as text.
+pub mod Meaning
+pub mod Reading
