@@ -11,7 +11,7 @@ use refusal::Reason;
 use refusal::Refusal;
 use transcode::Measured;
 ghost use mathlib.Core.Path.{_≡_};
-ghost use Prim.Native.Nat.{ℕ, _+_, _*_, _≤_, _<_};
+ghost use Prim.Native.Nat.{_+_, _*_, _≤_, _<_};
 ghost use lib.ListN.{length};
 ghost use Rattle.kinds.specs.Meaning.{headerLen, entryLen};
 ghost use Rattle.header.specs.Bounds.{Placed};

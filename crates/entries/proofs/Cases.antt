@@ -16,14 +16,14 @@ module _ (s : List ℕ) (total at : ℕ) where
   abbrev pub Some : Type 0
   Some = sizeAt s at ≡ 0 → ⊥
 
-  abbrev pub Rows : Type 0
-  Rows = Some × (1 ≤ rowsAt s at) × (rowsAt s at ≤ 255)
+  abbrev pub RowsWithin : Type 0
+  RowsWithin = Some × (1 ≤ rowsAt s at) × (rowsAt s at ≤ 255)
 
-  abbrev pub Cols : Type 0
-  Cols = Rows × (1 ≤ colsAt s at) × (colsAt s at ≤ 255)
+  abbrev pub ColsWithin : Type 0
+  ColsWithin = RowsWithin × (1 ≤ colsAt s at) × (colsAt s at ≤ 255)
 
   abbrev pub Sized : Type 0
-  Sized = Cols × (sizeAt s at ≡ glyphBytes (rowsAt s at) (colsAt s at))
+  Sized = ColsWithin × (sizeAt s at ≡ glyphBytes (rowsAt s at) (colsAt s at))
 
   -- the same, of numbers that were read
   pub bytes-read : (r c : ℕ) → r ≡ rowsAt s at → c ≡ colsAt s at → glyphBytes r c ≡ glyphBytes (rowsAt s at) (colsAt s at)
@@ -44,15 +44,15 @@ module _ (s : List ℕ) (total at : ℕ) where
   unfolding entryOf
   rows-high h = search chain depth 30
 
-  pub cols-low : Rows × (colsAt s at < 1) → Broken ≡ entryOf s total at
+  pub cols-low : RowsWithin × (colsAt s at < 1) → Broken ≡ entryOf s total at
   unfolding entryOf
   cols-low h = search chain depth 30
 
-  pub cols-high : Rows × (1 ≤ colsAt s at) × (255 < colsAt s at) → Broken ≡ entryOf s total at
+  pub cols-high : RowsWithin × (1 ≤ colsAt s at) × (255 < colsAt s at) → Broken ≡ entryOf s total at
   unfolding entryOf
   cols-high h = search chain depth 30
 
-  pub size-wrong : Cols × (sizeAt s at ≡ glyphBytes (rowsAt s at) (colsAt s at) → ⊥) → Broken ≡ entryOf s total at
+  pub size-wrong : ColsWithin × (sizeAt s at ≡ glyphBytes (rowsAt s at) (colsAt s at) → ⊥) → Broken ≡ entryOf s total at
   unfolding entryOf
   size-wrong h = search chain depth 30
 

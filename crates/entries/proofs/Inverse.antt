@@ -13,7 +13,7 @@ use Rattle.entries.specs.declared.Entry.{Entry}
 use Rattle.entries.specs.declared.Entry.the-variants.{Empty, Glyph, Broken}
 
 -- the rules of an entry with a glyph: document 01's second item on vfont2
-pub record Keeps (s : List ℕ) (total at : ℕ) : Type 0 where
+pub record KeepsRules (s : List ℕ) (total at : ℕ) : Type 0 where
   pub some : sizeAt s at ≡ 0 → ⊥
   pub rows-low : 1 ≤ rowsAt s at
   pub rows-high : rowsAt s at ≤ 255
@@ -38,7 +38,7 @@ unfolding when
 filled true y r c e = no-empty r c e
 filled false y r c e = (refl, e)
 
-pub keeps : (s : List ℕ) (total at r c : ℕ) → entryOf s total at ≡ Glyph r c → Keeps s total at × (r ≡ rowsAt s at) × (c ≡ colsAt s at)
+pub keeps : (s : List ℕ) (total at r c : ℕ) → entryOf s total at ≡ Glyph r c → KeepsRules s total at × (r ≡ rowsAt s at) × (c ≡ colsAt s at)
 unfolding entryOf
 keeps s total at r c e =
     let a = filled _ _ r c e in

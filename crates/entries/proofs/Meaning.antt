@@ -18,7 +18,7 @@ use Rattle.entries.specs.declared.Entry.the-variants.{Empty, Glyph, Brok
 use Rattle.entries.specs.declared.Scan.{Scan}
 use Rattle.entries.specs.declared.Scan.the-variants.{BrokenAt, Greatest}
 use Rattle.entries.proofs.Cases as cases
-use Rattle.entries.proofs.Inverse.{Keeps, keeps}
+use Rattle.entries.proofs.Inverse.{KeepsRules, keeps}
 
 -- what each answer on an entry says
 abbrev pub EntrySays : List ℕ → ℕ → ℕ → Entry → Type 0
@@ -26,7 +26,7 @@ EntrySays s total at Empty = HasGlyph s at → ⊥
 EntrySays s total at (Glyph r c) = HasGlyph s at × Rules s total at × (r ≡ rowsAt s at) × (c ≡ colsAt s at)
 EntrySays s total at Broken = Breaks s total at
 
-kept : (s : List ℕ) (total at : ℕ) → Keeps s total at → Rules s total at
+kept : (s : List ℕ) (total at : ℕ) → KeepsRules s total at → Rules s total at
 unfolding glyphBytes
 kept s total at k = ((k .rows-low, k .rows-high), (k .cols-low, k .cols-high), k .size, k .inside)
 

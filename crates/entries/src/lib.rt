@@ -2,7 +2,7 @@
 // an entry, and all entries, say).
 use kinds::Vfont2;
 ghost use mathlib.Core.Path.{_≡_};
-ghost use Prim.Native.Nat.{ℕ, _+_, _*_, _/_, _≤_, _<_};
+ghost use Prim.Native.Nat.{_+_, _≤_, _<_};
 ghost use lib.ListN.{length};
 ghost use lib.IntN.{_+ℤ_};
 ghost use Rattle.entries.specs.Meaning.{entryAt, signed16, metricsAt, countOf, rowsAt, colsAt};

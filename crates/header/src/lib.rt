@@ -7,7 +7,7 @@ use kinds::Vfont2;
 use refusal::Reason;
 use refusal::Refusal;
 ghost use mathlib.Core.Path.{_≡_};
-ghost use Prim.Native.Nat.{ℕ, _≤_, _<_};
+ghost use Prim.Native.Nat.{_≤_, _<_};
 ghost use Rattle.header.specs.Meaning.{rowBytes, glyphBytes};
 ghost use Rattle.header.specs.Reading.{kindOf, psf1Says, headOf, psf2Shaped, vfont2Shaped, onFields, saysOf};
 ghost use Rattle.header.specs.Bounds.{HeadWithin};

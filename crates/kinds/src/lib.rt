@@ -1,8 +1,7 @@
 // Inner layer: the three kinds of file: the constants of each, PSF1's mode byte, and a kind's header written. Definitions:
 // specs/Meaning.antt (the formats), specs/Reading.antt (the headers that are written).
 ghost use mathlib.Core.Path.{_≡_};
-ghost use mathlib.Core.Bool.{Bool};
-ghost use Prim.Native.Nat.{ℕ, _+_, _*_, _≤_, _<_};
+ghost use Prim.Native.Nat.{_+_, _*_, _≤_, _<_};
 ghost use lib.ListN.{length};
 ghost use Rattle.base.specs.Reading.{over};
 ghost use Rattle.kinds.specs.declared.Kind.the-variants.{Psf1 as psf1, Psf2 as psf2, Vfont2 as vfont2};

@@ -5,14 +5,14 @@ use mathlib.Core.Path.{_≡_, _∙_}
 use mathlib.Core.Logic.{_↔_}
 use mathlib.Core.Bool.{true}
 use mathlib.Core.List.{List}
-use Prim.Native.Nat.{ℕ, _+_, _≤_, _<_}
-use lib.ListN.{length, take}
+use Prim.Native.Nat.{ℕ, _+_, _≤_}
+use lib.ListN.{length}
 use Rattle.base.specs.Meaning.{Bytes}
 use Rattle.refusal.specs.declared.Refusal.{Refusal}
 use Rattle.refusal.specs.Meaning.{refusal}
 use Rattle.refusal.specs.declared.Reason.the-variants.{TableCut, TableBad, Trailing, Ask, Unmapped}
 use Rattle.table.specs.declared.Item.{Item}
-use Rattle.table.specs.Meaning.{Desc, encode, Readable, IsTable, Completable, LongestStart}
+use Rattle.table.specs.Meaning.{Desc, encode, Readable, IsTable, LongestStart, Unfinished, BadAt, TrailingAt}
 use Rattle.table.proofs.Meaning as meaning
 use Rattle.lookup.specs.Meaning.{ListsValue, ListsSequence, Lowest, Nowhere, ItemIs}
 use Rattle.header.specs.declared.Font.{Font}
@@ -38,21 +38,19 @@ module _ (s : List ℕ) (y : Bytes s) (f : Font) (passed : throughEntries s ≡ 
   -- TABLE CUT exactly when the whole tail could still be completed, but isn't complete; its place is the file's length
   pub cut-exactly : (p : ℕ) →
       (checkOf s ≡ Refused (refusal TableCut p)) ↔
-      ((p ≡ length s) × Completable (codingOf (f .kind)) (f .count) (tailOf s f) × (IsTable (codingOf (f .kind)) (f .count) (tailOf s f) → ⊥))
+      ((p ≡ length s) × Unfinished (codingOf (f .kind)) (f .count) (tailOf s f))
   cut-exactly = tail.cut-exactly s y f passed marked
 
   -- TABLE BAD exactly when the longest completable start is shorter than the tail and not a complete table; its place is that start's end
   pub bad-exactly : (p : ℕ) →
       (checkOf s ≡ Refused (refusal TableBad p)) ↔
-      ((k : ℕ) × (p ≡ f .end + k) × LongestStart (codingOf (f .kind)) (f .count) (tailOf s f) k × (k < length (tailOf s f))
-      × (IsTable (codingOf (f .kind)) (f .count) (take k (tailOf s f)) → ⊥))
+      ((k : ℕ) × (p ≡ f .end + k) × BadAt (codingOf (f .kind)) (f .count) (tailOf s f) k)
   bad-exactly = tail.bad-exactly s y f passed marked
 
   -- TRAILING exactly when bytes stand after a complete table; its place is the first such byte
   pub trailing-exactly : (p : ℕ) →
       (checkOf s ≡ Refused (refusal Trailing p)) ↔
-      ((k : ℕ) × (p ≡ f .end + k) × LongestStart (codingOf (f .kind)) (f .count) (tailOf s f) k × (k < length (tailOf s f))
-      × IsTable (codingOf (f .kind)) (f .count) (take k (tailOf s f)))
+      ((k : ℕ) × (p ≡ f .end + k) × TrailingAt (codingOf (f .kind)) (f .count) (tailOf s f) k)
   trailing-exactly = tail.trailing-exactly s y f passed marked
 
   -- of an accepted font, with its reading

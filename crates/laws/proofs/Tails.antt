@@ -3,9 +3,9 @@ use mathlib.Core.Path.{_≡_, refl, sym, _∙_, ap}
 use mathlib.Core.Logic.{_↔_}
 use mathlib.Core.Bool.{Bool, true, false}
 use mathlib.Core.List.{List}
-use Prim.Native.Nat.{ℕ, _+_, _<_}
+use Prim.Native.Nat.{ℕ, _+_}
 use native.Mathlib.Omega.{arith}
-use lib.ListN.{length, take, length-drop}
+use lib.ListN.{length, length-drop}
 use lib.Seq.{take-all}
 use Rattle.base.specs.Meaning.{Bytes}
 use Rattle.base.proofs.Parts.{bytes-drop, byte-at}
@@ -15,7 +15,7 @@ use Rattle.refusal.specs.declared.Refusal.{Refusal}
 use Rattle.table.specs.declared.TableAnswer.{TableAnswer}
 use Rattle.table.specs.declared.TableAnswer.the-variants.{Complete, Cut, Bad, Trailing as Over}
 use Rattle.table.specs.Reading.{tableOf}
-use Rattle.table.specs.Meaning.{IsTable, Completable, LongestStart}
+use Rattle.table.specs.Meaning.{IsTable, Completable, LongestStart, Unfinished, BadAt, TrailingAt}
 use Rattle.table.proofs.Meaning as meaning
 use Rattle.header.specs.declared.Font.{Font}
 use Rattle.header.specs.declared.Checked.{Checked}
@@ -24,7 +24,7 @@ use Rattle.header.proofs.Known.{never}
 use Rattle.stages.specs.Meaning.{codingOf, tailOf}
 use Rattle.stages.specs.Reading.{answered, throughEntries, checkOf}
 use Rattle.stages.proofs.Cases.{with-table, bare-trailing, bare-sound, tail-after, placed}
-use Rattle.laws.specs.Meaning.{given, skipped, given-at, skipped-at, TableRows, TailRows}
+use Rattle.laws.specs.Meaning.{given, skipped, given-at, skipped-at, TailRows}
 use Rattle.laws.proofs.Answers.{clash, checkNumber}
 use Rattle.laws.proofs.Deciding.{decide, less}
 
@@ -90,60 +90,54 @@ module _ (s : List ℕ) (y : Bytes s) (f : Font) (passed : throughEntries s ≡ 
 
   pub cut-exactly : (p : ℕ) →
       (checkOf s ≡ Refused (refusal TableCut p)) ↔
-      ((p ≡ length s) × Completable (codingOf (f .kind)) (f .count) (tailOf s f) × (IsTable (codingOf (f .kind)) (f .count) (tailOf s f) → ⊥))
+      ((p ≡ length s) × Unfinished (codingOf (f .kind)) (f .count) (tailOf s f))
   cut-exactly p = (there, back)
     where
       there : checkOf s ≡ Refused (refusal TableCut p) →
-          (p ≡ length s) × Completable (codingOf (f .kind)) (f .count) (tailOf s f) × (IsTable (codingOf (f .kind)) (f .count) (tailOf s f) → ⊥)
+          (p ≡ length s) × Unfinished (codingOf (f .kind)) (f .count) (tailOf s f)
       there e =
           let a = is-cut f p _ (sym checked ∙ e) in
           let h = meaning.cut-place (codingOf (f .kind)) (f .count) (tailOf s f) (a .0) t-bytes .0 (a .1) in
-          (omega (arith, a .2, h .0, where-it-ends), h .1, h .2)
+          (omega (arith, a .2, h .0, where-it-ends), h .1)
 
-      back : (p ≡ length s) × Completable (codingOf (f .kind)) (f .count) (tailOf s f) × (IsTable (codingOf (f .kind)) (f .count) (tailOf s f) → ⊥) →
+      back : (p ≡ length s) × Unfinished (codingOf (f .kind)) (f .count) (tailOf s f) →
           checkOf s ≡ Refused (refusal TableCut p)
       back h =
-          let e = meaning.cut-place (codingOf (f .kind)) (f .count) (tailOf s f) (length (tailOf s f)) t-bytes .1 (refl, h .1, h .2) in
+          let e = meaning.cut-place (codingOf (f .kind)) (f .count) (tailOf s f) (length (tailOf s f)) t-bytes .1 (refl, h .1) in
           cut-given _ (e .0) (e .1) ∙ ap (λ (x : ℕ). Refused (refusal TableCut x)) (sym (h .0))
 
   pub bad-exactly : (p : ℕ) →
       (checkOf s ≡ Refused (refusal TableBad p)) ↔
-      ((k : ℕ) × (p ≡ f .end + k) × LongestStart (codingOf (f .kind)) (f .count) (tailOf s f) k × (k < length (tailOf s f))
-      × (IsTable (codingOf (f .kind)) (f .count) (take k (tailOf s f)) → ⊥))
+      ((k : ℕ) × (p ≡ f .end + k) × BadAt (codingOf (f .kind)) (f .count) (tailOf s f) k)
   bad-exactly p = (there, back)
     where
       there : checkOf s ≡ Refused (refusal TableBad p) →
-          (k : ℕ) × (p ≡ f .end + k) × LongestStart (codingOf (f .kind)) (f .count) (tailOf s f) k × (k < length (tailOf s f))
-          × (IsTable (codingOf (f .kind)) (f .count) (take k (tailOf s f)) → ⊥)
+          (k : ℕ) × (p ≡ f .end + k) × BadAt (codingOf (f .kind)) (f .count) (tailOf s f) k
       there e =
           let a = is-bad f p _ (sym checked ∙ e) in
           let h = meaning.bad-place (codingOf (f .kind)) (f .count) (tailOf s f) (a .0) t-bytes .0 (a .1) in
-          (a .0, a .2, h .0, h .1, h .2)
+          (a .0, a .2, h)
 
-      back : (k : ℕ) × (p ≡ f .end + k) × LongestStart (codingOf (f .kind)) (f .count) (tailOf s f) k × (k < length (tailOf s f))
-          × (IsTable (codingOf (f .kind)) (f .count) (take k (tailOf s f)) → ⊥) → checkOf s ≡ Refused (refusal TableBad p)
-      back (k, q, l, h, n) =
-          let e = meaning.bad-place (codingOf (f .kind)) (f .count) (tailOf s f) k t-bytes .1 (l, h, n) in
+      back : (k : ℕ) × (p ≡ f .end + k) × BadAt (codingOf (f .kind)) (f .count) (tailOf s f) k → checkOf s ≡ Refused (refusal TableBad p)
+      back (k, q, h) =
+          let e = meaning.bad-place (codingOf (f .kind)) (f .count) (tailOf s f) k t-bytes .1 h in
           bad-given k (e .0) (e .1) ∙ ap (λ (x : ℕ). Refused (refusal TableBad x)) (sym q)
 
   pub trailing-exactly : (p : ℕ) →
       (checkOf s ≡ Refused (refusal Trailing p)) ↔
-      ((k : ℕ) × (p ≡ f .end + k) × LongestStart (codingOf (f .kind)) (f .count) (tailOf s f) k × (k < length (tailOf s f))
-      × IsTable (codingOf (f .kind)) (f .count) (take k (tailOf s f)))
+      ((k : ℕ) × (p ≡ f .end + k) × TrailingAt (codingOf (f .kind)) (f .count) (tailOf s f) k)
   trailing-exactly p = (there, back)
     where
       there : checkOf s ≡ Refused (refusal Trailing p) →
-          (k : ℕ) × (p ≡ f .end + k) × LongestStart (codingOf (f .kind)) (f .count) (tailOf s f) k × (k < length (tailOf s f))
-          × IsTable (codingOf (f .kind)) (f .count) (take k (tailOf s f))
+          (k : ℕ) × (p ≡ f .end + k) × TrailingAt (codingOf (f .kind)) (f .count) (tailOf s f) k
       there e =
           let a = is-over f p _ (sym checked ∙ e) in
           let h = meaning.trailing-exactly (codingOf (f .kind)) (f .count) (tailOf s f) (a .0) t-bytes .0 (a .1) in
-          (a .0, a .2, h .0, h .1, h .2)
+          (a .0, a .2, h)
 
-      back : (k : ℕ) × (p ≡ f .end + k) × LongestStart (codingOf (f .kind)) (f .count) (tailOf s f) k × (k < length (tailOf s f))
-          × IsTable (codingOf (f .kind)) (f .count) (take k (tailOf s f)) → checkOf s ≡ Refused (refusal Trailing p)
-      back (k, q, l, h, n) =
-          over-given k (meaning.trailing-exactly (codingOf (f .kind)) (f .count) (tailOf s f) k t-bytes .1 (l, h, n)) ∙ ap (λ (x : ℕ). Refused (refusal Trailing x)) (sym q)
+      back : (k : ℕ) × (p ≡ f .end + k) × TrailingAt (codingOf (f .kind)) (f .count) (tailOf s f) k → checkOf s ≡ Refused (refusal Trailing p)
+      back (k, q, h) =
+          over-given k (meaning.trailing-exactly (codingOf (f .kind)) (f .count) (tailOf s f) k t-bytes .1 h) ∙ ap (λ (x : ℕ). Refused (refusal Trailing x)) (sym q)
 
   -- a tail that is cut is its own longest start
   whole-start : Completable (codingOf (f .kind)) (f .count) (tailOf s f) → LongestStart (codingOf (f .kind)) (f .count) (tailOf s f) (length (tailOf s f))
@@ -165,32 +159,30 @@ module _ (s : List ℕ) (y : Bytes s) (f : Font) (passed : throughEntries s ≡ 
       go Complete q e = absurd (never r f (sym e))
       go (Cut k g) q e =
           let h = meaning.cut-place (codingOf (f .kind)) (f .count) (tailOf s f) k t-bytes .0 (g, q) in
-          (length (tailOf s f), moved _ e ∙ ap (λ (x : ℕ). f .end + x) (h .0), whole-start (h .1))
+          (length (tailOf s f), moved _ e ∙ ap (λ (x : ℕ). f .end + x) (h .0), whole-start (h .1 .0))
       go (Bad k g) q e = (k, moved _ e, meaning.bad-place (codingOf (f .kind)) (f .count) (tailOf s f) k t-bytes .0 (g, q) .0)
       go (Over k) q e = (k, moved _ e, meaning.trailing-exactly (codingOf (f .kind)) (f .count) (tailOf s f) k t-bytes .0 q .0)
 
   -- the table's rows
-  table-rows : TableRows s f (checkOf s)
+  table-rows : TailRows s f true (checkOf s)
   table-rows = go (tableOf (codingOf (f .kind)) (f .count) (tailOf s f)) refl
     where
-      bad : (k : ℕ) → LongestStart (codingOf (f .kind)) (f .count) (tailOf s f) k × (k < length (tailOf s f))
-          × (IsTable (codingOf (f .kind)) (f .count) (take k (tailOf s f)) → ⊥) → checkOf s ≡ Refused (refusal TableBad (f .end + k))
-      bad k h = bad-exactly (f .end + k) .1 (k, refl, h .0, h .1, h .2)
+      bad : (k : ℕ) → BadAt (codingOf (f .kind)) (f .count) (tailOf s f) k → checkOf s ≡ Refused (refusal TableBad (f .end + k))
+      bad k h = bad-exactly (f .end + k) .1 (k, refl, h)
 
-      over : (k : ℕ) → LongestStart (codingOf (f .kind)) (f .count) (tailOf s f) k × (k < length (tailOf s f))
-          × IsTable (codingOf (f .kind)) (f .count) (take k (tailOf s f)) → checkOf s ≡ Refused (refusal Trailing (f .end + k))
-      over k h = trailing-exactly (f .end + k) .1 (k, refl, h .0, h .1, h .2)
+      over : (k : ℕ) → TrailingAt (codingOf (f .kind)) (f .count) (tailOf s f) k → checkOf s ≡ Refused (refusal Trailing (f .end + k))
+      over k h = trailing-exactly (f .end + k) .1 (k, refl, h)
 
-      cut : Completable (codingOf (f .kind)) (f .count) (tailOf s f) × (IsTable (codingOf (f .kind)) (f .count) (tailOf s f) → ⊥) → checkOf s ≡ Refused (refusal TableCut (length s))
-      cut h = cut-exactly (length s) .1 (refl, h .0, h .1)
+      cut : Unfinished (codingOf (f .kind)) (f .count) (tailOf s f) → checkOf s ≡ Refused (refusal TableCut (length s))
+      cut h = cut-exactly (length s) .1 (refl, h)
 
-      go : (a : TableAnswer) → tableOf (codingOf (f .kind)) (f .count) (tailOf s f) ≡ a → TableRows s f (checkOf s)
+      go : (a : TableAnswer) → tableOf (codingOf (f .kind)) (f .count) (tailOf s f) ≡ a → TailRows s f true (checkOf s)
       go Complete e =
           let q = complete-sound e in
           skipped (λ h. clash checkNumber (sym (cut h) ∙ q) (λ z. omega arith)) (skipped-at (λ k h. clash checkNumber (sym (bad k h) ∙ q) (λ z. omega arith)) (skipped-at (λ k h. clash checkNumber (sym (over k h) ∙ q) (λ z. omega arith)) q))
       go (Cut k g) e =
           let h = meaning.cut-place (codingOf (f .kind)) (f .count) (tailOf s f) k t-bytes .0 (g, e) in
-          given (h .1, h .2) (cut-given k g e)
+          given (h .1) (cut-given k g e)
       go (Bad k g) e =
           let q = bad-given k g e in
           skipped (λ h. clash checkNumber (sym (cut h) ∙ q) (λ z. omega arith))

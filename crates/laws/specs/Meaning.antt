@@ -11,7 +11,7 @@ use Rattle.refusal.specs.declared.Reason.{Reason}
 use Rattle.refusal.specs.declared.Reason.the-variants.{TooLong, Kind, HeaderCut, Version, HeaderSize, Count, Shape, BodyCut, Entry, TableCut, TableBad, Trailing}
 use Rattle.table.specs.declared.Item.{Item}
 use Rattle.table.specs.declared.Item.the-variants.{Single, Value}
-use Rattle.table.specs.Meaning.{Desc, items, encode, Readable, IsTable, Completable, LongestStart}
+use Rattle.table.specs.Meaning.{Desc, items, encode, Readable, Unfinished, BadAt, TrailingAt}
 use Rattle.transcode.specs.Meaning.{FirstUncarried}
 use Rattle.kinds.specs.declared.Kind as K
 use Rattle.kinds.specs.declared.Kind.the-variants.{Psf1, Psf2, Vfont2}
@@ -99,19 +99,13 @@ RowsThen s after =
     (Row ((Begins (magicOf Psf1) s → ⊥) × (Begins (magicOf Psf2) s → ⊥) × (Begins (magicOf Vfont2) s → ⊥)) Kind 0
     (KindRows s after))
 
--- rows 10 to 12 of a font with a table
-abbrev pub TableRows : List ℕ → Font → Checked → Type 0
-TableRows s f =
-    Row (Completable (codingOf (f .kind)) (f .count) (tailOf s f) × (IsTable (codingOf (f .kind)) (f .count) (tailOf s f) → ⊥)) TableCut (length s)
-    (RowAt (λ k. LongestStart (codingOf (f .kind)) (f .count) (tailOf s f) k × (k < length (tailOf s f))
-    × (IsTable (codingOf (f .kind)) (f .count) (take k (tailOf s f)) → ⊥)) TableBad (λ k. f .end + k)
-    (RowAt (λ k. LongestStart (codingOf (f .kind)) (f .count) (tailOf s f) k × (k < length (tailOf s f))
-    × IsTable (codingOf (f .kind)) (f .count) (take k (tailOf s f))) Trailing (λ k. f .end + k)
-    (λ a. a ≡ Sound f)))
-
--- rows 10 to 12, or row 12 of a font without a table
+-- rows 10 to 12 of a font with a table, row 12 of one without
 abbrev pub TailRows : List ℕ → Font → Bool → Checked → Type 0
-TailRows s f true = TableRows s f
+TailRows s f true =
+    Row (Unfinished (codingOf (f .kind)) (f .count) (tailOf s f)) TableCut (length s)
+    (RowAt (BadAt (codingOf (f .kind)) (f .count) (tailOf s f)) TableBad (λ k. f .end + k)
+    (RowAt (TrailingAt (codingOf (f .kind)) (f .count) (tailOf s f)) Trailing (λ k. f .end + k)
+    (λ a. a ≡ Sound f)))
 TailRows s f false = Row (f .end < length s) Trailing (f .end) (λ a. a ≡ Sound f)
 
 -- rows 1 to 9

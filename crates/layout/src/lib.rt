@@ -9,7 +9,7 @@ ghost use mathlib.Core.Path.{_≡_};
 ghost use Prim.Native.Nat.{ℕ, _+_, _*_, _≤_, _<_};
 ghost use lib.ListN.{length};
 ghost use Rattle.base.specs.Reading.{over};
-ghost use Rattle.kinds.specs.declared.Kind.the-variants.{Psf1 as psf1, Psf2 as psf2, Vfont2 as vfont2};
+ghost use Rattle.kinds.specs.declared.Kind.the-variants.{Vfont2 as vfont2};
 ghost use Rattle.header.specs.Meaning.{charSize};
 ghost use Rattle.kinds.specs.Meaning.{headerLen, entryLen};
 ghost use Rattle.kinds.specs.Reading.{headerBytes};

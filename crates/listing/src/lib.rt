@@ -1,4 +1,4 @@
-// Inner layer: the text of a font's listing, written to a lent buffer. Definitions: specs/Meaning.antt, specs/Reading.antt.
+// The text of a font's listing, written to a lent buffer: what the program `fontlist` calls, and anyone may. Definitions: specs/Meaning.antt, specs/Reading.antt.
 use coding::Coding;
 use header::Checked;
 use header::Font;
@@ -8,12 +8,11 @@ use refusal::Refusal;
 use table::Item;
 use table::Step;
 ghost use mathlib.Core.Path.{_≡_};
-ghost use mathlib.Core.List.{[], _∷_};
-ghost use Prim.Native.Nat.{ℕ, _+_, _*_, _≤_, _<_};
+ghost use Prim.Native.Nat.{_+_, _*_, _≤_, _<_};
 ghost use lib.ListN.{length};
 ghost use Rattle.base.specs.Reading.{over};
 ghost use Rattle.header.specs.Bounds.{Placed};
-ghost use Rattle.listing.specs.Meaning.{kindText, tableWord, firstLine, refusedText, bigText};
+ghost use Rattle.listing.specs.Meaning.{kindText, tableWord, firstLine, refusedText};
 ghost use Rattle.listing.specs.Reading.{itemText, pieceOf, tableText, linesText, fontText, listingOf, listedOf, leftOf};
 
 // How many bytes of text stand in front of the buffer; or ROOM with the bytes needed, and the buffer is untouched.

@@ -106,60 +106,60 @@ abbrev left : List ℕ → List ℕ → List ℕ
 left ws [] = ws
 left ws (u ∷ us) = left (rest ws) us
 
-not-like : (ws us : List ℕ) → isWhole (after false ws us) (left ws us) ≡ false
+never-whole : (ws us : List ℕ) → isWhole (after false ws us) (left ws us) ≡ false
 unfolding goesOn isWhole
-not-like ws [] = refl
-not-like ws (u ∷ us) = not-like (rest ws) us
+never-whole ws [] = refl
+never-whole ws (u ∷ us) = never-whole (rest ws) us
 
-like : (ws us : List ℕ) → isWhole (after true ws us) (left ws us) ≡ sameAs ws us
+whole-exactly : (ws us : List ℕ) → isWhole (after true ws us) (left ws us) ≡ sameAs ws us
 unfolding goesOn isWhole
-like [] [] = refl
-like [] (u ∷ us) = not-like [] us
-like (w ∷ ws) [] = refl
-like (w ∷ ws) (u ∷ us) = go (eqb w u) (like ws us)
+whole-exactly [] [] = refl
+whole-exactly [] (u ∷ us) = never-whole [] us
+whole-exactly (w ∷ ws) [] = refl
+whole-exactly (w ∷ ws) (u ∷ us) = go (eqb w u) (whole-exactly ws us)
   where
     go : (b : Bool) → isWhole (after true ws us) (left ws us) ≡ sameAs ws us → isWhole (after b ws us) (left ws us) ≡ pick b (sameAs ws us) false
     go true ih = ih
-    go false ih = not-like ws us
+    go false ih = never-whole ws us
 
 module _ (vs : List ℕ) where
   -- where nothing is alike, what is still to come does not matter
-  dull : (g : ℕ) (ws xs : List ℕ) (is : List Item) → findSequenceFrom vs g false ws is ≡ findSequenceFrom vs g false xs is
+  no-matter : (g : ℕ) (ws xs : List ℕ) (is : List Item) → findSequenceFrom vs g false ws is ≡ findSequenceFrom vs g false xs is
   unfolding findSequenceFrom goesOn isWhole
-  dull g ws xs [] = refl
-  dull g ws xs (Single v ∷ is) = dull g ws xs is
-  dull g ws xs (Start ∷ is) = refl
-  dull g ws xs (Value v ∷ is) = dull g (rest ws) (rest xs) is
-  dull g ws xs (End ∷ is) = dull (g + 1) ws xs is
+  no-matter g ws xs [] = refl
+  no-matter g ws xs (Single v ∷ is) = no-matter g ws xs is
+  no-matter g ws xs (Start ∷ is) = refl
+  no-matter g ws xs (Value v ∷ is) = no-matter g (rest ws) (rest xs) is
+  no-matter g ws xs (End ∷ is) = no-matter (g + 1) ws xs is
 
   module _ (g : ℕ) where
-    seek-singles : (a : Bool) (ws us : List ℕ) (k : List Item) → findSequenceFrom vs g a ws (each Single us k) ≡ findSequenceFrom vs g a ws k
+    find-singles : (a : Bool) (ws us : List ℕ) (k : List Item) → findSequenceFrom vs g a ws (each Single us k) ≡ findSequenceFrom vs g a ws k
     unfolding findSequenceFrom
-    seek-singles a ws [] k = refl
-    seek-singles a ws (u ∷ us) k = seek-singles a ws us k
+    find-singles a ws [] k = refl
+    find-singles a ws (u ∷ us) k = find-singles a ws us k
 
-    seek-values : (a : Bool) (ws us : List ℕ) (k : List Item) → findSequenceFrom vs g a ws (each Value us k) ≡ findSequenceFrom vs g (after a ws us) (left ws us) k
+    find-values : (a : Bool) (ws us : List ℕ) (k : List Item) → findSequenceFrom vs g a ws (each Value us k) ≡ findSequenceFrom vs g (after a ws us) (left ws us) k
     unfolding findSequenceFrom
-    seek-values a ws [] k = refl
-    seek-values a ws (u ∷ us) k = seek-values (goesOn a u ws) (rest ws) us k
+    find-values a ws [] k = refl
+    find-values a ws (u ∷ us) k = find-values (goesOn a u ws) (rest ws) us k
 
-    seek-seqs : (a : Bool) (ws : List ℕ) (qs : List Seq) (k : List Item) →
+    find-seqs : (a : Bool) (ws : List ℕ) (qs : List Seq) (k : List Item) →
         findSequenceFrom vs g a ws (seqs qs (End ∷ k)) ≡ pick (isWhole a ws) (At g) (pick (any (isSequence vs) qs) (At g) (findSequenceFrom vs (g + 1) false vs k))
     unfolding findSequenceFrom
-    seek-seqs a ws [] k = ap (pick (isWhole a ws) (At g)) (dull (g + 1) ws vs k)
-    seek-seqs a ws (q ∷ qs) k =
+    find-seqs a ws [] k = ap (pick (isWhole a ws) (At g)) (no-matter (g + 1) ws vs k)
+    find-seqs a ws (q ∷ qs) k =
         let us = q .first ∷ q .others in
         let rest-found = pick (any (isSequence vs) qs) (At g) (findSequenceFrom vs (g + 1) false vs k) in
         ap (pick (isWhole a ws) (At g))
-        (seek-values true vs us (seqs qs (End ∷ k))
-        ∙ seek-seqs (after true vs us) (left vs us) qs k
-        ∙ ap (λ (b : Bool). pick b (At g) rest-found) (like vs us)
+        (find-values true vs us (seqs qs (End ∷ k))
+        ∙ find-seqs (after true vs us) (left vs us) qs k
+        ∙ ap (λ (b : Bool). pick b (At g) rest-found) (whole-exactly vs us)
         ∙ either (sameAs vs us) (any (isSequence vs) qs) (At g) (findSequenceFrom vs (g + 1) false vs k))
 
   pub find-sequence : (g : ℕ) (ws : List ℕ) (ds : List Desc) → findSequenceFrom vs g false ws (items ds) ≡ lowest (hasSequence vs) g ds
   unfolding findSequenceFrom isWhole
   find-sequence g ws [] = refl
   find-sequence g ws (d ∷ ds) =
-      seek-singles g false ws (d .singles) (seqs (d .sequences) (End ∷ items ds))
-      ∙ seek-seqs g false ws (d .sequences) (items ds)
+      find-singles g false ws (d .singles) (seqs (d .sequences) (End ∷ items ds))
+      ∙ find-seqs g false ws (d .sequences) (items ds)
       ∙ ap (pick (hasSequence vs d) (At g)) (find-sequence (g + 1) vs ds)

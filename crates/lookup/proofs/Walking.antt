@@ -13,10 +13,10 @@ use Rattle.lookup.specs.Meaning.{Nth, ItemIs}
 use Rattle.lookup.proofs.Turns.{Inner}
 
 -- item k of a list
-unfoldable itemOf : ℕ → List Item → Walked
-itemOf k [] = NoItem
-itemOf zero (i ∷ is) = Got i
-itemOf (suc k) (i ∷ is) = itemOf k is
+unfoldable nthItem : ℕ → List Item → Walked
+nthItem k [] = NoItem
+nthItem zero (i ∷ is) = Got i
+nthItem (suc k) (i ∷ is) = nthItem k is
 
 next : (k : ℕ) (i : Item) (is : List Item) → Inner i → itemAt zero (suc k) (i ∷ is) ≡ itemAt zero k is
 unfolding itemAt
@@ -38,15 +38,15 @@ past g k End is n = absurd n
 
 -- glyph 0's items
 abbrev Alike : List Item → List Item → Type 0
-Alike is js = (k : ℕ) → itemAt zero k is ≡ itemOf k js
+Alike is js = (k : ℕ) → itemAt zero k is ≡ nthItem k js
 
 alike-cons : (i : Item) (is js : List Item) → Inner i → Alike is js → Alike (i ∷ is) (i ∷ js)
-unfolding itemOf
+unfolding nthItem
 alike-cons i is js n a zero = first i is
 alike-cons i is js n a (suc k) = next k i is n ∙ a k
 
 alike-end : (is : List Item) → Alike (End ∷ is) (End ∷ [])
-unfolding itemAt itemOf
+unfolding itemAt nthItem
 alike-end is zero = refl
 alike-end is (suc k) = refl
 
@@ -80,14 +80,14 @@ past-described : (g k : ℕ) (d : Desc) (is : List Item) → itemAt (suc g) k (d
 past-described g k d is = past-each Single (λ v. tt) g k (d .singles) _ ∙ past-seqs g k (d .sequences) (End ∷ is) ∙ past-end g k is
 
 -- a place of a list
-got-nth : (k : ℕ) (is : List Item) (i : Item) → itemOf k is ≡ Got i → Nth k is i
-unfolding itemOf
+got-nth : (k : ℕ) (is : List Item) (i : Item) → nthItem k is ≡ Got i → Nth k is i
+unfolding nthItem
 got-nth k [] i e = let z : _≡_ {A = ℕ} 0 1 = cc in absurd (omega arith)
 got-nth zero (j ∷ is) i e = let h : j ≡ i = cc in h
 got-nth (suc k) (j ∷ is) i e = got-nth k is i e
 
-nth-got : (k : ℕ) (is : List Item) (i : Item) → Nth k is i → itemOf k is ≡ Got i
-unfolding itemOf
+nth-got : (k : ℕ) (is : List Item) (i : Item) → Nth k is i → nthItem k is ≡ Got i
+unfolding nthItem
 nth-got k [] i n = absurd n
 nth-got zero (j ∷ is) i n = ap Got n
 nth-got (suc k) (j ∷ is) i n = nth-got k is i n

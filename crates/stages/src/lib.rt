@@ -8,7 +8,6 @@ use kinds::Kind;
 use refusal::Reason;
 use table::TableAnswer;
 ghost use mathlib.Core.Path.{_≡_};
-ghost use lib.ListN.{length};
 ghost use Rattle.kinds.specs.declared.Kind.the-variants.{Vfont2};
 ghost use Rattle.header.specs.Bounds.{Placed};
 ghost use Rattle.entries.specs.Reading.{scanOf};

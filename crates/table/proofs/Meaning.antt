@@ -8,7 +8,7 @@ use Rattle.base.specs.Meaning.{Bytes}
 use Rattle.coding.specs.declared.Coding.{Coding}
 use Rattle.table.specs.declared.Item.{Item}
 use Rattle.table.specs.declared.TableAnswer.the-variants.{Complete, Cut, Bad, Trailing}
-use Rattle.table.specs.Meaning.{Desc, itemsOf, items, bytes, encode, startOf, Readable, IsTable, Completable, LongestStart, InGlyph}
+use Rattle.table.specs.Meaning.{Desc, itemsOf, items, bytes, encode, startOf, Readable, IsTable, Unfinished, BadAt, TrailingAt, InGlyph}
 use Rattle.table.specs.Reading.{endsIn, itemsIn, tableOf, tablePlace}
 use Rattle.table.proofs.Reading.{unique, items-back}
 use Rattle.table.proofs.EndToEnd.{described-append, encode-cons}
@@ -45,29 +45,29 @@ start-on = end-to-end.start-on
 -- TABLE CUT is given exactly when the whole tail could still be completed, but isn't complete; its place is the end, and its glyph is
 -- the one in whose description that stands
 pub cut-exactly : (c : Coding) (n : ℕ) (s : List ℕ) (k g : ℕ) → Bytes s →
-    (tableOf c n s ≡ Cut k g) ↔ ((k ≡ length s) × Completable c n s × (IsTable c n s → ⊥) × InGlyph c s k g)
+    (tableOf c n s ≡ Cut k g) ↔ ((k ≡ length s) × Unfinished c n s × InGlyph c s k g)
 cut-exactly c n s k g y = (
-  λ e. let r = cut-short c n s k g y e in (r .0, r .1, r .2, glyph-told c s n k y g (inl e) .1),
-  λ r. in-cut c s n k y g (r .0, r .1, r .2) (r .3),
+  λ e. let r = cut-short c n s k g y e in (r .0, r .1, glyph-told c s n k y g (inl e) .1),
+  λ r. in-cut c s n k y g (r .0, r .1) (r .2),
 )
 
 -- the same, whatever the glyph
 pub cut-place : (c : Coding) (n : ℕ) (s : List ℕ) (k : ℕ) → Bytes s →
-    ((g : ℕ) × (tableOf c n s ≡ Cut k g)) ↔ ((k ≡ length s) × Completable c n s × (IsTable c n s → ⊥))
+    ((g : ℕ) × (tableOf c n s ≡ Cut k g)) ↔ ((k ≡ length s) × Unfinished c n s)
 cut-place c n s k y = (λ (g, e). cut-short c n s k g y e, short-cut c n s k y)
 
 -- TABLE BAD is given exactly when the longest completable start is shorter than the tail and not a complete table; its place is that start's
 -- end, and its glyph is the one in whose description that stands
 pub bad-exactly : (c : Coding) (n : ℕ) (s : List ℕ) (k g : ℕ) → Bytes s →
-    (tableOf c n s ≡ Bad k g) ↔ (LongestStart c n s k × (k < length s) × (IsTable c n (take k s) → ⊥) × InGlyph c s k g)
+    (tableOf c n s ≡ Bad k g) ↔ (BadAt c n s k × InGlyph c s k g)
 bad-exactly c n s k g y = (
-  λ e. let r = bad-broken c n s k g y e in (r .0, r .1, r .2, glyph-told c s n k y g (inr e) .1),
-  λ r. in-bad c s n k y g (r .0, r .1, r .2) (r .3),
+  λ e. (bad-broken c n s k g y e, glyph-told c s n k y g (inr e) .1),
+  λ r. in-bad c s n k y g (r .0) (r .1),
 )
 
 -- the same, whatever the glyph
 pub bad-place : (c : Coding) (n : ℕ) (s : List ℕ) (k : ℕ) → Bytes s →
-    ((g : ℕ) × (tableOf c n s ≡ Bad k g)) ↔ (LongestStart c n s k × (k < length s) × (IsTable c n (take k s) → ⊥))
+    ((g : ℕ) × (tableOf c n s ≡ Bad k g)) ↔ BadAt c n s k
 bad-place c n s k y = (λ (g, e). bad-broken c n s k g y e, broken-bad c n s k y)
 
 -- the glyph that is told with a place is one of the n, and the place stands in its description
@@ -82,7 +82,7 @@ glyph-of-item = item-glyph
 
 -- TRAILING is given exactly when the longest completable start is a complete table and shorter than the tail; its place is the first byte after it
 pub trailing-exactly : (c : Coding) (n : ℕ) (s : List ℕ) (k : ℕ) → Bytes s →
-    (tableOf c n s ≡ Trailing k) ↔ (LongestStart c n s k × (k < length s) × IsTable c n (take k s))
+    (tableOf c n s ≡ Trailing k) ↔ TrailingAt c n s k
 trailing-exactly c n s k y = (trailing-over c n s k y, λ h. over-trailing c n s k (h .1) (h .2))
 
 -- no place is past the tail's end

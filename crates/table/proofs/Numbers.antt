@@ -15,7 +15,7 @@ use Rattle.table.specs.declared.Step.{Step}
 use Rattle.table.specs.declared.Step.the-variants.{Value as StepValue, Start as StepStart, End as StepEnd, Cut as StepCut, Bad as StepBad}
 use Rattle.table.specs.declared.TableAnswer.{TableAnswer}
 use Rattle.table.specs.declared.TableAnswer.the-variants.{Complete, Cut as TableCut, Bad as TableBad, Trailing}
-use Rattle.table.specs.Meaning.{Desc, items, bytes, OfCoding, encode, startOf, Readable, IsTable, Completable, LongestStart, InGlyph}
+use Rattle.table.specs.Meaning.{Desc, items, bytes, OfCoding, encode, startOf, Readable, IsTable, Completable, Unfinished, BadAt, InGlyph}
 use Rattle.table.specs.Reading.{endsIn, stepsFrom, checkSteps, tableOf}
 use Rattle.table.proofs.EndToEnd.{bytes-of-append, items-append, encode-append, of-append, of-left, start-before, readable-before}
 use Rattle.table.proofs.Reading.{items-bytes}
@@ -207,13 +207,13 @@ module _ (c : Coding) where
       glyph-told g (inl e) = cut-glyph g e
       glyph-told g (inr e) = bad-glyph g e
 
-      pub in-cut : (g : ℕ) → (k ≡ length s) × Completable c n s × (IsTable c n s → ⊥) → InGlyph c s k g → tableOf c n s ≡ TableCut k g
+      pub in-cut : (g : ℕ) → (k ≡ length s) × Unfinished c n s → InGlyph c s k g → tableOf c n s ≡ TableCut k g
       in-cut g f i =
           let r = short-cut c n s k y f in
           let q : k ≡ length s = f .0 in
           r .1 ∙ ap (TableCut k) (one-glyph k (r .0) g (omega arith) (cut-glyph (r .0) (r .1) .1) i)
 
-      pub in-bad : (g : ℕ) → LongestStart c n s k × (k < length s) × (IsTable c n (take k s) → ⊥) → InGlyph c s k g → tableOf c n s ≡ TableBad k g
+      pub in-bad : (g : ℕ) → BadAt c n s k → InGlyph c s k g → tableOf c n s ≡ TableBad k g
       in-bad g f i =
           let r = broken-bad c n s k y f in
           r .1 ∙ ap (TableBad k) (one-glyph k (r .0) g (f .0 .within) (bad-glyph (r .0) (r .1) .1) i)

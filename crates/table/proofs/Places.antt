@@ -14,7 +14,7 @@ use Rattle.coding.specs.declared.Coding.{Coding}
 use Rattle.table.specs.declared.Item.{Item}
 use Rattle.table.specs.declared.TableAnswer.{TableAnswer}
 use Rattle.table.specs.declared.TableAnswer.the-variants.{Complete, Cut as TableCut, Bad as TableBad, Trailing}
-use Rattle.table.specs.Meaning.{Desc, items, bytes, OfCoding, encode, Readable, IsTable, Completable, LongestStart}
+use Rattle.table.specs.Meaning.{Desc, items, bytes, OfCoding, encode, Readable, IsTable, Completable, LongestStart, Unfinished, BadAt, TrailingAt}
 use Rattle.table.specs.Reading.{endsIn, stepsFrom, checkSteps, tableOf, tablePlace}
 use Rattle.table.proofs.Accepts.{singles, Accepts, accepts-items, accepted-items}
 use Rattle.table.proofs.Answers.{walk, Read, More, Stops, Says, answer-told, atOver, passes, stops-before}
@@ -68,24 +68,13 @@ module _ (c : Coding) (n : ℕ) where
     pub complete-table : Bytes s → tableOf c n s ≡ Complete → IsTable c n s
     complete-table y e = is-table s (says y Complete e)
 
-    -- the tail could be completed, but is no table
-    abbrev pub Short : ℕ → Type 0
-    Short k = (k ≡ length s) × Completable c n s × (IsTable c n s → ⊥)
-
-    -- the longest completable start is shorter than the tail, and is no table, or is one
-    abbrev pub Broken : ℕ → Type 0
-    Broken k = LongestStart c n s k × (k < length s) × (IsTable c n (take k s) → ⊥)
-
-    abbrev pub Over : ℕ → Type 0
-    Over k = LongestStart c n s k × (k < length s) × IsTable c n (take k s)
-
     no-table : (a : TableAnswer) → tableOf c n s ≡ a → (a ≡ Complete → ⊥) → IsTable c n s → ⊥
     no-table a e f t = f (sym e ∙ table-complete s t)
 
-    pub cut-short : (k g : ℕ) → Bytes s → tableOf c n s ≡ TableCut k g → Short k
+    pub cut-short : (k g : ℕ) → Bytes s → tableOf c n s ≡ TableCut k g → (k ≡ length s) × Unfinished c n s
     cut-short k g y e =
         let r = says y (TableCut k g) e in
-        (omega (arith, r .0), is-completable s (r .1), no-table (TableCut k g) e (λ q. let z : _≡_ {A = ℕ} 0 1 = cc in absurd (omega arith)))
+        (omega (arith, r .0), (is-completable s (r .1), no-table (TableCut k g) e (λ q. let z : _≡_ {A = ℕ} 0 1 = cc in absurd (omega arith))))
 
     -- the first j bytes, with at least one more than k
     further : (k j : ℕ) (more : List ℕ) → k < j → take j s ++ more ≡ take (suc k) s ++ (drop (suc k) (take j s) ++ more)
@@ -116,12 +105,12 @@ module _ (c : Coding) (n : ℕ) where
         let e = ap (tableOf c n) (sym (take-append-drop k s)) ∙ table-over (take k s) (drop k s) t in
         e ∙ ap (λ (x : List ℕ). atOver c (length (take k s)) x) (drop-cons s k 0 h) ∙ ap Trailing (length-take-le k s (omega arith))
 
-    pub bad-broken : (k g : ℕ) → Bytes s → tableOf c n s ≡ TableBad k g → Broken k
+    pub bad-broken : (k g : ℕ) → Bytes s → tableOf c n s ≡ TableBad k g → BadAt c n s k
     bad-broken k g y e =
         let r = stops-longest (TableBad k g) (λ q. let z : _≡_ {A = ℕ} 0 1 = cc in absurd (omega arith)) (More c n singles) is-completable k (says y (TableBad k g) e) in
         (r .0, r .1, λ t. let q = sym e ∙ over-trailing k (r .1) t in let z : _≡_ {A = ℕ} 0 1 = cc in absurd (omega arith))
 
-    pub trailing-over : (k : ℕ) → Bytes s → tableOf c n s ≡ Trailing k → Over k
+    pub trailing-over : (k : ℕ) → Bytes s → tableOf c n s ≡ Trailing k → TrailingAt c n s k
     trailing-over k y e =
         let r = stops-longest (Trailing k) (λ q. let z : _≡_ {A = ℕ} 0 1 = cc in absurd (omega arith)) (Read c n singles) (λ t r. table-completable t (is-table t r)) k (says y (Trailing k) e) in
         (r .0, r .1, is-table (take k s) (r .2))
@@ -139,8 +128,8 @@ module _ (c : Coding) (n : ℕ) where
         go (inr x) (inr y) = omega arith
 
     -- each kind of tail has its own answer
-    pub short-cut : (k : ℕ) → Bytes s → Short k → (g : ℕ) × (tableOf c n s ≡ TableCut k g)
-    short-cut k y (q, t, f) = go (tableOf c n s) refl
+    pub short-cut : (k : ℕ) → Bytes s → (k ≡ length s) × Unfinished c n s → (g : ℕ) × (tableOf c n s ≡ TableCut k g)
+    short-cut k y (q, (t, f)) = go (tableOf c n s) refl
       where
         go : (a : TableAnswer) → tableOf c n s ≡ a → (g : ℕ) × (tableOf c n s ≡ TableCut k g)
         go Complete e = absurd (f (complete-table y e))
@@ -148,12 +137,12 @@ module _ (c : Coding) (n : ℕ) where
         go (TableBad j g) e = let r = bad-broken j g y e in absurd (longer j (r .0) (r .1) t)
         go (Trailing j) e = let r = trailing-over j y e in absurd (longer j (r .0) (r .1) t)
 
-    pub broken-bad : (k : ℕ) → Bytes s → Broken k → (g : ℕ) × (tableOf c n s ≡ TableBad k g)
+    pub broken-bad : (k : ℕ) → Bytes s → BadAt c n s k → (g : ℕ) × (tableOf c n s ≡ TableBad k g)
     broken-bad k y (l, h, f) = go (tableOf c n s) refl
       where
         go : (a : TableAnswer) → tableOf c n s ≡ a → (g : ℕ) × (tableOf c n s ≡ TableBad k g)
         go Complete e = absurd (longer k l h (table-completable s (complete-table y e)))
-        go (TableCut j g) e = absurd (longer k l h (cut-short j g y e .1))
+        go (TableCut j g) e = absurd (longer k l h (cut-short j g y e .1 .0))
         go (TableBad j g) e = (g, e ∙ ap (λ (x : ℕ). TableBad x g) (one-longest j k (bad-broken j g y e .0) l))
         go (Trailing j) e = let r = trailing-over j y e in absurd (f (subst (λ (x : ℕ). IsTable c n (take x s)) (one-longest j k (r .0) l) (r .2)))
 

@@ -95,6 +95,18 @@ pub record LongestStart (c : Coding) (n : ℕ) (s : List ℕ) (k : ℕ) : Type 0
   pub completable : Completable c n (take k s)
   pub longest : (j : ℕ) → k < j → j ≤ length s → Completable c n (take j s) → ⊥
 
+-- TABLE CUT: the tail could still be completed, and is not complete
+abbrev pub Unfinished : Coding → ℕ → List ℕ → Type 0
+Unfinished c n s = Completable c n s × (IsTable c n s → ⊥)
+
+-- TABLE BAD at k: the longest start that could still be completed is shorter than the tail, and is not complete
+abbrev pub BadAt : Coding → ℕ → List ℕ → ℕ → Type 0
+BadAt c n s k = LongestStart c n s k × (k < length s) × (IsTable c n (take k s) → ⊥)
+
+-- TRAILING at k: it is shorter than the tail, and complete
+abbrev pub TrailingAt : Coding → ℕ → List ℕ → ℕ → Type 0
+TrailingAt c n s k = LongestStart c n s k × (k < length s) × IsTable c n (take k s)
+
 -- up to place k the first g descriptions are complete, and not one more: the place stands in the description of glyph g
 pub record InGlyph (c : Coding) (s : List ℕ) (k g : ℕ) : Type 0 where
   pub start : ℕ

@@ -2,7 +2,7 @@
 // Each writer asks for room: the callers have measured.
 ghost use mathlib.Core.Path.{_≡_};
 ghost use mathlib.Core.List.{[], _∷_};
-ghost use Prim.Native.Nat.{ℕ, _≤_, _<_};
+ghost use Prim.Native.Nat.{_≤_, _<_};
 ghost use lib.ListN.{length};
 ghost use Rattle.base.specs.Reading.{over};
 ghost use Rattle.text.specs.Meaning.{numberText};
