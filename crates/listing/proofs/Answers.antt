@@ -21,7 +21,8 @@ use Rattle.stages.specs.Reading.{checkOf}
 use Rattle.listing.specs.declared.Listed.{Listed}
 use Rattle.listing.specs.declared.Listed.the-variants.{Wrote, Refused as Unlisted}
 use Rattle.listing.specs.Meaning.{firstLine, bigText}
-use Rattle.listing.specs.Reading.{tableText, linesText, fontText, answerText, listingOf, listedOf, leftOf}
+use Rattle.listing.specs.Reading.{linesText, fontText, answerText, listingOf, listedOf, leftOf}
+use Rattle.lines.specs.Reading.{tableText}
 
 -- what a call answers, and what it leaves where xs was
 abbrev pub Lists : List ℕ → List ℕ → Listed → List ℕ → Type 0

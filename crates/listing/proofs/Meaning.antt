@@ -15,12 +15,14 @@ use Rattle.stages.specs.Meaning.{codingOf, tailOf}
 use Rattle.stages.specs.Reading.{checkOf}
 use Rattle.base.specs.Reading.{over}
 use Rattle.listing.specs.declared.Listed.the-variants.{Wrote}
-use Rattle.listing.specs.Meaning.{firstLine, refusedText, bigText, glyphLines}
+use Rattle.listing.specs.Meaning.{firstLine, refusedText, bigText}
+use Rattle.lines.specs.Meaning.{glyphLines}
 use Rattle.text.specs.Meaning.{numberIn, NoLeadingZero}
 use Rattle.text.specs.Reading.{digitOf, digits, numeral}
-use Rattle.listing.specs.Reading.{linesOf, tableText, linesText, listingOf, listedOf, leftOf}
+use Rattle.listing.specs.Reading.{linesText, listingOf, listedOf, leftOf}
+use Rattle.lines.specs.Reading.{linesOf, tableText}
 use Rattle.text.proofs.Numerals.{numeral-back, numeral-leads}
-use Rattle.listing.proofs.Described.{lines-of}
+use Rattle.lines.proofs.Described.{lines-of}
 use Rattle.listing.proofs.Answers.{listing-big, listing-answer, font-text, lines-bare, wrote-inside, always-wrote}
 
 -- a sound font with a table: the first line, and then for each glyph of its reading, in order, the glyph's line

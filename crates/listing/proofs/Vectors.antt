@@ -13,7 +13,8 @@ use Rattle.stages.specs.Reading.{sized, entriesOf, tailed, throughBody, through
 use Rattle.listing.specs.Meaning.{firstLine}
 use Rattle.text.specs.Meaning.{numberText}
 use Rattle.text.specs.Reading.{digitOf, digits, numeral}
-use Rattle.listing.specs.Reading.{pieceOf, linesOf, tableText, linesText, fontText, listingOf}
+use Rattle.listing.specs.Reading.{linesText, fontText, listingOf}
+use Rattle.lines.specs.Reading.{pieceOf, linesOf, tableText}
 
 -- the header with header size 32, flags 1, n = 2, c = 2, height 2, width 3; bitmaps A0 40 E0 20; table 41 FF C3 85 FE 41 CC 8A FF
 abbrev pub small : List ℕ

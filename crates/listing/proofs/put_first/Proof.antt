@@ -7,7 +7,7 @@ use lib.ListN.{length}
 use borrow.Rule.Slice.PartMut.{putMid}
 use Rattle.text.proofs.Putting.{Stands, first-stands, behind-room, behind-stands}
 use Rattle.text.proofs.Digits.{number-21}
-use Rattle.listing.proofs.Pieces.{kind-7, word-6, first-line}
+use Rattle.listing.proofs.Words.{kind-7, word-6, first-line}
 use Rattle.listing.specs.Meaning.{kindText, tableWord}
 use Rattle.text.specs.Meaning.{numberText}
 use Rattle.header.specs.declared.Font.{Font}

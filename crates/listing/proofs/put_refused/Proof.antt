@@ -6,7 +6,7 @@ use Prim.Native.Nat.{ℕ}
 use lib.ListN.{length}
 use Rattle.text.proofs.Putting.{first-stands, behind-room, behind-stands}
 use Rattle.text.proofs.Digits.{number-21}
-use Rattle.listing.proofs.Pieces.{refused-text}
+use Rattle.listing.proofs.Words.{refused-text}
 use Rattle.text.specs.Meaning.{numberText}
 use Rattle.base.specs.Reading.{over}
 use borrow.Author.Needs.{needs}

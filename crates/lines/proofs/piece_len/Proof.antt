@@ -1,12 +1,12 @@
--- `listing::piece_len` meets its contract: the item's text, and the number in front of it where it is fresh. Assumes nothing.
+-- `lines::piece_len` meets its contract: the item's text, and the number in front of it where it is fresh. Assumes nothing.
 use native.Mathlib.Omega.{arith}
 use mathlib.Core.Path.{ap, sym, _∙_}
 use lib.ListN.{length}
 use Rattle.text.proofs.Digits.{decimal-5}
-use Rattle.listing.proofs.Pieces.{piece-fresh-length, piece-plain}
+use Rattle.lines.proofs.Pieces.{piece-fresh-length, piece-plain}
 use borrow.Author.Needs.{needs}
-use Rattle.listing.proofs.piece_len.Statement.{statement}
-use Rattle.listing.proofs.piece_len.Tie as tie
+use Rattle.lines.proofs.piece_len.Statement.{statement}
+use Rattle.lines.proofs.piece_len.Tie as tie
 
 item-len-requires : tie.Need-item-len-requires
 item-len-requires c κs = search needs

@@ -1,4 +1,4 @@
--- `listing::item_len` meets its contract: a byte, and the value's digits if it has one. Assumes nothing.
+-- `lines::item_len` meets its contract: a byte, and the value's digits if it has one. Assumes nothing.
 use native.Mathlib.Omega.{arith}
 use Prim.Native.Nat.{ℕ}
 use mathlib.Core.Path.{ap}
@@ -6,8 +6,8 @@ use lib.ListN.{length}
 use Rattle.text.specs.Reading.{numeral}
 use Rattle.text.proofs.Digits.{hexadecimal-8}
 use borrow.Author.Needs.{needs}
-use Rattle.listing.proofs.item_len.Statement.{statement}
-use Rattle.listing.proofs.item_len.Tie as tie
+use Rattle.lines.proofs.item_len.Statement.{statement}
+use Rattle.lines.proofs.item_len.Tie as tie
 
 enum-known-i : tie.Need-enum-known-i
 enum-known-i c = search needs

@@ -1,8 +1,8 @@
--- `listing::put_item` meets its contract: each item is a byte, or a byte and a value. Assumes nothing.
+-- `lines::put_item` meets its contract: each item is a byte, or a byte and a value. Assumes nothing.
 use native.Mathlib.Omega.{arith}
 use borrow.Author.Needs.{needs}
-use Rattle.listing.proofs.put_item.Statement.{statement}
-use Rattle.listing.proofs.put_item.Tie as tie
+use Rattle.lines.proofs.put_item.Statement.{statement}
+use Rattle.lines.proofs.put_item.Tie as tie
 
 enum-known-i : tie.Need-enum-known-i
 enum-known-i c = search needs

@@ -1,17 +1,17 @@
--- `listing::put_piece` meets its contract: the number stands in front, and the item behind it. Assumes nothing.
+-- `lines::put_piece` meets its contract: the number stands in front, and the item behind it. Assumes nothing.
 use Prim.Native.Nat.{ℕ}
 use native.Mathlib.Omega.{arith}
 use mathlib.Core.List.{List}
 use mathlib.Core.Path.{sym, _∙_, ap}
 use lib.ListN.{length}
 use Rattle.text.proofs.Putting.{first-stands, behind-room, behind-stands}
-use Rattle.listing.proofs.Pieces.{piece-fresh, piece-fresh-length, piece-plain}
+use Rattle.lines.proofs.Pieces.{piece-fresh, piece-fresh-length, piece-plain}
 use Rattle.text.specs.Reading.{numeral}
-use Rattle.listing.specs.Reading.{itemText}
+use Rattle.lines.specs.Reading.{itemText}
 use Rattle.base.specs.Reading.{over}
 use borrow.Author.Needs.{needs}
-use Rattle.listing.proofs.put_piece.Statement.{statement}
-use Rattle.listing.proofs.put_piece.Tie as tie
+use Rattle.lines.proofs.put_piece.Statement.{statement}
+use Rattle.lines.proofs.put_piece.Tie as tie
 
 put-numeral-requires : tie.Need-put-numeral-requires
 put-numeral-requires c κs = let e = piece-fresh-length (c .before .before .before .args .fresh) (c .before .before .before .args .g) (c .before .before .before .args .i) (c .before .if1 .taken) in (omega arith, omega arith, omega arith)

@@ -6,9 +6,9 @@ use Prim.Native.Nat.{ℕ, _+_}
 use Rattle.table.specs.declared.Item.{Item}
 use Rattle.table.specs.declared.Item.the-variants.{Single, Start, Value, End}
 use Rattle.table.specs.Meaning.{Seq, Desc, each, seqs, described, items}
-use Rattle.listing.specs.Meaning.{singlesText, valuesText, sequencesText, glyphLine, glyphLines}
+use Rattle.lines.specs.Meaning.{singlesText, valuesText, sequencesText, glyphLine, glyphLines}
 use Rattle.text.specs.Reading.{numeral}
-use Rattle.listing.specs.Reading.{itemText, pieceOf, linesOf}
+use Rattle.lines.specs.Reading.{itemText, pieceOf, linesOf}
 
 module _ (g : ℕ) where
   -- the number stands in front of the first item

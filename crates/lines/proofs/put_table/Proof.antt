@@ -1,14 +1,14 @@
--- `listing::put_table` meets its contract: at each turn the lines written so far stand in front, and those from the place on are left. Assumes nothing.
+-- `lines::put_table` meets its contract: at each turn the lines written so far stand in front, and those from the place on are left. Assumes nothing.
 use Rattle.text.proofs.Putting.{Written, written-none, written-all}
-use Rattle.listing.proofs.Pieces.{value-within, value-room, value-next, start-within, start-room, start-next, end-within, end-room, end-next, on-cut, on-bad, on-past, on-all}
+use Rattle.lines.proofs.Pieces.{value-within, value-room, value-next, start-within, start-room, start-next, end-within, end-room, end-next, on-cut, on-bad, on-past, on-all}
 use borrow.Author.Needs.{needs}
 use native.Mathlib.Omega.{arith}
 use Prim.Native.Nat.{_-_, _≤_}
 use lib.ListN.{length}
-use Rattle.listing.specs.Reading.{linesOf, tableText}
+use Rattle.lines.specs.Reading.{linesOf, tableText}
 use Rattle.table.specs.Reading.{stepsAt, stepItems}
-use Rattle.listing.proofs.put_table.Statement.{statement}
-use Rattle.listing.proofs.put_table.Tie as tie
+use Rattle.lines.proofs.put_table.Statement.{statement}
+use Rattle.lines.proofs.put_table.Tie as tie
 
 abbrev Inv-loop : tie.InvT-loop
 Inv-loop c tail out₀ g₀ fresh₀ inside₀ n₀ at₀ out g fresh inside n at = (at ≤ length tail) × (g ≤ at) × Written (tableText c tail) out₀ out n (linesOf g fresh (stepItems inside (stepsAt c tail at)))

@@ -1,14 +1,14 @@
--- `listing::table_len` meets its contract: the bytes counted and those of the lines from the place on are all lines. Assumes nothing.
-use Rattle.listing.proofs.Pieces.{value-length, start-length, end-length, on-cut, on-bad, on-past, on-all, length-none}
+-- `lines::table_len` meets its contract: the bytes counted and those of the lines from the place on are all lines. Assumes nothing.
+use Rattle.lines.proofs.Pieces.{value-length, start-length, end-length, on-cut, on-bad, on-past, on-all, length-none}
 use borrow.Author.Needs.{needs}
 use native.Mathlib.Omega.{arith}
 use mathlib.Core.Path.{_≡_, ap}
 use Prim.Native.Nat.{_+_, _-_, _*_, _≤_}
 use lib.ListN.{length}
-use Rattle.listing.specs.Reading.{linesOf, tableText}
+use Rattle.lines.specs.Reading.{linesOf, tableText}
 use Rattle.table.specs.Reading.{stepsAt, stepItems}
-use Rattle.listing.proofs.table_len.Statement.{statement}
-use Rattle.listing.proofs.table_len.Tie as tie
+use Rattle.lines.proofs.table_len.Statement.{statement}
+use Rattle.lines.proofs.table_len.Tie as tie
 
 abbrev Inv-loop : tie.InvT-loop
 Inv-loop c tail g₀ fresh₀ inside₀ n₀ at₀ g fresh inside n at = (at ≤ length tail) × (length tail ≤ 65536) × (g ≤ at) × (n ≤ 14 * at) × (n + length (linesOf g fresh (stepItems inside (stepsAt c tail at))) ≡ length (tableText c tail))

@@ -1,0 +1,3 @@
+-- The laws of the lines.
+pub mod Pieces
+pub mod Described

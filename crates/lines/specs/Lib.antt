@@ -1,0 +1,3 @@
+-- The lines of glyphs.
+pub mod Meaning
+pub mod Reading
