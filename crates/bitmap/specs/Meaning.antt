@@ -1,5 +1,6 @@
 -- A glyph's bitmap and metrics: where it stands, how large it is, its pixels (document 01; source documents 000 and 004).
 use Prim.Native.Nat.{ℕ, _+_, _-_, _*_, _/_, _%_, _^_}
+use mathlib.Core.Path.{_≡_}
 use mathlib.Core.List.{List}
 use lib.IntN.{pos}
 use lib.ListN.{getD}
@@ -8,7 +9,7 @@ use Rattle.kinds.specs.declared.Kind.the-variants.{Psf1, Psf2, Vfont2}
 use Rattle.header.specs.declared.Font.{Font}
 use Rattle.header.specs.Meaning.{rowBytes}
 use Rattle.entries.specs.declared.Metrics.{Metrics}
-use Rattle.entries.specs.Meaning.{entryAt, addressAt, sizeAt, metricsAt, rowsAt, colsAt}
+use Rattle.entries.specs.Meaning.{entryAt, addressAt, sizeAt, metricsAt, rowsAt, colsAt, HasGlyph}
 use Rattle.bitmap.specs.declared.Bitmap as B
 
 -- glyph g of a font whose bitmaps have one size: "The bitmap for a glyph is stored as height consecutive pixel rows"
@@ -22,6 +23,10 @@ entryBitmap s f at = record { start = f .bitmaps + addressAt s at; len = sizeAt 
 -- "(height, 0, 0, width, width)"
 abbrev pub evenMetrics : ℕ → ℕ → Metrics
 evenMetrics h w = record { up = pos h; down = pos 0; left = pos 0; right = pos w; logical = pos w }
+
+-- an entry that has a glyph which fills a height and a width: its five metrics are "(height, 0, 0, width, width)"
+abbrev pub EvenGlyph : List ℕ → ℕ → ℕ → ℕ → Type 0
+EvenGlyph s h w at = HasGlyph s at × (metricsAt s at ≡ evenMetrics h w)
 
 -- a glyph's five metrics: those of its entry; in PSF1 and PSF2, where a glyph fills its height and width, (height, 0, 0, width, width)
 abbrev pub kindMetrics : List ℕ → Font → ℕ → Kind → Metrics

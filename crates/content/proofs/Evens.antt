@@ -8,13 +8,12 @@ use lib.IntN.{pos, negsuc}
 use Rattle.base.specs.Meaning.{le16, Bytes}
 use Rattle.base.proofs.Parts.{byte-at}
 use Rattle.base.proofs.Tests.{below}
-use Rattle.content.specs.Meaning.{EvenGlyph}
+use Rattle.bitmap.specs.Meaning.{EvenGlyph, evenMetrics}
 use Rattle.header.specs.Meaning.{rowBytes, glyphBytes}
 use Rattle.entries.specs.declared.Metrics.{Metrics}
 use Rattle.entries.specs.Meaning.{addressAt, sizeAt, signed16, metricsAt, rowsAt, colsAt, Breaks}
 use Rattle.entries.proofs.Sums.{low, high}
 use Rattle.entries.proofs.Meaning.{keeps-rules}
-use Rattle.bitmap.specs.Meaning.{evenMetrics}
 
 -- two bytes are below 65536
 le16-small : (s : List ℕ) → Bytes s → (i : ℕ) → le16 s i < 65536

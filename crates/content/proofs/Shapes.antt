@@ -11,8 +11,8 @@ use Rattle.kinds.specs.declared.Kind.the-variants.{Psf1, Psf2, Vfont2}
 use Rattle.header.specs.declared.Font.{Font}
 use Rattle.header.specs.Meaning.{glyphBytes}
 use Rattle.entries.specs.Meaning.{entryAt}
-use Rattle.bitmap.specs.Meaning.{evenMetrics, kindMetrics}
-use Rattle.content.specs.Meaning.{bitmapIn, NoGlyph, EvenGlyph}
+use Rattle.bitmap.specs.Meaning.{evenMetrics, kindMetrics, EvenGlyph}
+use Rattle.content.specs.Meaning.{bitmapIn, NoGlyph}
 
 -- what PSF1 asks besides: "256 glyphs, or 512", "Width 8"
 abbrev pub KindShape : Kind → ℕ → ℕ → Type 0

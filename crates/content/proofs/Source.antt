@@ -25,7 +25,7 @@ use Rattle.layout.specs.Reading.{kindGlyphs, glyphsIn}
 use Rattle.stages.specs.Reading.{checkOf}
 use Rattle.stages.proofs.Cases.{accepted, passed-entries, passed-body, placed, scan-right}
 use Rattle.content.proofs.Stretches.{part-of-take, nth-within}
-use Rattle.content.specs.Meaning.{EvenGlyph}
+use Rattle.bitmap.specs.Meaning.{EvenGlyph}
 use Rattle.content.proofs.Evens.{EvenFields, metrics-even, even-rows, even-cols, even-size, even-some}
 use Rattle.content.proofs.Gathered.{startAt, gathered-length, nth-gathered, gathered-bytes}
 use Rattle.content.proofs.Shapes.{Shape, GlyphIs, AllEven}

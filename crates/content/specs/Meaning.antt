@@ -13,9 +13,9 @@ use Rattle.kinds.specs.declared.Kind.the-variants.{Psf1, Psf2, Vfont2}
 use Rattle.header.specs.declared.Font.{Font}
 use Rattle.header.specs.declared.Checked.the-variants.{Sound}
 use Rattle.entries.specs.declared.Metrics.{Metrics}
-use Rattle.entries.specs.Meaning.{entryAt, sizeAt, metricsAt, HasGlyph}
+use Rattle.entries.specs.Meaning.{entryAt, sizeAt}
 use Rattle.bitmap.specs.declared.Bitmap.{Bitmap}
-use Rattle.bitmap.specs.Meaning.{evenBitmap, entryBitmap, evenMetrics, kindMetrics, pixelIn}
+use Rattle.bitmap.specs.Meaning.{evenBitmap, entryBitmap, kindMetrics, pixelIn}
 use Rattle.stages.specs.Meaning.{codingOf, tailOf}
 use Rattle.stages.specs.Reading.{checkOf}
 
@@ -66,10 +66,6 @@ pub record HasContent (s : List ℕ) (m : Content) : Type 0 where
   pub table : font .table ≡ m .table
   pub glyphs : (g : ℕ) → g < m .count → Draws s font g (m .glyph g)
   pub described : Describes s font (m .table) (m .descriptions)
-
--- an entry that has a glyph which fills a height and a width: its five metrics are "(height, 0, 0, width, width)"
-abbrev pub EvenGlyph : List ℕ → ℕ → ℕ → ℕ → Type 0
-EvenGlyph s h w at = HasGlyph s at × (metricsAt s at ≡ evenMetrics h w)
 
 -- a header with no extra bytes: PSF1's mode says no more than the count and the table, the others' headers end behind their fields
 abbrev pub Plain : List ℕ → Kind → Type 0

@@ -8,7 +8,7 @@ use Rattle.header.specs.declared.Font.{Font}
 use Rattle.header.specs.Meaning.{charSize}
 use Rattle.kinds.specs.Meaning.{headerLen, entryLen}
 use Rattle.entries.specs.Meaning.{entryAt}
-use Rattle.content.specs.Meaning.{EvenGlyph}
+use Rattle.bitmap.specs.Meaning.{EvenGlyph}
 use Rattle.conversion.specs.declared.Conversion.{Conversion}
 use Rattle.conversion.specs.declared.Conversion.the-variants.{Psf1ToPsf2, Psf2ToPsf1, Psf2ToVfont2, Vfont2ToPsf2}
 

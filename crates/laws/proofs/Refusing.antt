@@ -44,7 +44,7 @@ use Rattle.conversion.specs.declared.Suits.the-variants.{Yes, Refused as Unsuit
 use Rattle.conversion.specs.declared.Prepared.{Prepared}
 use Rattle.conversion.specs.declared.Prepared.the-variants.{Refused as Unprepared}
 use Rattle.conversion.specs.Meaning.{sourceKind, targetKind, FirstUneven}
-use Rattle.content.specs.Meaning.{EvenGlyph}
+use Rattle.bitmap.specs.Meaning.{EvenGlyph}
 use Rattle.conversion.specs.Reading.{sameKind, isPsf1Count, suitsPsf1, isEven, evenness, evenSuits, suitsOf, measuredOf, fitting, measuredThen, preparedOn, preparedOf}
 use Rattle.conversion.proofs.Cases.{kind-same, right-kind, wrong-kind, not-opened, count-256, count-512, count-wrong, width-other, width-eight, last-logical, uneven-within, measured-is, suits-is, too-large, fits, suited, unsuited, opened-as}
 use Rattle.conversion.proofs.Ready.{even-fields}
