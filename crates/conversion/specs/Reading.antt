@@ -1,5 +1,5 @@
 -- What comes before the first byte of a conversion is written (rows 17 to 20): the font's own refusal, WRONG KIND, GLYPHS, VALUE, SIZE, in
--- this order; or the font and how long the output is.
+-- this order; or the font and how long the output is. And the output.
 use Prim.Native.Nat.{ℕ, zero, suc, _+_}
 use mathlib.Core.List.{List}
 use mathlib.Core.Bool.{Bool, true, false, not}

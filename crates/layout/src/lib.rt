@@ -1,4 +1,4 @@
-// Inner layer: writers for the parts of a font, each to the front of the part that it is lent. Definitions: specs/Meaning.antt. Each asks
+// Inner layer: writers for the parts of a font, each to the front of the part that it is lent. Definitions: specs/Reading.antt. Each asks
 // for room, and for numbers that its bytes can hold: the callers work out the size from a checked font.
 use header::Font;
 use kinds::Kind;

@@ -1,4 +1,4 @@
--- The program's lines (document 01): the first line, a line for each glyph, a refusal's line; numbers as text.
+-- The program's words and lines (document 01): the first line, a refusal's line. The lines of glyphs: crates/lines; numbers: crates/text.
 use Prim.Native.Nat.{ℕ, _+_}
 use mathlib.Core.List.{List, [], _∷_, _++_}
 use Rattle.text.specs.Meaning.{numberText}

@@ -1,4 +1,4 @@
--- The listing of a file, piece by piece over the items of its table, and what a call leaves in a buffer.
+-- The listing of a file, and what a call leaves in a buffer.
 use Prim.Native.Nat.{ℕ, _+_}
 use mathlib.Core.List.{List, [], _++_}
 use lib.Dec.{ltb}
