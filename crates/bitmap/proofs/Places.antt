@@ -17,8 +17,8 @@ use Rattle.entries.specs.Reading.{entryOf}
 use Rattle.entries.specs.declared.Entry.{Entry}
 use Rattle.entries.specs.declared.Entry.the-variants.{Empty, Glyph, Broken}
 use Rattle.entries.proofs.Inverse.{keeps}
-use Rattle.kinds.specs.declared.Kind.{Kind}
-use Rattle.kinds.specs.declared.Kind.the-variants.{Psf1, Psf2, Vfont2}
+use Rattle.header.specs.declared.Kind.{Kind}
+use Rattle.header.specs.declared.Kind.the-variants.{Psf1, Psf2, Vfont2}
 use Rattle.header.specs.declared.Font.{Font}
 use Rattle.header.specs.Bounds.{Placed, KindPlaced, Even, Dispatched}
 use Rattle.bitmap.specs.declared.Bitmap.{Bitmap}

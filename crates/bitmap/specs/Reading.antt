@@ -10,8 +10,8 @@ use Rattle.entries.specs.Meaning.{entryAt, addressAt, sizeAt}
 use Rattle.entries.specs.Reading.{entryOf}
 use Rattle.entries.specs.declared.Entry.{Entry}
 use Rattle.entries.specs.declared.Entry.the-variants.{Empty, Glyph, Broken}
-use Rattle.kinds.specs.declared.Kind.{Kind}
-use Rattle.kinds.specs.declared.Kind.the-variants.{Psf1, Psf2, Vfont2}
+use Rattle.header.specs.declared.Kind.{Kind}
+use Rattle.header.specs.declared.Kind.the-variants.{Psf1, Psf2, Vfont2}
 use Rattle.header.specs.declared.Font.{Font}
 use Rattle.header.specs.Meaning.{rowBytes}
 use Rattle.bitmap.specs.declared.Located.{Located}

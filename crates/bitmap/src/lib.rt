@@ -4,10 +4,10 @@
 use entries::Entry;
 use entries::Metrics;
 use header::Font;
-use kinds::Kind;
-use kinds::Vfont2;
+use header::Kind;
 use refusal::Reason;
 use refusal::Refusal;
+use vfont2::Vfont2;
 ghost use mathlib.Core.Path.{_≡_};
 ghost use Prim.Native.Nat.{_+_, _*_, _≤_, _<_};
 ghost use lib.ListN.{length};

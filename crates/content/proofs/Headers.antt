@@ -14,20 +14,18 @@ use Rattle.base.specs.Meaning.{Bytes, Begins, le32}
 use Rattle.base.proofs.Numbers.{le32-bytes}
 use Rattle.base.proofs.Parts.{byte-at}
 use Rattle.base.proofs.Lists.{same4}
-use Rattle.kinds.specs.declared.Kind.{Kind}
-use Rattle.kinds.specs.declared.Kind.the-variants.{Psf1, Psf2, Vfont2}
+use Rattle.header.specs.declared.Kind.{Kind}
+use Rattle.header.specs.declared.Kind.the-variants.{Psf1, Psf2, Vfont2}
 use Rattle.header.specs.declared.Named.the-variants.{Is}
 use Rattle.header.specs.declared.Fields.{Fields}
 use Rattle.header.specs.declared.Font.{Font}
 use Rattle.header.specs.declared.Head.the-variants.{Read}
 use Rattle.header.specs.declared.Checked.the-variants.{Sound}
-use Rattle.header.specs.Meaning.{glyphBytes, psf1Font, psf2Font, vfont2Font}
-use Rattle.kinds.specs.Meaning.{magicOf, headerLen, psf1Count, psf1Table}
-use Rattle.header.specs.Reading.{kindOf, headOf, psf2Shaped, vfont2Shaped, onFields, saysOf}
-use Rattle.kinds.specs.Reading.{fields, flagsOf, modeOf, fixedFields, headerBytes}
+use Rattle.header.specs.Meaning.{glyphBytes, psf1Font, psf2Font, vfont2Font, magicOf, headerLen, psf1Count, psf1Table}
+use Rattle.header.specs.Reading.{kindOf, headOf, psf2Shaped, vfont2Shaped, onFields, saysOf, fields, flagsOf, modeOf, fixedFields, headerBytes}
 use Rattle.header.proofs.Cases.{psf1-read, head-read, psf2-sound, vfont2-sound, named-as}
 use Rattle.header.proofs.Known.{source}
-use Rattle.kinds.proofs.Written.{header-length}
+use Rattle.header.proofs.Written.{header-length}
 use Rattle.content.specs.Meaning.{Plain}
 use Rattle.content.proofs.Magic.{magic-begins}
 

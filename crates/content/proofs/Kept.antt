@@ -6,11 +6,10 @@ use native.Mathlib.Omega.{arith}
 use lib.ListN.{length, take, drop}
 use Rattle.base.specs.Meaning.{Bytes}
 use Rattle.table.specs.Meaning.{Desc, encode, Readable}
-use Rattle.kinds.specs.declared.Kind.{Kind}
+use Rattle.header.specs.declared.Kind.{Kind}
 use Rattle.header.specs.declared.Font.{Font}
 use Rattle.header.specs.declared.Checked.the-variants.{Sound}
-use Rattle.header.specs.Meaning.{limit, glyphBytes, charSize}
-use Rattle.kinds.specs.Meaning.{headerLen, entryLen}
+use Rattle.header.specs.Meaning.{limit, glyphBytes, charSize, headerLen, entryLen}
 use Rattle.layout.specs.Reading.{evenly, fieldAt20, fontBytes, glyphsIn}
 use Rattle.layout.proofs.Parts.{evenly-length}
 use Rattle.stages.specs.Meaning.{codingOf, tailOf}

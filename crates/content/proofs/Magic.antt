@@ -7,11 +7,11 @@ use native.Mathlib.Omega.{arith}
 use Rattle.base.specs.Meaning.{Begins}
 use Rattle.base.specs.Reading.{startsWith}
 use Rattle.base.proofs.Begins.{begins-exactly}
-use Rattle.kinds.specs.declared.Kind.{Kind}
-use Rattle.kinds.specs.declared.Kind.the-variants.{Psf1, Psf2, Vfont2}
+use Rattle.header.specs.declared.Kind.{Kind}
+use Rattle.header.specs.declared.Kind.the-variants.{Psf1, Psf2, Vfont2}
 use Rattle.header.specs.declared.Named.{Named}
 use Rattle.header.specs.declared.Named.the-variants.{Is, Unknown}
-use Rattle.kinds.specs.Meaning.{magicOf}
+use Rattle.header.specs.Meaning.{magicOf}
 use Rattle.header.specs.Reading.{kindOf}
 use Rattle.header.proofs.Cases.{is-psf1, is-psf2, is-vfont2, no-kind}
 

@@ -7,10 +7,10 @@ use lib.Dec.{eqb}
 use Rattle.base.specs.Meaning.{pick, Bytes}
 use Rattle.base.specs.Reading.{bytes16, bytes32}
 use Rattle.base.proofs.Parts.{bytes-append}
-use Rattle.kinds.specs.declared.Kind.{Kind}
-use Rattle.kinds.specs.declared.Kind.the-variants.{Psf1, Psf2, Vfont2}
-use Rattle.kinds.specs.Meaning.{magicOf}
-use Rattle.kinds.specs.Reading.{fields, flagsOf, modeOf, fixedFields, headerBytes}
+use Rattle.header.specs.declared.Kind.{Kind}
+use Rattle.header.specs.declared.Kind.the-variants.{Psf1, Psf2, Vfont2}
+use Rattle.header.specs.Meaning.{magicOf}
+use Rattle.header.specs.Reading.{fields, flagsOf, modeOf, fixedFields, headerBytes}
 use Rattle.layout.specs.Reading.{metricsBytes, entryBytes, entriesAt, dispatchBytes, fieldAt20, fontBytes}
 
 low : (v : ℕ) → v % 256 < 256

@@ -7,13 +7,12 @@ use native.Mathlib.Omega.{arith}
 use lib.ListN.{take, drop, take-append-drop}
 use lib.Seq.{drop-drop}
 use Rattle.base.specs.Meaning.{Bytes}
-use Rattle.kinds.specs.declared.Kind.{Kind}
-use Rattle.kinds.specs.declared.Kind.the-variants.{Psf1, Psf2, Vfont2}
+use Rattle.header.specs.declared.Kind.{Kind}
+use Rattle.header.specs.declared.Kind.the-variants.{Psf1, Psf2, Vfont2}
 use Rattle.header.specs.declared.Font.{Font}
 use Rattle.header.specs.declared.Checked.the-variants.{Sound}
-use Rattle.header.specs.Meaning.{charSize}
-use Rattle.kinds.specs.Meaning.{headerLen}
-use Rattle.kinds.specs.Reading.{headerBytes}
+use Rattle.header.specs.Meaning.{charSize, headerLen}
+use Rattle.header.specs.Reading.{headerBytes}
 use Rattle.header.specs.Bounds.{Even}
 use Rattle.header.proofs.Known.{source}
 use Rattle.layout.specs.Reading.{fontBytes, kindGlyphs, glyphsIn}

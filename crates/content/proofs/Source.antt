@@ -10,12 +10,11 @@ use lib.ListN.{length, getD, take, drop, length-drop}
 use lib.Seq.{drop-drop, length-take-le}
 use Rattle.base.specs.Meaning.{pick, Bytes}
 use Rattle.base.proofs.Parts.{byte-at, bytes-drop, bytes-take}
-use Rattle.kinds.specs.declared.Kind.{Kind}
-use Rattle.kinds.specs.declared.Kind.the-variants.{Psf1, Psf2, Vfont2}
+use Rattle.header.specs.declared.Kind.{Kind}
+use Rattle.header.specs.declared.Kind.the-variants.{Psf1, Psf2, Vfont2}
 use Rattle.header.specs.declared.Font.{Font}
 use Rattle.header.specs.declared.Checked.the-variants.{Sound}
-use Rattle.header.specs.Meaning.{charSize}
-use Rattle.kinds.specs.Meaning.{psf1Count}
+use Rattle.header.specs.Meaning.{charSize, psf1Count}
 use Rattle.header.specs.Bounds.{Placed, KindPlaced, Even, Dispatched}
 use Rattle.header.specs.Reading.{saysOf}
 use Rattle.header.proofs.Known.{source}

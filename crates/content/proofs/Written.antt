@@ -7,16 +7,14 @@ use native.Mathlib.Omega.{arith}
 use lib.ListN.{length, getD, take, drop, length-append}
 use lib.Seq.{drop-at, take-all}
 use Rattle.base.specs.Meaning.{Bytes}
-use Rattle.kinds.specs.declared.Kind.{Kind}
-use Rattle.kinds.specs.declared.Kind.the-variants.{Psf1, Psf2, Vfont2}
+use Rattle.header.specs.declared.Kind.{Kind}
+use Rattle.header.specs.declared.Kind.the-variants.{Psf1, Psf2, Vfont2}
 use Rattle.header.specs.declared.Font.{Font}
 use Rattle.header.specs.declared.Checked.the-variants.{Sound}
-use Rattle.header.specs.Meaning.{limit, glyphBytes}
-use Rattle.kinds.specs.Meaning.{headerLen, entryLen}
-use Rattle.header.specs.Reading.{saysOf}
-use Rattle.kinds.specs.Reading.{headerBytes}
+use Rattle.header.specs.Meaning.{limit, glyphBytes, headerLen, entryLen}
+use Rattle.header.specs.Reading.{saysOf, headerBytes}
 use Rattle.header.proofs.Known.{eight}
-use Rattle.kinds.proofs.Written.{header-length}
+use Rattle.header.proofs.Written.{header-length}
 use Rattle.entries.specs.declared.Entry.the-variants.{Glyph}
 use Rattle.entries.specs.Meaning.{entryAt, addressAt, sizeAt}
 use Rattle.entries.specs.Reading.{entryOf, scanOf}

@@ -18,13 +18,12 @@ use Rattle.coding.specs.declared.Coding.the-variants.{Utf8, Ucs2}
 use Rattle.transcode.specs.Reading.{tableLen}
 use Rattle.transcode.specs.declared.Measured.{Measured}
 use Rattle.transcode.specs.declared.Measured.the-variants.{Length}
-use Rattle.kinds.specs.declared.Kind.{Kind}
-use Rattle.kinds.specs.declared.Kind.the-variants.{Psf1, Psf2, Vfont2}
+use Rattle.header.specs.declared.Kind.{Kind}
+use Rattle.header.specs.declared.Kind.the-variants.{Psf1, Psf2, Vfont2}
 use Rattle.header.specs.declared.Font.{Font}
 use Rattle.header.specs.declared.Checked.{Checked}
 use Rattle.header.specs.declared.Checked.the-variants.{Sound, Refused}
-use Rattle.header.specs.Meaning.{limit, charSize}
-use Rattle.kinds.specs.Meaning.{headerLen, entryLen}
+use Rattle.header.specs.Meaning.{limit, charSize, headerLen, entryLen}
 use Rattle.entries.specs.Meaning.{entryAt, sizeAt}
 use Rattle.stages.specs.Meaning.{tailOf}
 use Rattle.stages.specs.Reading.{checkOf}

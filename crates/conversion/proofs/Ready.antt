@@ -15,7 +15,7 @@ use Rattle.refusal.specs.declared.Refusal.{Refusal}
 use Rattle.refusal.specs.declared.Reason.the-variants.{WrongKind, Size}
 use Rattle.transcode.specs.declared.Measured.{Measured}
 use Rattle.transcode.specs.declared.Measured.the-variants.{Length, Uncarried}
-use Rattle.kinds.specs.declared.Kind.{Kind}
+use Rattle.header.specs.declared.Kind.{Kind}
 use Rattle.header.specs.declared.Font.{Font}
 use Rattle.header.specs.declared.Checked.{Checked}
 use Rattle.header.specs.declared.Checked.the-variants.{Sound, Refused}

@@ -2,11 +2,10 @@
 -- can carry.
 use Prim.Native.Nat.{ℕ, _+_, _*_, _<_}
 use mathlib.Core.List.{List}
-use Rattle.kinds.specs.declared.Kind.{Kind}
-use Rattle.kinds.specs.declared.Kind.the-variants.{Psf1, Psf2, Vfont2}
+use Rattle.header.specs.declared.Kind.{Kind}
+use Rattle.header.specs.declared.Kind.the-variants.{Psf1, Psf2, Vfont2}
 use Rattle.header.specs.declared.Font.{Font}
-use Rattle.header.specs.Meaning.{charSize}
-use Rattle.kinds.specs.Meaning.{headerLen, entryLen}
+use Rattle.header.specs.Meaning.{charSize, headerLen, entryLen}
 use Rattle.entries.specs.Meaning.{entryAt}
 use Rattle.bitmap.specs.Meaning.{EvenGlyph}
 use Rattle.conversion.specs.declared.Conversion.{Conversion}

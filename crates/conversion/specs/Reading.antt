@@ -13,8 +13,8 @@ use Rattle.coding.specs.declared.Coding.the-variants.{Utf8, Ucs2}
 use Rattle.transcode.specs.declared.Measured.{Measured}
 use Rattle.transcode.specs.declared.Measured.the-variants.{Length, Uncarried}
 use Rattle.transcode.specs.Reading.{tableLen, recoded}
-use Rattle.kinds.specs.declared.Kind.{Kind}
-use Rattle.kinds.specs.declared.Kind.the-variants.{Psf1, Psf2, Vfont2}
+use Rattle.header.specs.declared.Kind.{Kind}
+use Rattle.header.specs.declared.Kind.the-variants.{Psf1, Psf2, Vfont2}
 use Rattle.header.specs.declared.Font.{Font}
 use Rattle.header.specs.declared.Checked.{Checked}
 use Rattle.header.specs.declared.Checked.the-variants.{Sound, Refused}

@@ -8,7 +8,7 @@ use Rattle.base.specs.Meaning.{Bytes}
 use Rattle.coding.specs.declared.Coding.the-variants.{Utf8, Ucs2}
 use Rattle.transcode.specs.declared.Measured.the-variants.{Length}
 use Rattle.transcode.proofs.Measuring.{length-recoded}
-use Rattle.kinds.specs.declared.Kind.the-variants.{Vfont2}
+use Rattle.header.specs.declared.Kind.the-variants.{Vfont2}
 use Rattle.header.specs.declared.Font.{Font}
 use Rattle.header.specs.Bounds.{Placed}
 use Rattle.entries.specs.Meaning.{entryAt, addressAt}

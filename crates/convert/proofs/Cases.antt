@@ -11,13 +11,12 @@ use Rattle.base.proofs.Parts.{rest-all}
 use Rattle.refusal.specs.Meaning.{refusal}
 use Rattle.refusal.specs.declared.Refusal.{Refusal}
 use Rattle.refusal.specs.declared.Reason.the-variants.{Room}
-use Rattle.kinds.specs.declared.Kind.{Kind}
-use Rattle.kinds.specs.declared.Kind.the-variants.{Psf1, Psf2, Vfont2}
+use Rattle.header.specs.declared.Kind.{Kind}
+use Rattle.header.specs.declared.Kind.the-variants.{Psf1, Psf2, Vfont2}
 use Rattle.header.specs.declared.Font.{Font}
-use Rattle.header.specs.Meaning.{charSize}
-use Rattle.kinds.specs.Meaning.{headerLen, entryLen}
-use Rattle.kinds.specs.Reading.{headerBytes}
-use Rattle.kinds.proofs.Written.{header-length}
+use Rattle.header.specs.Meaning.{charSize, headerLen, entryLen}
+use Rattle.header.specs.Reading.{headerBytes}
+use Rattle.header.proofs.Written.{header-length}
 use Rattle.layout.specs.Reading.{dispatchBytes, fieldAt20, fontBytes, glyphsIn, evenly}
 use Rattle.layout.proofs.Parts.{dispatch-length, evenly-length}
 use Rattle.stages.specs.Meaning.{tailOf}

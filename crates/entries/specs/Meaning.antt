@@ -7,9 +7,8 @@ use mathlib.Core.List.{List}
 use lib.Dec.{ltb}
 use lib.IntN.{ℤ, pos, negsuc, _+ℤ_, _-ℤ_}
 use Rattle.base.specs.Meaning.{pick, le16, le32}
-use Rattle.kinds.specs.declared.Kind.the-variants.{Vfont2}
-use Rattle.header.specs.Meaning.{rowBytes}
-use Rattle.kinds.specs.Meaning.{entryLen}
+use Rattle.header.specs.declared.Kind.the-variants.{Vfont2}
+use Rattle.header.specs.Meaning.{rowBytes, entryLen}
 use Rattle.entries.specs.declared.Metrics.{Metrics}
 
 -- where entry i of a table that begins at an offset stands

@@ -1,6 +1,6 @@
 // Inner layer: the dispatch table of a vfont2 file. Definitions: specs/Meaning.antt (the format and its rules), specs/Reading.antt (what
 // an entry, and all entries, say).
-use kinds::Vfont2;
+use vfont2::Vfont2;
 ghost use mathlib.Core.Path.{_≡_};
 ghost use Prim.Native.Nat.{_+_, _≤_, _<_};
 ghost use lib.ListN.{length};

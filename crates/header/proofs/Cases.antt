@@ -10,10 +10,9 @@ use Rattle.base.specs.Meaning.{le32}
 use Rattle.base.proofs.Chain.{chain}
 use Rattle.refusal.specs.Meaning.{refusal}
 use Rattle.refusal.specs.declared.Reason.the-variants.{HeaderCut, Version, HeaderSize, Count, Shape}
-use Rattle.header.specs.Meaning.{glyphBytes, psf1Font, fieldsOf, psf2Font, vfont2Font}
-use Rattle.kinds.specs.Meaning.{magicOf, entryLen, psf1Count, psf1Table}
+use Rattle.header.specs.Meaning.{glyphBytes, psf1Font, fieldsOf, psf2Font, vfont2Font, magicOf, entryLen, psf1Count, psf1Table}
 use Rattle.header.specs.Reading.{kindOf, psf1Says, headOf, psf2Shaped, vfont2Shaped, namedSays, saysOf}
-use Rattle.kinds.specs.declared.Kind.the-variants.{Psf1, Psf2, Vfont2}
+use Rattle.header.specs.declared.Kind.the-variants.{Psf1, Psf2, Vfont2}
 use Rattle.header.specs.declared.Named.{Named}
 use Rattle.header.specs.declared.Named.the-variants.{Is, Unknown}
 use Rattle.header.specs.declared.Fields.{Fields}

@@ -10,8 +10,8 @@ use borrow.Author.Tests.{ltb-false, eqb-true, eqb-false, not-false}
 use Rattle.base.specs.Meaning.{pick, le32}
 use Rattle.base.specs.Reading.{when}
 use Rattle.refusal.specs.declared.Refusal.{Refusal}
-use Rattle.kinds.specs.declared.Kind.{Kind}
-use Rattle.kinds.specs.declared.Kind.the-variants.{Psf1, Psf2, Vfont2}
+use Rattle.header.specs.declared.Kind.{Kind}
+use Rattle.header.specs.declared.Kind.the-variants.{Psf1, Psf2, Vfont2}
 use Rattle.header.specs.declared.Named.{Named}
 use Rattle.header.specs.declared.Named.the-variants.{Is, Unknown}
 use Rattle.header.specs.declared.Font.{Font}
@@ -20,8 +20,7 @@ use Rattle.header.specs.declared.Head.{Head}
 use Rattle.header.specs.declared.Head.the-variants.{Read, Refused as NoHead}
 use Rattle.header.specs.declared.Checked.{Checked}
 use Rattle.header.specs.declared.Checked.the-variants.{Sound, Refused}
-use Rattle.header.specs.Meaning.{glyphBytes, psf1Font, fieldsOf, psf2Font, vfont2Font}
-use Rattle.kinds.specs.Meaning.{psf1Count, psf1Table}
+use Rattle.header.specs.Meaning.{glyphBytes, psf1Font, fieldsOf, psf2Font, vfont2Font, psf1Count, psf1Table}
 use Rattle.header.specs.Reading.{kindOf, psf1Says, headOf, psf2Shaped, vfont2Shaped, onFields, namedSays, saysOf}
 use Rattle.header.specs.Bounds.{Described}
 

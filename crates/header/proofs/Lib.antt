@@ -1,3 +1,4 @@
 -- Laws of the headers.
 pub mod Cases
 pub mod Known
+pub mod Written

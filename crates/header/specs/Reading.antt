@@ -1,14 +1,15 @@
--- What a header says: refusals 2 to 7 of document 01 in their order, or the font that it describes.
-use Prim.Native.Nat.{ℕ}
-use mathlib.Core.List.{List}
-use mathlib.Core.Bool.{not}
+-- What a header says: refusals 2 to 7 of document 01 in their order, or the font that it describes; and the headers that are written.
+use Prim.Native.Nat.{ℕ, _+_}
+use mathlib.Core.List.{List, [], _∷_, _++_}
+use mathlib.Core.Bool.{Bool, not}
 use lib.Dec.{ltb, eqb}
 use lib.ListN.{length, getD}
-use Rattle.base.specs.Meaning.{le32}
-use Rattle.base.specs.Reading.{when, startsWith}
+use Rattle.base.specs.Meaning.{pick, le32}
+use Rattle.base.specs.Reading.{when, startsWith, bytes32}
 use Rattle.refusal.specs.Meaning.{refusal}
 use Rattle.refusal.specs.declared.Reason.the-variants.{Kind, HeaderCut, Version, HeaderSize, Count, Shape}
-use Rattle.kinds.specs.declared.Kind.the-variants.{Psf1, Psf2, Vfont2}
+use Rattle.header.specs.declared.Kind.{Kind as KindOf}
+use Rattle.header.specs.declared.Kind.the-variants.{Psf1, Psf2, Vfont2}
 use Rattle.header.specs.declared.Named.{Named}
 use Rattle.header.specs.declared.Named.the-variants.{Is, Unknown}
 use Rattle.header.specs.declared.Fields.{Fields}
@@ -16,8 +17,7 @@ use Rattle.header.specs.declared.Head.{Head}
 use Rattle.header.specs.declared.Head.the-variants.{Read, Refused as NoHead}
 use Rattle.header.specs.declared.Checked.{Checked}
 use Rattle.header.specs.declared.Checked.the-variants.{Sound, Refused}
-use Rattle.header.specs.Meaning.{glyphBytes, psf1Font, fieldsOf, psf2Font, vfont2Font}
-use Rattle.kinds.specs.Meaning.{magicOf, headerLen, psf1Count, psf1Table}
+use Rattle.header.specs.Meaning.{magicOf, headerLen, psf1Count, psf1Table, glyphBytes, psf1Font, fieldsOf, psf2Font, vfont2Font}
 
 -- the kind whose magic a file begins with
 unfoldable pub kindOf : List ℕ → Named
@@ -78,3 +78,26 @@ namedSays s Unknown = Refused (refusal Kind 0)
 -- refusals 2 to 7, or the font that the header describes
 unfoldable pub saysOf : List ℕ → Checked
 saysOf s = namedSays s (kindOf s)
+
+-- four numbers of four bytes each
+unfoldable pub fields : ℕ → ℕ → ℕ → ℕ → List ℕ
+fields a b c d = bytes32 a ++ bytes32 b ++ bytes32 c ++ bytes32 d
+
+-- the flags: bit 0 for a table
+unfoldable pub flagsOf : Bool → ℕ
+flagsOf table = pick table 1 0
+
+-- "Mode is 1 for 512 glyphs plus 2 for a table."
+unfoldable pub modeOf : ℕ → Bool → ℕ
+modeOf n table = pick (eqb n 512) 1 0 + pick table 2 0
+
+-- version, header size and flags
+unfoldable pub fixedFields : Bool → List ℕ
+fixedFields table = bytes32 0 ++ bytes32 (headerLen Psf2) ++ bytes32 (flagsOf table)
+
+-- "Written headers are 32 bytes (4 for PSF1), version 0": magic, mode, size byte; or magic, version, header size, flags, n, the number at
+-- 20, height, width
+unfoldable pub headerBytes : KindOf → Bool → ℕ → ℕ → ℕ → ℕ → List ℕ
+headerBytes Psf1 table n size height width = magicOf Psf1 ++ (modeOf n table ∷ height ∷ [])
+headerBytes Psf2 table n size height width = magicOf Psf2 ++ fixedFields table ++ fields n size height width
+headerBytes Vfont2 table n size height width = magicOf Vfont2 ++ fixedFields table ++ fields n size height width

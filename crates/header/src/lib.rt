@@ -1,16 +1,22 @@
-// Inner layer: what a file's header says: refusals 2 to 7, or the font that it describes. Definitions: specs/Meaning.antt (the formats),
-// specs/Reading.antt (the checks in their order).
-use kinds::Kind;
-use kinds::Psf1;
-use kinds::Psf2;
-use kinds::Vfont2;
+// Inner layer: what the headers of the three kinds have in common: what a header says (`Font`), the fields that PSF2 and vfont2 have at the
+// same places, read and written, and the bytes of a bitmap. Each kind's own header is in crates `psf1`, `psf2` and `vfont2`.
+// Definitions: specs/Meaning.antt (the formats), specs/Reading.antt (the checks in their order, the headers that are written).
 use refusal::Reason;
 use refusal::Refusal;
 ghost use mathlib.Core.Path.{_≡_};
 ghost use Prim.Native.Nat.{_≤_, _<_};
-ghost use Rattle.header.specs.Meaning.{rowBytes, glyphBytes};
-ghost use Rattle.header.specs.Reading.{kindOf, psf1Says, headOf, psf2Shaped, vfont2Shaped, onFields, saysOf};
+ghost use lib.ListN.{length};
+ghost use Rattle.base.specs.Reading.{over};
+ghost use Rattle.header.specs.declared.Kind.the-variants.{Psf2 as psf2};
+ghost use Rattle.header.specs.Meaning.{headerLen, rowBytes, glyphBytes};
+ghost use Rattle.header.specs.Reading.{headOf, fields, flagsOf, fixedFields};
 ghost use Rattle.header.specs.Bounds.{HeadWithin};
+
+pub enum Kind {
+    Psf1,
+    Psf2,
+    Vfont2,
+}
 
 // The file limit.
 pub const LIMIT: usize = 1048576;
@@ -76,43 +82,15 @@ pub fn glyph_bytes(height: usize, width: usize) -> usize
     height * row_bytes(width)
 }
 
-// What the header of a PSF1 file says: refusals 3, 4 and 7.
-fn psf1_says(file: &[u8]) -> Checked
-    ensures { λ r. ⌜ r ≡ psf1Says (now (file .entry)) ⌝ }
-{
-    let len = file.len();
-    if len < Psf1::HEADER_LEN {
-        return Checked::Refused(refusal::refuse(Reason::HeaderCut, len));
-    }
-    let mode = file[2];
-    if 5 < mode {
-        return Checked::Refused(refusal::refuse(Reason::Version, 2));
-    }
-    let size = base::size(base::wide(file[3]));
-    if size == 0 {
-        return Checked::Refused(refusal::refuse(Reason::Shape, 3));
-    }
-    let count = Psf1::count_of(mode);
-    Checked::Sound(Font {
-        kind: Kind::Psf1,
-        count: count,
-        entries: Psf1::HEADER_LEN,
-        bitmaps: Psf1::first_bitmap(Psf1::HEADER_LEN, count),
-        size: size,
-        height: size,
-        width: 8,
-        end: Psf1::HEADER_LEN + count * size,
-        table: Psf1::table_of(mode),
-    })
-}
-
-// The fields that PSF2 and vfont2 have at the same places: refusals 3 to 6; and their bounds, for the sums that follow.
-fn head_of(file: &[u8]) -> Head
+// The fields that PSF2 and vfont2 have at the same places: refusals 3 to 6; and their bounds, for the sums that follow. Asks for the
+// kind's header length.
+pub fn head_of(file: &[u8], fixed: usize) -> Head
+    requires { ⌜ fixed ≡ headerLen psf2 ⌝ }
     ensures equal { λ r. ⌜ r ≡ headOf (now (file .entry)) ⌝ }
     ensures bounded { λ r. ⌜ HeadWithin r ⌝ }
 {
     let len = file.len();
-    if len < Psf2::HEADER_LEN {
+    if len < fixed {
         return Head::Refused(refusal::refuse(Reason::HeaderCut, len));
     }
     if base::get32(file, 4) != 0 {
@@ -123,7 +101,7 @@ fn head_of(file: &[u8]) -> Head
         return Head::Refused(refusal::refuse(Reason::Version, 12));
     }
     let header = base::size(base::get32(file, 8));
-    if header < Psf2::HEADER_LEN {
+    if header < fixed {
         return Head::Refused(refusal::refuse(Reason::HeaderSize, 8));
     }
     if 4096 < header {
@@ -146,117 +124,33 @@ fn head_of(file: &[u8]) -> Head
     })
 }
 
-// The font that these fields describe: refusal 7. Asks for small numbers: `head_of` has bounded them.
-fn psf2_shaped(f: Fields) -> Checked
-    requires { ⌜ (f .header ≤ 4096) × (f .count ≤ 4096) ⌝ }
-    ensures { λ r. ⌜ r ≡ psf2Shaped f ⌝ }
+// "Flag bit 0 says that a table follows the bitmaps."
+fn flags_of(table: bool) -> u32
+    ensures { λ r. ⌜ r ≡ flagsOf table ⌝ }
 {
-    if f.height < 1 {
-        return Checked::Refused(refusal::refuse(Reason::Shape, 24));
+    if table {
+        return 1;
     }
-    if 255 < f.height {
-        return Checked::Refused(refusal::refuse(Reason::Shape, 24));
-    }
-    if f.width < 1 {
-        return Checked::Refused(refusal::refuse(Reason::Shape, 28));
-    }
-    if 255 < f.width {
-        return Checked::Refused(refusal::refuse(Reason::Shape, 28));
-    }
-    if f.size != glyph_bytes(f.height, f.width) {
-        return Checked::Refused(refusal::refuse(Reason::Shape, 20));
-    }
-    let bitmaps = Psf2::first_bitmap(f.header, f.count);
-    Checked::Sound(Font {
-        kind: Kind::Psf2,
-        count: f.count,
-        entries: f.header,
-        bitmaps: bitmaps,
-        size: f.size,
-        height: f.height,
-        width: f.width,
-        end: f.header + f.count * f.size,
-        table: f.table,
-    })
+    0
 }
 
-// What the header of a PSF2 file says: refusals 3 to 7.
-fn psf2_says(file: &[u8]) -> Checked
-    ensures { λ r. ⌜ r ≡ onFields psf2Shaped (headOf (now (file .entry))) ⌝ }
+// Version, header size and flags. Asks for the kind's header length, and for room.
+pub fn put_fixed(fixed: usize, table: bool, out: &mut [u8])
+    requires { ⌜ (fixed ≡ headerLen psf2) × (12 ≤ length (now out)) ⌝ }
+    ensures { λ _. ⌜ now (out .exit) ≡ over (fixedFields table) (now (out .entry)) ⌝ }
 {
-    let h = head_of(file);
-    match h {
-        Head::Read(f) => psf2_shaped(f),
-        Head::Refused(r) => Checked::Refused(r),
-    }
+    base::put32(0, &mut out[0..]);
+    base::put32(fixed as u32, &mut out[4..]);
+    base::put32(flags_of(table), &mut out[8..]);
 }
 
-// The font that these fields describe: refusal 7. Asks for small numbers: `head_of` has bounded them.
-fn vfont2_shaped(f: Fields) -> Checked
-    requires { ⌜ (f .header ≤ 4096) × (f .count ≤ 4096) × (f .size < 4294967296) ⌝ }
-    ensures { λ r. ⌜ r ≡ vfont2Shaped f ⌝ }
+// Four numbers of four bytes each. Asks for numbers that four bytes hold, and for room.
+pub fn put_fields(a: usize, b: usize, c: usize, d: usize, out: &mut [u8])
+    requires { ⌜ (a < 4294967296) × (b < 4294967296) × (c < 4294967296) × (d < 4294967296) × (16 ≤ length (now out)) ⌝ }
+    ensures { λ _. ⌜ now (out .exit) ≡ over (fields a b c d) (now (out .entry)) ⌝ }
 {
-    if 255 < f.height {
-        return Checked::Refused(refusal::refuse(Reason::Shape, 24));
-    }
-    if 255 < f.width {
-        return Checked::Refused(refusal::refuse(Reason::Shape, 28));
-    }
-    let bitmaps = Vfont2::first_bitmap(f.header, f.count);
-    Checked::Sound(Font {
-        kind: Kind::Vfont2,
-        count: f.count,
-        entries: f.header,
-        bitmaps: bitmaps,
-        size: f.size,
-        height: f.height,
-        width: f.width,
-        end: bitmaps + f.size,
-        table: f.table,
-    })
-}
-
-// What the header of a vfont2 file says: refusals 3 to 7.
-fn vfont2_says(file: &[u8]) -> Checked
-    ensures { λ r. ⌜ r ≡ onFields vfont2Shaped (headOf (now (file .entry))) ⌝ }
-{
-    let h = head_of(file);
-    match h {
-        Head::Read(f) => vfont2_shaped(f),
-        Head::Refused(r) => Checked::Refused(r),
-    }
-}
-
-// The kind whose magic a file begins with.
-fn kind_of(file: &[u8]) -> Named
-    ensures { λ r. ⌜ r ≡ kindOf (now (file .entry)) ⌝ }
-{
-    let psf1 = Psf1::MAGIC;
-    if base::starts_with(file, &psf1) {
-        return Named::Is(Kind::Psf1);
-    }
-    let psf2 = Psf2::MAGIC;
-    if base::starts_with(file, &psf2) {
-        return Named::Is(Kind::Psf2);
-    }
-    let vfont2 = Vfont2::MAGIC;
-    if base::starts_with(file, &vfont2) {
-        return Named::Is(Kind::Vfont2);
-    }
-    Named::Unknown
-}
-
-// What a file's header says: refusals 2 to 7 in their order, or the font that it describes.
-pub fn says(file: &[u8]) -> Checked
-    ensures { λ r. ⌜ r ≡ saysOf (now (file .entry)) ⌝ }
-{
-    let named = kind_of(file);
-    match named {
-        Named::Is(kind) => match kind {
-            Kind::Psf1 => psf1_says(file),
-            Kind::Psf2 => psf2_says(file),
-            Kind::Vfont2 => vfont2_says(file),
-        },
-        Named::Unknown => Checked::Refused(refusal::refuse(Reason::Kind, 0)),
-    }
+    base::put32(a as u32, &mut out[0..]);
+    base::put32(b as u32, &mut out[4..]);
+    base::put32(c as u32, &mut out[8..]);
+    base::put32(d as u32, &mut out[12..]);
 }

@@ -5,7 +5,7 @@ use bitmap::Part;
 use bitmap::Pixel;
 use convert::Converted;
 use header::Checked;
-use kinds::Kind;
+use header::Kind;
 use questions::Lookup;
 use questions::Walk;
 use refusal::Refusal;

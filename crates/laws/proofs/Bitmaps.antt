@@ -9,7 +9,7 @@ use native.Mathlib.Omega.{arith}
 use Rattle.base.specs.Meaning.{Bytes}
 use Rattle.refusal.specs.Meaning.{refusal}
 use Rattle.refusal.specs.declared.Reason.the-variants.{Ask, NoGlyph}
-use Rattle.kinds.specs.declared.Kind.the-variants.{Vfont2}
+use Rattle.header.specs.declared.Kind.the-variants.{Vfont2}
 use Rattle.header.specs.declared.Font.{Font}
 use Rattle.header.specs.declared.Checked.the-variants.{Sound}
 use Rattle.header.specs.Meaning.{rowBytes}

@@ -13,13 +13,12 @@ use Rattle.refusal.specs.declared.Reason.the-variants.{WrongKind, Glyphs, Value
 use Rattle.table.specs.Meaning.{Desc, items, encode, Readable}
 use Rattle.transcode.specs.Meaning.{FirstUncarried}
 use Rattle.coding.specs.declared.Coding.the-variants.{Utf8, Ucs2}
-use Rattle.kinds.specs.declared.Kind.{Kind}
-use Rattle.kinds.specs.declared.Kind.the-variants.{Psf1, Psf2, Vfont2}
+use Rattle.header.specs.declared.Kind.{Kind}
+use Rattle.header.specs.declared.Kind.the-variants.{Psf1, Psf2, Vfont2}
 use Rattle.entries.specs.Meaning.{entryAt, addressAt}
 use Rattle.header.specs.declared.Font.{Font}
 use Rattle.header.specs.declared.Checked.the-variants.{Sound, Refused as Unsound}
-use Rattle.header.specs.Meaning.{limit, charSize}
-use Rattle.kinds.specs.Meaning.{headerLen}
+use Rattle.header.specs.Meaning.{limit, charSize, headerLen}
 use Rattle.stages.specs.Meaning.{codingOf, tailOf}
 use Rattle.stages.specs.Reading.{checkOf}
 use Rattle.content.specs.Meaning.{Content, HasContent, Plain}

@@ -16,12 +16,11 @@ use Rattle.coding.specs.declared.Coding.the-variants.{Utf8, Ucs2}
 use Rattle.table.specs.Meaning.{Desc, encode, Readable}
 use Rattle.transcode.specs.declared.Measured.the-variants.{Length}
 use Rattle.transcode.proofs.Meaning.{recoded-table}
-use Rattle.kinds.specs.declared.Kind.{Kind}
-use Rattle.kinds.specs.declared.Kind.the-variants.{Vfont2}
+use Rattle.header.specs.declared.Kind.{Kind}
+use Rattle.header.specs.declared.Kind.the-variants.{Vfont2}
 use Rattle.header.specs.declared.Font.{Font}
 use Rattle.header.specs.declared.Checked.the-variants.{Sound}
-use Rattle.header.specs.Meaning.{limit, glyphBytes, charSize}
-use Rattle.kinds.specs.Meaning.{headerLen}
+use Rattle.header.specs.Meaning.{limit, glyphBytes, charSize, headerLen}
 use Rattle.entries.specs.Meaning.{entryAt, addressAt}
 use Rattle.bitmap.specs.declared.Bitmap.{Bitmap}
 use Rattle.bitmap.specs.declared.Located.{Located}

@@ -11,7 +11,7 @@ use Rattle.refusal.specs.Meaning.{refusal}
 use Rattle.refusal.specs.declared.Reason.{Reason}
 use Rattle.refusal.specs.declared.Reason.the-variants.{Kind, BodyCut}
 use Rattle.refusal.specs.declared.Refusal.{Refusal}
-use Rattle.kinds.specs.declared.Kind.the-variants.{Psf1, Psf2, Vfont2}
+use Rattle.header.specs.declared.Kind.the-variants.{Psf1, Psf2, Vfont2}
 use Rattle.header.specs.declared.Named.{Named}
 use Rattle.header.specs.declared.Named.the-variants.{Is, Unknown}
 use Rattle.header.specs.declared.Font.{Font}
@@ -19,8 +19,7 @@ use Rattle.header.specs.declared.Fields.{Fields}
 use Rattle.header.specs.declared.Head.the-variants.{Refused as NoHead}
 use Rattle.header.specs.declared.Checked.{Checked}
 use Rattle.header.specs.declared.Checked.the-variants.{Sound, Refused}
-use Rattle.header.specs.Meaning.{limit, rowBytes, glyphBytes, psf1Font, fieldsOf, psf2Font, vfont2Font}
-use Rattle.kinds.specs.Meaning.{magicOf, psf1Count, psf1Table}
+use Rattle.header.specs.Meaning.{limit, rowBytes, glyphBytes, psf1Font, fieldsOf, psf2Font, vfont2Font, magicOf, psf1Count, psf1Table}
 use Rattle.header.specs.Reading.{kindOf, headOf, psf2Shaped, vfont2Shaped, onFields, saysOf}
 use Rattle.header.proofs.Cases as header
 use Rattle.entries.specs.Meaning.{rowsAt, colsAt, IsGreatest}

@@ -13,13 +13,12 @@ use Rattle.table.specs.declared.Item.{Item}
 use Rattle.table.specs.declared.Item.the-variants.{Single, Value}
 use Rattle.table.specs.Meaning.{Desc, items, encode, Readable, Unfinished, BadAt, TrailingAt}
 use Rattle.transcode.specs.Meaning.{FirstUncarried}
-use Rattle.kinds.specs.declared.Kind as K
-use Rattle.kinds.specs.declared.Kind.the-variants.{Psf1, Psf2, Vfont2}
+use Rattle.header.specs.declared.Kind as K
+use Rattle.header.specs.declared.Kind.the-variants.{Psf1, Psf2, Vfont2}
 use Rattle.header.specs.declared.Font.{Font}
 use Rattle.header.specs.declared.Checked.{Checked}
 use Rattle.header.specs.declared.Checked.the-variants.{Sound, Refused}
-use Rattle.header.specs.Meaning.{limit, rowBytes, psf1Font, fieldsOf, psf2Font, vfont2Font, charSize}
-use Rattle.kinds.specs.Meaning.{magicOf, headerLen, psf1Count, psf1Table}
+use Rattle.header.specs.Meaning.{limit, rowBytes, psf1Font, fieldsOf, psf2Font, vfont2Font, charSize, magicOf, headerLen, psf1Count, psf1Table}
 use Rattle.entries.specs.Meaning.{entryAt, addressAt, rowsAt, colsAt, FirstBroken, IsGreatest}
 use Rattle.bitmap.specs.Reading.{bitmapOf, wholeOf, pixelOf, metricsOf, viewOf}
 use Rattle.stages.specs.Meaning.{codingOf, tailOf}

@@ -9,11 +9,11 @@ use native.Mathlib.Nat.{add-sub-cancel-left, suc-mul}
 use lib.ListN.{length, take, drop, length-append, length-drop}
 use lib.Seq.{length-take-le}
 use Rattle.base.specs.Reading.{bytes16, bytes32}
-use Rattle.kinds.specs.declared.Kind.{Kind}
-use Rattle.kinds.specs.declared.Kind.the-variants.{Psf1, Psf2, Vfont2}
+use Rattle.header.specs.declared.Kind.{Kind}
+use Rattle.header.specs.declared.Kind.the-variants.{Psf1, Psf2, Vfont2}
 use Rattle.header.specs.declared.Font.{Font}
-use Rattle.kinds.specs.Meaning.{entryLen}
-use Rattle.kinds.specs.Reading.{headerBytes}
+use Rattle.header.specs.Meaning.{entryLen}
+use Rattle.header.specs.Reading.{headerBytes}
 use Rattle.entries.specs.Meaning.{entryAt, addressAt}
 use Rattle.layout.specs.Reading.{metricsBytes, entryBytes, entriesAt, evenly, dispatchBytes, gathered, kindGlyphs, glyphsIn}
 

@@ -4,11 +4,11 @@ use mathlib.Core.List.{List, [], _∷_, _++_}
 use mathlib.Core.Bool.{Bool}
 use lib.ListN.{length, take, drop}
 use Rattle.base.specs.Reading.{bytes16, bytes32}
-use Rattle.kinds.specs.declared.Kind.{Kind}
-use Rattle.kinds.specs.declared.Kind.the-variants.{Psf1, Psf2, Vfont2}
+use Rattle.header.specs.declared.Kind.{Kind}
+use Rattle.header.specs.declared.Kind.the-variants.{Psf1, Psf2, Vfont2}
 use Rattle.header.specs.declared.Font.{Font}
 use Rattle.header.specs.Meaning.{charSize}
-use Rattle.kinds.specs.Reading.{headerBytes}
+use Rattle.header.specs.Reading.{headerBytes}
 use Rattle.entries.specs.Meaning.{entryAt, addressAt}
 
 -- the five metrics: "up = height, down = 0, left = 0, right = logical width = width"

@@ -1,18 +1,17 @@
 // Inner layer: writers for the parts of a font, each to the front of the part that it is lent. Definitions: specs/Reading.antt. Each asks
 // for room, and for numbers that its bytes can hold: the callers work out the size from a checked font.
 use header::Font;
-use kinds::Kind;
-use kinds::Psf1;
-use kinds::Psf2;
-use kinds::Vfont2;
+use header::Kind;
+use psf1::Psf1;
+use psf2::Psf2;
+use vfont2::Vfont2;
 ghost use mathlib.Core.Path.{_≡_};
 ghost use Prim.Native.Nat.{ℕ, _+_, _*_, _≤_, _<_};
 ghost use lib.ListN.{length};
 ghost use Rattle.base.specs.Reading.{over};
-ghost use Rattle.kinds.specs.declared.Kind.the-variants.{Vfont2 as vfont2};
-ghost use Rattle.header.specs.Meaning.{charSize};
-ghost use Rattle.kinds.specs.Meaning.{headerLen, entryLen};
-ghost use Rattle.kinds.specs.Reading.{headerBytes};
+ghost use Rattle.header.specs.declared.Kind.the-variants.{Vfont2 as vfont2};
+ghost use Rattle.header.specs.Meaning.{charSize, headerLen, entryLen};
+ghost use Rattle.header.specs.Reading.{headerBytes};
 ghost use Rattle.header.specs.Bounds.{Placed};
 ghost use Rattle.entries.specs.Meaning.{entryAt, addressAt};
 ghost use Rattle.layout.specs.Reading.{metricsBytes, entryBytes, entriesAt, evenly, dispatchBytes, gathered, glyphsIn};

@@ -1,7 +1,7 @@
 // The text of a font's listing, written to a lent buffer: what the program `fontlist` calls, and anyone may. Definitions: specs/Meaning.antt, specs/Reading.antt.
 use header::Checked;
 use header::Font;
-use kinds::Kind;
+use header::Kind;
 use refusal::Reason;
 use refusal::Refusal;
 ghost use mathlib.Core.Path.{_≡_};

@@ -12,8 +12,8 @@ use Rattle.refusal.specs.declared.Reason.the-variants.{TooLong, BodyCut, Entry,
 use Rattle.table.specs.declared.TableAnswer.{TableAnswer}
 use Rattle.table.specs.declared.TableAnswer.the-variants.{Complete, Cut, Bad, Trailing as Over}
 use Rattle.table.specs.Reading.{tableOf}
-use Rattle.kinds.specs.declared.Kind.{Kind}
-use Rattle.kinds.specs.declared.Kind.the-variants.{Psf1, Psf2, Vfont2}
+use Rattle.header.specs.declared.Kind.{Kind}
+use Rattle.header.specs.declared.Kind.the-variants.{Psf1, Psf2, Vfont2}
 use Rattle.header.specs.declared.Font.{Font}
 use Rattle.header.specs.declared.Checked.{Checked}
 use Rattle.header.specs.declared.Checked.the-variants.{Sound, Refused}

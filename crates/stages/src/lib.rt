@@ -1,14 +1,19 @@
-// Inner layer: the check of a font, stage by stage: its size (1), what its header says (2 to 7, crate `header`), its length (8), its
+// Inner layer: the check of a font, stage by stage: its size (1), what its header says (2 to 7), its length (8), its
 // entries (9), its tail (10 to 12). Definitions: specs/Reading.antt.
 use coding::Coding;
 use entries::Scan;
 use header::Checked;
 use header::Font;
-use kinds::Kind;
+use header::Kind;
+use header::Named;
+use psf1::Psf1;
+use psf2::Psf2;
 use refusal::Reason;
 use table::TableAnswer;
+use vfont2::Vfont2;
 ghost use mathlib.Core.Path.{_≡_};
-ghost use Rattle.kinds.specs.declared.Kind.the-variants.{Vfont2};
+ghost use Rattle.header.specs.declared.Kind.the-variants.{Vfont2 as vfont2};
+ghost use Rattle.header.specs.Reading.{kindOf, saysOf};
 ghost use Rattle.header.specs.Bounds.{Placed};
 ghost use Rattle.entries.specs.Reading.{scanOf};
 ghost use Rattle.table.specs.Reading.{tableOf};
@@ -24,6 +29,40 @@ pub fn coding_of(kind: Kind) -> Coding
         Kind::Psf1 => Coding::Ucs2,
         Kind::Psf2 => Coding::Utf8,
         Kind::Vfont2 => Coding::Utf8,
+    }
+}
+
+// The kind whose magic a file begins with.
+fn kind_of(file: &[u8]) -> Named
+    ensures { λ r. ⌜ r ≡ kindOf (now (file .entry)) ⌝ }
+{
+    let psf1 = Psf1::MAGIC;
+    if base::starts_with(file, &psf1) {
+        return Named::Is(Kind::Psf1);
+    }
+    let psf2 = Psf2::MAGIC;
+    if base::starts_with(file, &psf2) {
+        return Named::Is(Kind::Psf2);
+    }
+    let vfont2 = Vfont2::MAGIC;
+    if base::starts_with(file, &vfont2) {
+        return Named::Is(Kind::Vfont2);
+    }
+    Named::Unknown
+}
+
+// What a file's header says: refusals 2 to 7 in their order, or the font that it describes.
+pub fn says(file: &[u8]) -> Checked
+    ensures { λ r. ⌜ r ≡ saysOf (now (file .entry)) ⌝ }
+{
+    let named = kind_of(file);
+    match named {
+        Named::Is(kind) => match kind {
+            Kind::Psf1 => Psf1::says(file),
+            Kind::Psf2 => Psf2::says(file),
+            Kind::Vfont2 => Vfont2::says(file),
+        },
+        Named::Unknown => Checked::Refused(refusal::refuse(Reason::Kind, 0)),
     }
 }
 
@@ -52,14 +91,14 @@ pub fn check_greatest(f: Font, height: usize, width: usize) -> Checked
 
 // Refusal 9 of a vfont2 font whose parts stand in the file (`Placed`).
 fn check_dispatch(file: &[u8], f: Font) -> Checked
-    requires { ⌜ Placed (now file) f × (f .kind ≡ Vfont2) ⌝ }
+    requires { ⌜ Placed (now file) f × (f .kind ≡ vfont2) ⌝ }
     ensures { λ r. ⌜ r ≡ scanned f (scanOf (now (file .entry)) (f .size) (f .entries) (f .count) 0 0 0) ⌝ }
 {
     let s = entries::scan_entries(file, f.size, f.count, f.entries);
     match s {
         Scan::BrokenAt(i) => Checked::Refused(refusal::refuse(
             Reason::Entry,
-            f.entries + i * kinds::Vfont2::ENTRY_LEN,
+            f.entries + i * Vfont2::ENTRY_LEN,
         )),
         Scan::Greatest(h, w) => check_greatest(f, h, w),
     }
@@ -118,7 +157,7 @@ pub fn check_body(file: &[u8]) -> Checked
     if header::LIMIT < len {
         return Checked::Refused(refusal::refuse(Reason::TooLong, header::LIMIT));
     }
-    let h = header::says(file);
+    let h = says(file);
     match h {
         Checked::Sound(f) => check_length(len, f),
         Checked::Refused(r) => Checked::Refused(r),

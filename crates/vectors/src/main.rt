@@ -8,7 +8,7 @@ use convert::Converted;
 use entries::Metrics;
 use header::Checked;
 use header::Font;
-use kinds::Kind;
+use header::Kind;
 use questions::Lookup;
 use questions::Walk;
 use refusal::Refusal;

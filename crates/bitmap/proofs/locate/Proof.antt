@@ -2,7 +2,7 @@
 use native.Mathlib.Omega.{arith}
 use mathlib.Core.Path.{sym, _∙_, ap, subst}
 use Rattle.bitmap.specs.declared.Located.the-variants.{Found, Refused as NotLocated}
-use Rattle.kinds.specs.declared.Kind.the-variants.{Psf1, Psf2, Vfont2}
+use Rattle.header.specs.declared.Kind.the-variants.{Psf1, Psf2, Vfont2}
 use Rattle.bitmap.specs.Bounds.{LocatedInside}
 use Rattle.bitmap.proofs.Places.{known, located-inside, even-start, entry-inside, too-high}
 use borrow.Author.Needs.{needs}

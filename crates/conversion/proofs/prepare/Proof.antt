@@ -1,7 +1,7 @@
 -- `conversion::prepare` meets its contract: the font's own and 17, then 18 to 20. Assumes nothing.
 use mathlib.Core.Path.{sym, _∙_, ap}
 use Rattle.conversion.proofs.Cases as cases
-use Rattle.kinds.specs.declared.Kind.{Kind}
+use Rattle.header.specs.declared.Kind.{Kind}
 use Rattle.conversion.specs.Reading.{openedOf}
 use borrow.Author.Needs.{needs}
 use Rattle.conversion.proofs.prepare.Statement.{statement}

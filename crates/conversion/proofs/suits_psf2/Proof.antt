@@ -4,7 +4,7 @@ use mathlib.Core.Path.{sym, _∙_, ap, subst}
 use Prim.Native.Nat.{_-_, _≤_}
 use Rattle.conversion.proofs.Cases as cases
 use Rattle.conversion.specs.declared.Suits.the-variants.{Refused as Unsuited}
-use Rattle.kinds.specs.declared.Kind.{Kind}
+use Rattle.header.specs.declared.Kind.{Kind}
 use Rattle.header.specs.Bounds.{KindPlaced}
 use Rattle.conversion.specs.Reading.{evenSuits}
 use borrow.Author.Needs.{needs}

@@ -3,7 +3,7 @@ use native.Mathlib.Omega.{arith}
 use mathlib.Core.Path.{_≡_, refl}
 use Prim.Native.Nat.{ℕ, _-_, _≤_}
 use native.Mathlib.Nat.{mul-le-mul}
-use Rattle.kinds.specs.declared.Kind.the-variants.{Psf1, Psf2}
+use Rattle.header.specs.declared.Kind.the-variants.{Psf1, Psf2}
 use Rattle.convert.proofs.Cases.{no-vfont2}
 use borrow.Author.Needs.{needs}
 use Rattle.convert.proofs.field_at_20.Statement.{statement}

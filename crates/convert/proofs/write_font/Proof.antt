@@ -5,8 +5,8 @@ use Rattle.base.specs.Reading.{over}
 use Rattle.base.proofs.Over.{over-none, behind}
 use Rattle.base.proofs.Parts.{rest-all}
 use Rattle.transcode.specs.declared.Measured.the-variants.{Length}
-use Rattle.kinds.specs.Reading.{headerBytes}
-use Rattle.kinds.proofs.Written.{header-length}
+use Rattle.header.specs.Reading.{headerBytes}
+use Rattle.header.proofs.Written.{header-length}
 use Rattle.layout.specs.Reading.{dispatchBytes, evenly, glyphsIn}
 use Rattle.stages.specs.Meaning.{tailOf}
 use Rattle.conversion.specs.Reading.{tableIn, measuredOf}

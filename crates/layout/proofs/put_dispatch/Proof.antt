@@ -3,7 +3,7 @@ use native.Mathlib.Omega.{arith}
 use mathlib.Core.Path.{sym, _∙_, ap}
 use Rattle.base.specs.Reading.{over}
 use Rattle.base.proofs.Over.{over-none}
-use Rattle.kinds.specs.declared.Kind.{Kind}
+use Rattle.header.specs.declared.Kind.{Kind}
 use Rattle.layout.specs.Reading.{dispatchBytes, evenly}
 use borrow.Author.Needs.{needs}
 use Rattle.layout.proofs.put_dispatch.Statement.{statement}

@@ -5,7 +5,7 @@ use Prim.Native.Nat.{ℕ, _+_, _*_, _≤_}
 use mathlib.Core.List.{List}
 use lib.ListN.{length, length-take, length-drop}
 use Rattle.base.specs.Reading.{over}
-use Rattle.kinds.specs.declared.Kind.the-variants.{Psf1, Psf2, Vfont2}
+use Rattle.header.specs.declared.Kind.the-variants.{Psf1, Psf2, Vfont2}
 use Rattle.header.specs.Bounds.{Even, Dispatched}
 use Rattle.entries.specs.Meaning.{entryAt, addressAt}
 use Rattle.layout.specs.Reading.{gathered}

@@ -2,8 +2,8 @@
 use Prim.Native.Nat.{ℕ}
 use mathlib.Core.List.{List}
 use Rattle.base.specs.Reading.{over}
-use Rattle.kinds.specs.declared.Kind.{Kind}
-use Rattle.kinds.specs.Reading.{headerBytes}
+use Rattle.header.specs.declared.Kind.{Kind}
+use Rattle.header.specs.Reading.{headerBytes}
 use Rattle.layout.proofs.Parts.{psf1-header}
 use native.Mathlib.Omega.{arith}
 use mathlib.Core.Path.{sym, _∙_, ap}

@@ -3,7 +3,7 @@ use native.Mathlib.Omega.{arith}
 use mathlib.Core.Path.{sym, _∙_, ap, subst}
 use Prim.Native.Nat.{_≤_}
 use Rattle.header.specs.declared.Checked.the-variants.{Refused}
-use Rattle.kinds.specs.declared.Kind.{Kind}
+use Rattle.header.specs.declared.Kind.{Kind}
 use Rattle.header.specs.Bounds.{KindPlaced}
 use Rattle.entries.proofs.Meaning.{scan-broken}
 use Rattle.stages.specs.Reading.{scanned}

@@ -1,7 +1,7 @@
 -- `stages::check_entries` meets its contract: by the kind. Assumes `Placed`.
 use mathlib.Core.Path.{_∙_}
 use Rattle.stages.proofs.Cases as cases
-use Rattle.kinds.specs.declared.Kind.the-variants.{Psf1, Psf2, Vfont2}
+use Rattle.header.specs.declared.Kind.the-variants.{Psf1, Psf2, Vfont2}
 use borrow.Author.Needs.{needs}
 use Rattle.stages.proofs.check_entries.Statement.{statement}
 use Rattle.stages.proofs.check_entries.Tie as tie

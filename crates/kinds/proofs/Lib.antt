@@ -1,2 +1,0 @@
--- Laws of the kinds.
-pub mod Written

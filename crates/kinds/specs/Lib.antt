@@ -1,3 +1,0 @@
--- The three kinds of file.
-pub mod Meaning
-pub mod Reading
