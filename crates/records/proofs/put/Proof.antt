@@ -1,10 +1,10 @@
--- `vectors::put` is safe and ends: each turn of its loop is one step nearer the end. Assumes nothing.
+-- `records::put` is safe and ends: each turn of its loop is one step nearer the end. Assumes nothing.
 use lib.ListN.{length}
 use mathlib.Core.Path.{_≡_}
 use Prim.Native.Nat.{_-_}
 use borrow.Author.Needs.{needs}
-use Rattle.vectors.proofs.put.Statement.{statement}
-use Rattle.vectors.proofs.put.Tie as tie
+use Rattle.records.proofs.put.Statement.{statement}
+use Rattle.records.proofs.put.Tie as tie
 
 abbrev Inv-loop : tie.InvT-loop
 Inv-loop src out₀ n i₀ out i = length out ≡ length out₀
