@@ -1,115 +1,70 @@
--- The bitmap questions on a sound font: ASK and NO GLYPH are given exactly when their rows say, and else the answer stands in the file.
+-- The bitmap questions on any bytes: "Bitmaps: ASK for the glyph, NO GLYPH, ASK for row and column", behind the font's own refusal.
 -- `glyph_part` answers `glyphPartOf s g`, `row_part` answers `rowPartOf s g y`, `pixel` answers `pixelAt s g y x`, `metrics` answers
--- `glyphMetricsOf s g`; `bitmapIn s f g (f .kind)` is where glyph g's bitmap stands. (The font's own refusal comes first: Questions.)
-use mathlib.Core.Path.{_≡_, refl, ap, subst}
-use mathlib.Core.Logic.{_↔_, _⊎_}
+-- `glyphMetricsOf s g`; `glyph` and `row` give `viewOf s` of the first two. `Exact x rows`: x is an answer exactly when the rows say so of it.
+use mathlib.Core.Path.{_≡_, refl}
+use mathlib.Core.Logic.{_⊎_, inl, inr}
 use mathlib.Core.List.{List}
-use Prim.Native.Nat.{ℕ, _≤_, _<_}
-use native.Mathlib.Omega.{arith}
+use Prim.Native.Nat.{ℕ, _+_, _*_, _/_, _%_, _≤_, _<_}
+use lib.ListN.{length, getD}
 use Rattle.base.specs.Meaning.{Bytes}
-use Rattle.refusal.specs.Meaning.{refusal}
-use Rattle.refusal.specs.declared.Reason.the-variants.{Ask, NoGlyph}
-use Rattle.header.specs.declared.Kind.the-variants.{Vfont2}
+use Rattle.header.specs.declared.Kind.{Kind}
+use Rattle.header.specs.declared.Kind.the-variants.{Psf1, Psf2, Vfont2}
 use Rattle.header.specs.declared.Font.{Font}
 use Rattle.header.specs.declared.Checked.the-variants.{Sound}
-use Rattle.header.specs.Meaning.{rowBytes}
-use Rattle.entries.specs.declared.Metrics.{Metrics}
-use Rattle.entries.specs.Meaning.{entryAt, Breaks}
-use Rattle.bitmap.specs.declared.Part.the-variants.{At, Refused as NoPart}
-use Rattle.bitmap.specs.declared.Pixel.the-variants.{Bit, Refused as NoPixel}
-use Rattle.bitmap.specs.declared.GlyphMetrics.the-variants.{Is, Refused as NoMetrics}
-use Rattle.bitmap.specs.Meaning.{kindMetrics, rowStart, pixelIn}
-use Rattle.bitmap.specs.Reading.{bitmapOf, wholeOf, rowOf, pixelOf, metricsOf}
-use Rattle.bitmap.specs.Bounds.{Inside, LocatedInside}
-use Rattle.bitmap.proofs.Places.{located-inside}
-use Rattle.content.specs.Meaning.{bitmapIn}
-use Rattle.content.proofs.Source.{is-placed, unbroken}
+use Rattle.entries.specs.Meaning.{entryAt, addressAt, sizeAt, rowsAt, colsAt, Breaks}
+use Rattle.bitmap.specs.Meaning.{bitOf}
+use Rattle.bitmap.specs.Reading.{viewOf}
 use Rattle.stages.specs.Reading.{checkOf}
+use Rattle.content.specs.Meaning.{bitmapIn, NoGlyph}
+use Rattle.content.proofs.Source.{unbroken}
 use Rattle.fonts.specs.Reading.{glyphPartOf, rowPartOf, pixelAt, glyphMetricsOf}
-use Rattle.laws.specs.Meaning.{Missing, Has}
-use Rattle.laws.proofs.Answers.{partNumber, pixelNumber, metricsNumber}
-use Rattle.laws.proofs.Located.{located-has, no-glyph, ask-high, ask, gives, part-is, row-no-other, row-past, row-is, pixel-no-other, pixel-out, pixel-is}
+use Rattle.laws.specs.Meaning.{gives, partSays, pixelSays, metricsSays, GlyphPartRows, RowPartRows, PixelRows, MetricsRows, joined}
+use Rattle.laws.proofs.Exactly.{Exact}
+use Rattle.laws.proofs.Located.{part-rows, row-rows, pixel-rows, metrics-rows, bitmap-inside, rows-whole, pixel-of}
 
-same-metrics : (a m : Metrics) → Is a ≡ Is m → a ≡ m
-same-metrics a m e = cc
+module _ (s : List ℕ) (y : Bytes s) where
+  pub glyph-exactly : (g : ℕ) → Exact (partSays (glyphPartOf s g)) (GlyphPartRows s g)
+  glyph-exactly = part-rows s y
 
-module _ (s : List ℕ) (y : Bytes s) (f : Font) (sound : checkOf s ≡ Sound f) where
+  pub row-exactly : (g i : ℕ) → Exact (partSays (rowPartOf s g i)) (RowPartRows s g i)
+  row-exactly = row-rows s y
+
+  pub pixel-exactly : (g i j : ℕ) → Exact (pixelSays (pixelAt s g i j)) (PixelRows s g i j)
+  pixel-exactly = pixel-rows s y
+
+  pub metrics-exactly : (g : ℕ) → Exact (metricsSays (glyphMetricsOf s g)) (MetricsRows s g)
+  metrics-exactly = metrics-rows s y
+
+-- which bytes, rows and columns a glyph has: in PSF1 and PSF2 by the font's numbers, in vfont2 by its entry's
+module _ (s : List ℕ) (f : Font) (g : ℕ) where
+  abbrev Is : ℕ → ℕ → ℕ → ℕ → Type 0
+  Is start len rows columns =
+      (bitmapIn s f g (f .kind) .start ≡ start) × (bitmapIn s f g (f .kind) .len ≡ len) × (bitmapIn s f g (f .kind) .height ≡ rows)
+      × (bitmapIn s f g (f .kind) .width ≡ columns)
+
+  pub psf-bitmap : (f .kind ≡ Psf1) ⊎ (f .kind ≡ Psf2) → Is (f .bitmaps + g * f .size) (f .size) (f .height) (f .width)
+  psf-bitmap (inl k) = rw k (refl, refl, refl, refl)
+  psf-bitmap (inr k) = rw k (refl, refl, refl, refl)
+
+  pub vfont2-bitmap : f .kind ≡ Vfont2 →
+      Is (f .bitmaps + addressAt s (entryAt (f .entries) g)) (sizeAt s (entryAt (f .entries) g)) (rowsAt s (entryAt (f .entries) g)) (colsAt s (entryAt (f .entries) g))
+  vfont2-bitmap k = rw k (refl, refl, refl, refl)
+
+module _ (s : List ℕ) (y : Bytes s) (f : Font) (sound : checkOf s ≡ Sound f) (g : ℕ) (l : g < f .count) where
   -- no entry of a sound font breaks a rule
-  pub no-entry-breaks : f .kind ≡ Vfont2 → (g : ℕ) → g < f .count → Breaks s (f .size) (entryAt (f .entries) g) → ⊥
-  no-entry-breaks = unbroken s f y sound
+  pub no-entry-breaks : f .kind ≡ Vfont2 → Breaks s (f .size) (entryAt (f .entries) g) → ⊥
+  no-entry-breaks k = unbroken s f y sound k g l
 
-  -- a glyph's bitmap stands in the file and has the bytes of its rows
-  pub found-inside : (g : ℕ) → Has s f g → Inside s (bitmapIn s f g (f .kind))
-  found-inside g h = subst (LocatedInside s) (located-has s y f sound g h) (located-inside s f g (is-placed s f y sound) (h .0))
+  module _ (n : NoGlyph s f g (f .kind) → ⊥) where
+    -- a glyph's bytes stand in the file
+    pub glyph-inside : bitmapIn s f g (f .kind) .start + bitmapIn s f g (f .kind) .len ≤ length s
+    glyph-inside = bitmap-inside s y f sound g l n .0
 
-  module _ (g : ℕ) where
-    asked : glyphPartOf s g ≡ wholeOf (bitmapOf s f g)
-    unfolding glyphPartOf
-    asked = rw sound
+    -- "The bitmap for a glyph is stored as height consecutive pixel rows": they are its rows, end to end
+    pub rows-end-to-end : viewOf s (glyphPartOf s g) ≡ joined (λ (i : ℕ). viewOf s (rowPartOf s g i)) 0 (bitmapIn s f g (f .kind) .height)
+    rows-end-to-end = rows-whole s y f sound g l n
 
-    -- a glyph's part: ASK exactly when the glyph number is too high
-    pub ask-exactly : (glyphPartOf s g ≡ NoPart (refusal Ask 0)) ↔ (f .count ≤ g)
-    ask-exactly = ask-high s y f sound g partNumber NoPart (λ r. refl) wholeOf (λ r. refl) _ asked (λ z. omega arith)
-
-    -- NO GLYPH exactly when it is the number of a vfont2 entry of size 0
-    pub no-glyph-exactly : (glyphPartOf s g ≡ NoPart (refusal NoGlyph 0)) ↔ Missing s f g
-    no-glyph-exactly = no-glyph s y f sound g partNumber NoPart (λ r. refl) wholeOf (λ r. refl) _ asked (λ z. omega arith)
-
-    -- every other glyph has a part, its bitmap's
-    pub found-exactly : (p l : ℕ) → (glyphPartOf s g ≡ At p l) ↔ (Has s f g × ((bitmapIn s f g (f .kind) .start ≡ p) × (bitmapIn s f g (f .kind) .len ≡ l)))
-    found-exactly p l = gives s y f sound g partNumber NoPart (λ r. refl) wholeOf (λ r. refl) _ asked (At p l) refl _ (part-is (bitmapIn s f g (f .kind)) p l)
-
-    asked-metrics : glyphMetricsOf s g ≡ metricsOf s f g (bitmapOf s f g)
-    unfolding glyphMetricsOf
-    asked-metrics = rw sound
-
-    -- its metrics: the same refusals
-    pub metrics-ask-exactly : (glyphMetricsOf s g ≡ NoMetrics (refusal Ask 0)) ↔ (f .count ≤ g)
-    metrics-ask-exactly = ask-high s y f sound g metricsNumber NoMetrics (λ r. refl) (metricsOf s f g) (λ r. refl) _ asked-metrics (λ z. omega arith)
-
-    pub metrics-no-glyph-exactly : (glyphMetricsOf s g ≡ NoMetrics (refusal NoGlyph 0)) ↔ Missing s f g
-    metrics-no-glyph-exactly = no-glyph s y f sound g metricsNumber NoMetrics (λ r. refl) (metricsOf s f g) (λ r. refl) _ asked-metrics (λ z. omega arith)
-
-    -- and else what the kind says: its entry's five numbers, or (height, 0, 0, width, width)
-    pub metrics-exactly : (m : Metrics) → (glyphMetricsOf s g ≡ Is m) ↔ (Has s f g × (kindMetrics s f g (f .kind) ≡ m))
-    metrics-exactly m =
-        gives s y f sound g metricsNumber NoMetrics (λ r. refl) (metricsOf s f g) (λ r. refl) _ asked-metrics (Is m) refl _ (same-metrics _ m, λ e. ap Is e)
-
-  module _ (g i : ℕ) where
-    asked-row : rowPartOf s g i ≡ rowOf (bitmapOf s f g) i
-    unfolding rowPartOf
-    asked-row = rw sound
-
-    -- row i of a glyph: NO GLYPH as before; ASK exactly when the glyph number is too high, or the row number of a glyph that has a bitmap
-    pub row-no-glyph-exactly : (rowPartOf s g i ≡ NoPart (refusal NoGlyph 0)) ↔ Missing s f g
-    row-no-glyph-exactly = no-glyph s y f sound g partNumber NoPart (λ r. refl) (λ b. rowOf b i) (λ r. refl) _ asked-row (row-no-other (bitmapIn s f g (f .kind)) i)
-
-    pub row-ask-exactly : (rowPartOf s g i ≡ NoPart (refusal Ask 0)) ↔ ((f .count ≤ g) ⊎ (Has s f g × (bitmapIn s f g (f .kind) .height ≤ i)))
-    row-ask-exactly = ask s y f sound g partNumber NoPart (λ r. refl) (λ b. rowOf b i) (λ r. refl) _ asked-row _ (row-past (bitmapIn s f g (f .kind)) i)
-
-    -- every other row has a part
-    pub row-exactly : (p l : ℕ) →
-        (rowPartOf s g i ≡ At p l) ↔
-        (Has s f g × ((i < bitmapIn s f g (f .kind) .height) × (rowStart (bitmapIn s f g (f .kind)) i ≡ p) × (rowBytes (bitmapIn s f g (f .kind) .width) ≡ l)))
-    row-exactly p l = gives s y f sound g partNumber NoPart (λ r. refl) (λ b. rowOf b i) (λ r. refl) _ asked-row (At p l) refl _ (row-is (bitmapIn s f g (f .kind)) i p l)
-
-  module _ (g i j : ℕ) where
-    asked-pixel : pixelAt s g i j ≡ pixelOf s (bitmapOf s f g) i j
-    unfolding pixelAt
-    asked-pixel = rw sound
-
-    -- the pixel in row i and column j of a glyph
-    pub pixel-no-glyph-exactly : (pixelAt s g i j ≡ NoPixel (refusal NoGlyph 0)) ↔ Missing s f g
-    pixel-no-glyph-exactly =
-        no-glyph s y f sound g pixelNumber NoPixel (λ r. refl) (λ b. pixelOf s b i j) (λ r. refl) _ asked-pixel (pixel-no-other s (bitmapIn s f g (f .kind)) i j)
-
-    pub pixel-ask-exactly :
-        (pixelAt s g i j ≡ NoPixel (refusal Ask 0)) ↔
-        ((f .count ≤ g) ⊎ (Has s f g × ((bitmapIn s f g (f .kind) .height ≤ i) ⊎ (bitmapIn s f g (f .kind) .width ≤ j))))
-    pixel-ask-exactly = ask s y f sound g pixelNumber NoPixel (λ r. refl) (λ b. pixelOf s b i j) (λ r. refl) _ asked-pixel _ (pixel-out s (bitmapIn s f g (f .kind)) i j)
-
-    pub pixel-exactly : (v : ℕ) →
-        (pixelAt s g i j ≡ Bit v) ↔
-        (Has s f g × ((i < bitmapIn s f g (f .kind) .height) × (j < bitmapIn s f g (f .kind) .width) × (pixelIn s (bitmapIn s f g (f .kind)) i j ≡ v)))
-    pixel-exactly v =
-        gives s y f sound g pixelNumber NoPixel (λ r. refl) (λ b. pixelOf s b i j) (λ r. refl) _ asked-pixel (Bit v) refl _ (pixel-is s (bitmapIn s f g (f .kind)) i j v)
+    -- "Pixels run left to right from the top bit of a row's first byte; 1 is drawn": pixel j of row i is bit j of that row, from the top
+    pub pixel-of-row : (i j : ℕ) → i < bitmapIn s f g (f .kind) .height → j < bitmapIn s f g (f .kind) .width →
+        pixelSays (pixelAt s g i j) ≡ gives (bitOf (getD (viewOf s (rowPartOf s g i)) (j / 8) 0) (j % 8))
+    pixel-of-row = pixel-of s y f sound g l n

@@ -3,10 +3,10 @@ use mathlib.Core.Path.{_≡_, refl, sym, _∙_, ap, subst}
 use mathlib.Core.Logic.{_⊎_, inl, inr}
 use mathlib.Core.Bool.{Bool, true, false}
 use mathlib.Core.List.{List, []}
-use Prim.Native.Nat.{ℕ, _*_, _≤_, _<_}
+use Prim.Native.Nat.{ℕ, _+_, _*_, _≤_, _<_}
 use native.Mathlib.Omega.{arith}
 use lib.ListN.{length, take, drop}
-use lib.Seq.{take-at, drop-at}
+use lib.Seq.{take-at, drop-at, drop-drop}
 use Rattle.base.specs.Meaning.{Bytes}
 use Rattle.base.specs.Reading.{over}
 use Rattle.base.proofs.Parts.{bytes-drop}
@@ -14,13 +14,15 @@ use Rattle.base.proofs.Tests.{below}
 use Rattle.refusal.specs.declared.Refusal.{Refusal}
 use Rattle.coding.specs.declared.Coding.the-variants.{Utf8, Ucs2}
 use Rattle.table.specs.Meaning.{Desc, encode, Readable}
+use Rattle.table.specs.Reading.{itemsIn}
+use Rattle.table.proofs.Meaning.{items-read}
 use Rattle.transcode.specs.declared.Measured.the-variants.{Length}
 use Rattle.transcode.proofs.Meaning.{recoded-table}
 use Rattle.header.specs.declared.Kind.{Kind}
 use Rattle.header.specs.declared.Kind.the-variants.{Vfont2}
 use Rattle.header.specs.declared.Font.{Font}
 use Rattle.header.specs.declared.Checked.the-variants.{Sound}
-use Rattle.header.specs.Meaning.{limit, glyphBytes, charSize, headerLen}
+use Rattle.header.specs.Meaning.{limit, rowBytes, glyphBytes, charSize, headerLen}
 use Rattle.entries.specs.Meaning.{entryAt, addressAt}
 use Rattle.bitmap.specs.declared.Bitmap.{Bitmap}
 use Rattle.bitmap.specs.declared.Located.{Located}
@@ -28,13 +30,15 @@ use Rattle.bitmap.specs.declared.Located.the-variants.{Found}
 use Rattle.bitmap.specs.declared.GlyphMetrics.the-variants.{Is}
 use Rattle.bitmap.specs.declared.Pixel.the-variants.{Bit}
 use Rattle.bitmap.specs.Meaning.{evenMetrics}
-use Rattle.bitmap.specs.Reading.{bitmapOf, wholeOf, pixelOf, metricsOf, viewOf}
-use Rattle.bitmap.proofs.Places.{too-high, pixel-in, pixel-past, pixel-below}
+use Rattle.bitmap.specs.Reading.{bitmapOf, wholeOf, rowOf, pixelOf, metricsOf, viewOf}
+use Rattle.bitmap.proofs.Places.{too-high, row-in, row-below, pixel-in, pixel-past, pixel-below}
 use Rattle.layout.specs.Reading.{evenly, fieldAt20, glyphsIn}
 use Rattle.stages.specs.Meaning.{codingOf, tailOf}
 use Rattle.stages.specs.Reading.{checkOf}
+use Rattle.questions.specs.Reading.{fontItems}
 use Rattle.content.specs.Meaning.{bitmapIn, Plain}
-use Rattle.content.proofs.Tails.{Tail, tail-known}
+use Rattle.content.proofs.Stretches.{part-of-take, nth-within}
+use Rattle.content.proofs.Tails.{tail-known}
 use Rattle.content.proofs.Tables.{Carries, recoded-carries, same-carries}
 use Rattle.content.proofs.Headers.{written-is}
 use Rattle.content.proofs.Shapes.{KindShape, GlyphIs}
@@ -57,15 +61,9 @@ use Rattle.convert.specs.declared.Converted.the-variants.{Wrote as Written, Ref
 use Rattle.convert.specs.Reading.{convertedOf, convertedInto}
 use Rattle.convert.proofs.Cases.{unprepared, no-room, wrote}
 use Rattle.convert.proofs.Asks.{ready, ready-even, ready-long}
-use Rattle.laws.specs.Meaning.{Reads, Keeps}
-
--- the descriptions of a sound font
-tail-reads : (s : List ℕ) (f : Font) (t : Bool) → Tail t (codingOf (f .kind)) (f .count) (tailOf s f) → (ds : List Desc) × Reads s f ds
-tail-reads s f true v = (v .reading, (v .values, v .same))
-tail-reads s f false v = ([], (tt, v))
-
-pub has-reading : (s : List ℕ) (f : Font) → Bytes s → checkOf s ≡ Sound f → (ds : List Desc) × Reads s f ds
-has-reading s f y e = tail-reads s f (f .table) (tail-known s f y e)
+use Rattle.laws.specs.Meaning.{Keeps}
+use Rattle.laws.proofs.Asking.{described, read-as, itemWith, item-asked, valueWith, value-asked, sequenceWith, sequence-asked}
+use Rattle.laws.proofs.Located.{part-asked, row-asked, pixel-asked, metrics-asked}
 
 -- a table of descriptions is written as the same descriptions in the target's coding
 pub table-encodes : (c : Conversion) (tl : List ℕ) (ds : List Desc) → Readable (codingOf (sourceKind c)) ds → tl ≡ encode (codingOf (sourceKind c)) ds →
@@ -104,6 +102,22 @@ pixels-alike s o p q h w hp hq wp wq e y x = go (below y h) (below x w)
         ∙ sym (pixel-in o q y x (omega (arith, a, hq)) (omega (arith, b, wq)))
     go (inl a) (inr b) = pixel-past s p y x (omega (arith, a, hp)) (omega (arith, b, wp)) ∙ sym (pixel-past o q y x (omega (arith, a, hq)) (omega (arith, b, wq)))
     go (inr a) b = sym (pixel-below s p y x (omega (arith, a, hp))) ∙ pixel-below o q y x (omega (arith, a, hq))
+
+-- and their rows have the same bytes
+rows-alike : (s o : List ℕ) (p q : Bitmap) (h w : ℕ) → p .height ≡ h → q .height ≡ h → p .width ≡ w → q .width ≡ w →
+    take (glyphBytes h w) (drop (p .start) s) ≡ take (glyphBytes h w) (drop (q .start) o) → (i : ℕ) → viewOf s (rowOf (Found p) i) ≡ viewOf o (rowOf (Found q) i)
+unfolding glyphBytes
+rows-alike s o p q h w hp hq wp wq e i = go (below i h)
+  where
+    row-of : (l : List ℕ) (b : Bitmap) → b .height ≡ h → b .width ≡ w → i < h → viewOf l (rowOf (Found b) i) ≡ take (rowBytes w) (drop (i * rowBytes w) (take (h * rowBytes w) (drop (b .start) l)))
+    row-of l b eh ew a =
+        ap (viewOf l) (row-in b i (omega (arith, a, eh))) ∙ ap (λ (v : ℕ). take (rowBytes v) (drop (b .start + i * rowBytes v) l)) ew
+        ∙ ap (take (rowBytes w)) (sym (drop-drop (i * rowBytes w) (b .start) l))
+        ∙ sym (part-of-take (rowBytes w) (i * rowBytes w) (h * rowBytes w) (drop (b .start) l) (nth-within i h (rowBytes w) a))
+
+    go : (i < h) ⊎ (h ≤ i) → viewOf s (rowOf (Found p) i) ≡ viewOf o (rowOf (Found q) i)
+    go (inl a) = row-of s p hp wp a ∙ ap (λ (x : List ℕ). take (rowBytes w) (drop (i * rowBytes w) x)) e ∙ sym (row-of o q hq wq a)
+    go (inr a) = ap (viewOf s) (sym (row-below p i (omega (arith, a, hp)))) ∙ ap (viewOf o) (row-below q i (omega (arith, a, hq)))
 
 module _ (c : Conversion) (s : List ℕ) (f : Font) (n : ℕ) (y : Bytes s) (e : preparedOf c s ≡ Ready f n) where
   abbrev tl : List ℕ
@@ -195,6 +209,12 @@ module _ (c : Conversion) (s : List ℕ) (f : Font) (n : ℕ) (y : Bytes s) (e :
         ∙ pixels-alike o s (bitmapIn o f' g (f' .kind)) (bitmapIn s f g (f .kind)) (f .height) (f .width) (is .0 .2) (was .0 .2) (is .0 .3) (was .0 .3) (is .2 ∙ sym (was .2)) i j
         ∙ sym (ap (λ (b : Located). pixelOf s b i j) (located s f y is-sound g l (f .height) (f .width) part was))
 
+    rows-kept : (i : ℕ) → viewOf o (rowOf (bitmapOf o f' g) i) ≡ viewOf s (rowOf (bitmapOf s f g) i)
+    rows-kept i =
+        ap (λ (b : Located). viewOf o (rowOf b i)) (located o f' out-bytes out-sound g below-out (f .height) (f .width) part is)
+        ∙ rows-alike o s (bitmapIn o f' g (f' .kind)) (bitmapIn s f g (f .kind)) (f .height) (f .width) (is .0 .2) (was .0 .2) (is .0 .3) (was .0 .3) (is .2 ∙ sym (was .2)) i
+        ∙ sym (ap (λ (b : Located). viewOf s (rowOf b i)) (located s f y is-sound g l (f .height) (f .width) part was))
+
   -- and those that neither has
   glyph-any : (g : ℕ) → (g < f .count) ⊎ (f .count ≤ g) → viewOf o (wholeOf (bitmapOf o f' g)) ≡ viewOf s (wholeOf (bitmapOf s f g))
   glyph-any g (inl l) = glyph-kept g l
@@ -206,14 +226,25 @@ module _ (c : Conversion) (s : List ℕ) (f : Font) (n : ℕ) (y : Bytes s) (e :
   pixels-any g (inr h) i j =
       ap (λ (b : Located). pixelOf o b i j) (sym (too-high o f' g (omega (arith, h, out-is .1)))) ∙ ap (λ (b : Located). pixelOf s b i j) (too-high s f g h)
 
+  rows-any : (g : ℕ) → (g < f .count) ⊎ (f .count ≤ g) → (i : ℕ) → viewOf o (rowOf (bitmapOf o f' g) i) ≡ viewOf s (rowOf (bitmapOf s f g) i)
+  rows-any g (inl l) i = rows-kept g l i
+  rows-any g (inr h) i =
+      ap (λ (b : Located). viewOf o (rowOf b i)) (sym (too-high o f' g (omega (arith, h, out-is .1)))) ∙ ap (λ (b : Located). viewOf s (rowOf b i)) (too-high s f g h)
+
   metrics-any : (g : ℕ) → (g < f .count) ⊎ (f .count ≤ g) → metricsOf o f' g (bitmapOf o f' g) ≡ metricsOf s f g (bitmapOf s f g)
   metrics-any g (inl l) = metrics-kept g l
   metrics-any g (inr h) = ap (metricsOf o f' g) (sym (too-high o f' g (omega (arith, h, out-is .1)))) ∙ ap (metricsOf s f g) (too-high s f g h)
 
-  reading-kept : (ds : List Desc) → Reads s f ds → Reads o f' ds
-  reading-kept ds r =
+  -- its table has the same items
+  items-kept : fontItems o f' ≡ fontItems s f
+  items-kept =
+      let w = described s f y is-sound in
+      let ds = w .0 in
+      let r = read-as s f y is-sound ds (w .1) in
       let x = carried .reading ds (r .0) (r .1) in
-      subst (λ (k : Kind). Readable (codingOf k) ds × (tailOf o f' ≡ encode (codingOf k) ds)) (sym (out-is .0)) (x .0, out-tail ∙ x .1)
+      let z : Readable (codingOf (f' .kind)) ds × (tl ≡ encode (codingOf (f' .kind)) ds) = subst (λ (k : Kind). Readable (codingOf k) ds × (tl ≡ encode (codingOf k) ds)) (sym (out-is .0)) x in
+      ap (itemsIn (codingOf (f' .kind))) (out-tail ∙ z .1) ∙ items-read (codingOf (f' .kind)) ds (z .0)
+      ∙ sym (ap (itemsIn (codingOf (f .kind))) (r .1) ∙ items-read (codingOf (f .kind)) ds (r .0))
 
   -- it keeps what the font has
   pub output-keeps : Keeps s f (outputOf c s f) (targetKind c)
@@ -225,10 +256,13 @@ module _ (c : Conversion) (s : List ℕ) (f : Font) (n : ℕ) (y : Bytes s) (e :
     height = out-is .2;
     width = out-width;
     table = out-is .3;
-    glyphs = λ g. glyph-any g (below g (f .count));
-    pixels = λ g i j. pixels-any g (below g (f .count)) i j;
-    metrics = λ g. metrics-any g (below g (f .count));
-    reading = reading-kept;
+    glyphs = λ g. ap (viewOf o) (part-asked o f' out-sound g) ∙ glyph-any g (below g (f .count)) ∙ sym (ap (viewOf s) (part-asked s f is-sound g));
+    rows = λ g i. ap (viewOf o) (row-asked o f' out-sound g i) ∙ rows-any g (below g (f .count)) i ∙ sym (ap (viewOf s) (row-asked s f is-sound g i));
+    pixels = λ g i j. pixel-asked o f' out-sound g i j ∙ pixels-any g (below g (f .count)) i j ∙ sym (pixel-asked s f is-sound g i j);
+    metrics = λ g. metrics-asked o f' out-sound g ∙ metrics-any g (below g (f .count)) ∙ sym (metrics-asked s f is-sound g);
+    walks = λ g k. item-asked o f' out-sound g k ∙ (λ i. itemWith (out-is .3 i) g k (items-kept i)) ∙ sym (item-asked s f is-sound g k);
+    values = λ v. value-asked o f' out-sound v ∙ (λ i. valueWith (out-is .3 i) v (items-kept i)) ∙ sym (value-asked s f is-sound v);
+    sequences = λ vs. sequence-asked o f' out-sound vs ∙ (λ i. sequenceWith (out-is .3 i) vs (items-kept i)) ∙ sym (sequence-asked s f is-sound vs);
     content = rewritten-content s f y is-sound (ready-even c s f n y e) (targetKind c) tl shape carried short;
   })
 
@@ -275,11 +309,12 @@ module _ (c d : Conversion) (s : List ℕ) (f : Font) (n : ℕ) (y : Bytes s) (e
   -- the table is the one that it was
   table-back : tableIn d (tableIn c (tailOf s f)) ≡ tailOf s f
   table-back =
-      let r = has-reading s f y (is-sound c s f n y e) in
-      let ds = r .0 in
+      let w = described s f y (is-sound c s f n y e) in
+      let ds = w .0 in
+      let r = read-as s f y (is-sound c s f n y e) ds (w .1) in
       let from : Readable (codingOf (sourceKind c)) ds × (tailOf s f ≡ encode (codingOf (sourceKind c)) ds) =
-      subst (λ (j : Kind). Readable (codingOf j) ds × (tailOf s f ≡ encode (codingOf j) ds)) (is-source c s f n y e) (r .1) in
-      let x : Readable (codingOf (targetKind c)) ds × (tableIn c (tailOf s f) ≡ encode (codingOf (targetKind c)) ds) = carried c s f n y e .reading ds (r .1 .0) (r .1 .1) in
+      subst (λ (j : Kind). Readable (codingOf j) ds × (tailOf s f ≡ encode (codingOf j) ds)) (is-source c s f n y e) r in
+      let x : Readable (codingOf (targetKind c)) ds × (tableIn c (tailOf s f) ≡ encode (codingOf (targetKind c)) ds) = carried c s f n y e .reading ds (r .0) (r .1) in
       let z : Readable (codingOf (sourceKind d)) ds × (tableIn c (tailOf s f) ≡ encode (codingOf (sourceKind d)) ds) =
       subst (λ (j : Kind). Readable (codingOf j) ds × (tableIn c (tailOf s f) ≡ encode (codingOf j) ds)) meets x in
       table-encodes d (tableIn c (tailOf s f)) ds (z .0) (z .1) ∙ ap (λ (j : Kind). encode (codingOf j) ds) same ∙ sym (from .1)
@@ -313,9 +348,12 @@ keeps-twice s o p f g j k a e b =
       width = b .width ∙ a .width;
       table = b .table ∙ a .table;
       glyphs = λ g. b .glyphs g ∙ a .glyphs g;
+      rows = λ g i. b .rows g i ∙ a .rows g i;
       pixels = λ g y x. b .pixels g y x ∙ a .pixels g y x;
       metrics = λ g. b .metrics g ∙ a .metrics g;
-      reading = λ ds r. b .reading ds (a .reading ds r);
+      walks = λ g k. b .walks g k ∙ a .walks g k;
+      values = λ v. b .values v ∙ a .values v;
+      sequences = λ vs. b .sequences vs ∙ a .sequences vs;
       content = λ m h. b .content m (a .content m h);
     }
 

@@ -1,14 +1,14 @@
--- What the public calls mean. To read first: Rows (refusals 1 to 12), Tables (demand 3), Questions and Bitmaps (the other refusals of a
--- question), Conversions.
-pub mod Rows
+-- What the public calls mean.
+pub mod Check
 pub mod Tables
 pub mod Questions
 pub mod Bitmaps
 pub mod Conversions
-pub mod Answers
-pub mod Deciding
-pub mod Tails
-pub mod Reading
-pub mod Located
-pub mod Converting
-pub mod Refusing
+mod Exactly
+mod Deciding
+mod Tails
+mod Asking
+mod Reading
+mod Located
+mod Converting
+mod Refusing

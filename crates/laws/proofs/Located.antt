@@ -1,174 +1,176 @@
--- The steps from the bitmap questions to where a glyph's bitmap stands (Bitmaps says what is shown).
-use mathlib.Core.Path.{_≡_, sym, _∙_, ap}
-use mathlib.Core.Logic.{_↔_, _⊎_, inl, inr}
-use mathlib.Core.List.{List}
-use Prim.Native.Nat.{ℕ, _≤_, _<_}
+-- The steps from the bitmap questions on any bytes to where a glyph's bitmap stands (Bitmaps says what is shown).
+use mathlib.Core.Path.{_≡_, refl, sym, _∙_, ap, subst}
+use mathlib.Core.Logic.{_⊎_, inl, inr}
+use mathlib.Core.List.{List, _++_}
+use Prim.Native.Nat.{ℕ, zero, suc, _+_, _*_, _/_, _%_, _≤_, _<_}
 use native.Mathlib.Omega.{arith}
+use native.Mathlib.Nat.{suc-mul, add-comm}
+use lib.ListN.{getD, take, drop}
+use lib.Seq.{take-add, drop-drop}
 use Rattle.base.specs.Meaning.{Bytes}
-use Rattle.base.proofs.Tests.{below, same}
-use Rattle.refusal.specs.Meaning.{refusal, numberOf}
+use Rattle.base.proofs.Tests.{same}
+use Rattle.refusal.specs.Meaning.{refusal}
 use Rattle.refusal.specs.declared.Reason.the-variants.{Ask, NoGlyph}
 use Rattle.refusal.specs.declared.Refusal.{Refusal}
 use Rattle.header.specs.declared.Kind.{Kind}
 use Rattle.header.specs.declared.Kind.the-variants.{Psf1, Psf2, Vfont2}
 use Rattle.header.specs.declared.Font.{Font}
-use Rattle.header.specs.declared.Checked.the-variants.{Sound}
-use Rattle.header.specs.Meaning.{rowBytes}
+use Rattle.header.specs.declared.Checked.the-variants.{Sound, Refused}
+use Rattle.header.specs.Meaning.{rowBytes, glyphBytes}
 use Rattle.entries.specs.Meaning.{entryAt, sizeAt}
 use Rattle.bitmap.specs.declared.Bitmap.{Bitmap}
 use Rattle.bitmap.specs.declared.Located.{Located}
 use Rattle.bitmap.specs.declared.Located.the-variants.{Found, Refused as NotLocated}
+use Rattle.bitmap.specs.declared.Part.{Part}
 use Rattle.bitmap.specs.declared.Part.the-variants.{At, Refused as NoPart}
+use Rattle.bitmap.specs.declared.Pixel.{Pixel}
 use Rattle.bitmap.specs.declared.Pixel.the-variants.{Bit, Refused as NoPixel}
-use Rattle.bitmap.specs.Meaning.{rowStart, pixelIn}
-use Rattle.bitmap.specs.Reading.{bitmapOf, wholeOf, rowOf, pixelOf}
-use Rattle.bitmap.proofs.Places.{too-high, row-in, row-below, pixel-in, pixel-past, pixel-below}
+use Rattle.bitmap.specs.declared.GlyphMetrics.the-variants.{Refused as NoMetrics}
+use Rattle.bitmap.specs.Meaning.{kindMetrics, rowStart, bitOf, pixelIn}
+use Rattle.bitmap.specs.Reading.{bitmapOf, wholeOf, rowOf, pixelOf, metricsOf, viewOf}
+use Rattle.bitmap.specs.Bounds.{Inside, LocatedInside}
+use Rattle.bitmap.proofs.Places.{too-high, row-in, row-below, pixel-in, pixel-past, pixel-below, located-inside}
 use Rattle.content.specs.Meaning.{bitmapIn, NoGlyph as Without}
 use Rattle.content.proofs.Found.{glyph-found, glyph-missing}
+use Rattle.content.proofs.Source.{is-placed}
+use Rattle.content.proofs.Stretches.{byte-of-part}
 use Rattle.stages.specs.Reading.{checkOf}
-use Rattle.laws.specs.Meaning.{Missing, Has}
-use Rattle.laws.proofs.Answers.{clash, partNumber, pixelNumber}
+use Rattle.fonts.specs.Reading.{glyphPartOf, rowPartOf, pixelAt, glyphMetricsOf}
+use Rattle.laws.specs.Meaning.{Said, gives, refuses, told, partSays, pixelSays, metricsSays, GlyphRows, GlyphPartRows, RowPartRows, PixelRows, MetricsRows, joined}
+use Rattle.laws.proofs.Exactly.{Exact, is, row, own-first, moved, less, at-most, either}
 
--- every number is one too high, that of a glyph without a bitmap, or that of one with a bitmap
-module _ (s : List ℕ) (f : Font) (g : ℕ) where
-  glyph-or-none : (k : Kind) → Without s f g k ⊎ (Without s f g k → ⊥)
-  glyph-or-none Psf1 = inr (λ n. n)
-  glyph-or-none Psf2 = inr (λ n. n)
-  glyph-or-none Vfont2 = same (sizeAt s (entryAt (f .entries) g)) 0
-
-  which : (f .count ≤ g) ⊎ (Missing s f g ⊎ Has s f g)
-  which = go (below g (f .count)) (glyph-or-none (f .kind))
-    where
-      go : (g < f .count) ⊎ (f .count ≤ g) → Without s f g (f .kind) ⊎ (Without s f g (f .kind) → ⊥) → (f .count ≤ g) ⊎ (Missing s f g ⊎ Has s f g)
-      go (inl l) (inl n) = inr (inl (l, n))
-      go (inl l) (inr n) = inr (inr (l, n))
-      go (inr h) n = inl h
-
--- the last is found where it stands
-pub located-has : (s : List ℕ) (y : Bytes s) (f : Font) → checkOf s ≡ Sound f → (g : ℕ) → Has s f g → bitmapOf s f g ≡ Found (bitmapIn s f g (f .kind))
-located-has s y f sound g h = glyph-found s f y sound g (h .0) (h .1)
+-- whether a number below the count is that of a glyph without a bitmap
+glyph-or-none : (s : List ℕ) (f : Font) (g : ℕ) (k : Kind) → Without s f g k ⊎ (Without s f g k → ⊥)
+glyph-or-none s f g Psf1 = inr (λ n. n)
+glyph-or-none s f g Psf2 = inr (λ n. n)
+glyph-or-none s f g Vfont2 = same (sizeAt s (entryAt (f .entries) g)) 0
 
 -- a question x on where glyph g's bitmap stands, which hands a refusal on
-module _ (s : List ℕ) (y : Bytes s) (f : Font) (sound : checkOf s ≡ Sound f) (g : ℕ) {A : Type 0} (number : A → ℕ) (refuse : Refusal → A)
-    (told : (r : Refusal) → number (refuse r) ≡ numberOf (r .reason)) (answer : Located → A) (hands : (r : Refusal) → answer (NotLocated r) ≡ refuse r) (x : A)
-    (asks : x ≡ answer (bitmapOf s f g)) where
-  at-high : f .count ≤ g → x ≡ refuse (refusal Ask 0)
-  at-high h = asks ∙ ap answer (sym (too-high s f g h)) ∙ hands _
+module _ (s : List ℕ) (y : Bytes s) (g : ℕ) {A : Type 0} {rest : Font → Said A → Type 0} (x : Said A) (answer : Font → Located → Said A)
+    (hands : (f : Font) (r : Refusal) → answer f (NotLocated r) ≡ told r) (stops : (r : Refusal) → checkOf s ≡ Refused r → x ≡ told r)
+    (asks : (f : Font) → checkOf s ≡ Sound f → x ≡ answer f (bitmapOf s f g))
+    (goes : (f : Font) → checkOf s ≡ Sound f → Exact (answer f (Found (bitmapIn s f g (f .kind)))) (rest f)) where
+  pub glyph-rows : Exact x (GlyphRows s g rest)
+  glyph-rows =
+      own-first s stops (λ f e.
+      row (at-most (f .count) g) (λ h. asks f e ∙ ap (answer f) (sym (too-high s f g h)) ∙ hands f _) (λ h.
+      let l : g < f .count = omega arith in
+      row (glyph-or-none s f g (f .kind)) (λ m. asks f e ∙ ap (answer f) (glyph-missing s f y e g l m) ∙ hands f _) (λ n.
+      moved x _ (asks f e ∙ ap (answer f) (glyph-found s f y e g l n)) (goes f e))))
 
-  at-missing : Missing s f g → x ≡ refuse (refusal NoGlyph 0)
-  at-missing m = asks ∙ ap answer (glyph-missing s f y sound g (m .0) (m .1)) ∙ hands _
+-- the four questions, on a sound font and on any other
+module _ (s : List ℕ) (f : Font) (sound : checkOf s ≡ Sound f) where
+  pub part-asked : (g : ℕ) → glyphPartOf s g ≡ wholeOf (bitmapOf s f g)
+  unfolding glyphPartOf
+  part-asked g = rw sound
 
-  at-has : Has s f g → x ≡ answer (Found (bitmapIn s f g (f .kind)))
-  at-has h = asks ∙ ap answer (located-has s y f sound g h)
+  pub row-asked : (g i : ℕ) → rowPartOf s g i ≡ rowOf (bitmapOf s f g) i
+  unfolding rowPartOf
+  row-asked g i = rw sound
 
-  says : (r : Refusal) → x ≡ refuse r → number x ≡ numberOf (r .reason)
-  says r e = ap number e ∙ told r
+  pub pixel-asked : (g i j : ℕ) → pixelAt s g i j ≡ pixelOf s (bitmapOf s f g) i j
+  unfolding pixelAt
+  pixel-asked g i j = rw sound
 
-  -- NO GLYPH, where no bitmap answers so
-  pub no-glyph : (number (answer (Found (bitmapIn s f g (f .kind)))) ≡ 16 → ⊥) → (x ≡ refuse (refusal NoGlyph 0)) ↔ Missing s f g
-  no-glyph n = (λ e. there e (which s f g), at-missing)
+  pub metrics-asked : (g : ℕ) → glyphMetricsOf s g ≡ metricsOf s f g (bitmapOf s f g)
+  unfolding glyphMetricsOf
+  metrics-asked g = rw sound
+
+module _ (s : List ℕ) (r : Refusal) (refused : checkOf s ≡ Refused r) where
+  part-own : (g : ℕ) → glyphPartOf s g ≡ NoPart r
+  unfolding glyphPartOf
+  part-own g = rw refused
+
+  row-own : (g i : ℕ) → rowPartOf s g i ≡ NoPart r
+  unfolding rowPartOf
+  row-own g i = rw refused
+
+  pixel-own : (g i j : ℕ) → pixelAt s g i j ≡ NoPixel r
+  unfolding pixelAt
+  pixel-own g i j = rw refused
+
+  metrics-own : (g : ℕ) → glyphMetricsOf s g ≡ NoMetrics r
+  unfolding glyphMetricsOf
+  metrics-own g = rw refused
+
+module _ (s : List ℕ) (y : Bytes s) where
+  pub part-rows : (g : ℕ) → Exact (partSays (glyphPartOf s g)) (GlyphPartRows s g)
+  part-rows g =
+      glyph-rows s y g _ (λ f b. partSays (wholeOf b)) (λ f r. refl) (λ r e. ap partSays (part-own s r e g)) (λ f e. ap partSays (part-asked s f e g))
+      (λ f e. is _ _ refl)
+
+  pub metrics-rows : (g : ℕ) → Exact (metricsSays (glyphMetricsOf s g)) (MetricsRows s g)
+  metrics-rows g =
+      glyph-rows s y g _ (λ f b. metricsSays (metricsOf s f g b)) (λ f r. refl) (λ r e. ap metricsSays (metrics-own s r e g))
+      (λ f e. ap metricsSays (metrics-asked s f e g)) (λ f e. is _ _ refl)
+
+  pub row-rows : (g i : ℕ) → Exact (partSays (rowPartOf s g i)) (RowPartRows s g i)
+  row-rows g i =
+      glyph-rows s y g _ (λ f b. partSays (rowOf b i)) (λ f r. refl) (λ r e. ap partSays (row-own s r e g i)) (λ f e. ap partSays (row-asked s f e g i))
+      (λ f e.
+      let b = bitmapIn s f g (f .kind) in
+      row (at-most (b .height) i) (λ h. ap partSays (sym (row-below b i h))) (λ h. is _ _ (ap partSays (row-in b i (omega arith)))))
+
+  pub pixel-rows : (g i j : ℕ) → Exact (pixelSays (pixelAt s g i j)) (PixelRows s g i j)
+  pixel-rows g i j =
+      glyph-rows s y g _ (λ f b. pixelSays (pixelOf s b i j)) (λ f r. refl) (λ r e. ap pixelSays (pixel-own s r e g i j))
+      (λ f e. ap pixelSays (pixel-asked s f e g i j))
+      (λ f e.
+      let b = bitmapIn s f g (f .kind) in
+      row (either (at-most (b .height) i) (at-most (b .width) j)) (outside b) (λ h.
+      let u : b .height ≤ i → ⊥ = λ z. h (inl z) in
+      let v : b .width ≤ j → ⊥ = λ z. h (inr z) in
+      is _ _ (ap pixelSays (pixel-in s b i j (omega arith) (omega arith)))))
     where
-      there : x ≡ refuse (refusal NoGlyph 0) → (f .count ≤ g) ⊎ (Missing s f g ⊎ Has s f g) → Missing s f g
-      there e (inl h) = absurd (omega (arith, says _ e, says _ (at-high h)))
-      there e (inr (inl m)) = m
-      there e (inr (inr h)) = absurd (n (sym (ap number (at-has h)) ∙ says _ e))
+      beside : (b : Bitmap) → b .width ≤ j → (i < b .height) ⊎ ((i < b .height) → ⊥) → pixelSays (pixelOf s (Found b) i j) ≡ refuses 13 0
+      beside b w (inl l) = ap pixelSays (pixel-past s b i j l w)
+      beside b w (inr n) = ap pixelSays (sym (pixel-below s b i j (omega arith)))
 
-  -- ASK, where no bitmap answers so
-  pub ask-high : (number (answer (Found (bitmapIn s f g (f .kind)))) ≡ 13 → ⊥) → (x ≡ refuse (refusal Ask 0)) ↔ (f .count ≤ g)
-  ask-high n = (λ e. there e (which s f g), at-high)
-    where
-      there : x ≡ refuse (refusal Ask 0) → (f .count ≤ g) ⊎ (Missing s f g ⊎ Has s f g) → f .count ≤ g
-      there e (inl h) = h
-      there e (inr (inl m)) = absurd (omega (arith, says _ e, says _ (at-missing m)))
-      there e (inr (inr h)) = absurd (n (sym (ap number (at-has h)) ∙ says _ e))
+      outside : (b : Bitmap) → (b .height ≤ i) ⊎ (b .width ≤ j) → pixelSays (pixelOf s (Found b) i j) ≡ refuses 13 0
+      outside b (inl h) = ap pixelSays (sym (pixel-below s b i j h))
+      outside b (inr w) = beside b w (less i (b .height))
 
-  -- ASK, where a bitmap answers so exactly when P
-  pub ask : (P : Type 0) → (answer (Found (bitmapIn s f g (f .kind))) ≡ refuse (refusal Ask 0)) ↔ P → (x ≡ refuse (refusal Ask 0)) ↔ ((f .count ≤ g) ⊎ (Has s f g × P))
-  ask P p = (λ e. there e (which s f g), back)
-    where
-      there : x ≡ refuse (refusal Ask 0) → (f .count ≤ g) ⊎ (Missing s f g ⊎ Has s f g) → (f .count ≤ g) ⊎ (Has s f g × P)
-      there e (inl h) = inl h
-      there e (inr (inl m)) = absurd (omega (arith, says _ e, says _ (at-missing m)))
-      there e (inr (inr h)) = inr (h, p .0 (sym (at-has h) ∙ e))
+-- a glyph that has a bitmap
+module _ (s : List ℕ) (y : Bytes s) (f : Font) (sound : checkOf s ≡ Sound f) (g : ℕ) (l : g < f .count) (n : Without s f g (f .kind) → ⊥) where
+  abbrev b : Bitmap
+  b = bitmapIn s f g (f .kind)
 
-      back : (f .count ≤ g) ⊎ (Has s f g × P) → x ≡ refuse (refusal Ask 0)
-      back (inl h) = at-high h
-      back (inr (h, q)) = at-has h ∙ p .1 q
+  here : bitmapOf s f g ≡ Found b
+  here = glyph-found s f y sound g l n
 
-  -- an answer v, which a bitmap gives exactly when P
-  pub gives : (v : A) → number v ≡ 0 → (P : Type 0) → (answer (Found (bitmapIn s f g (f .kind))) ≡ v) ↔ P → (x ≡ v) ↔ (Has s f g × P)
-  gives v z P p = (λ e. there e (which s f g), λ (h, q). at-has h ∙ p .1 q)
-    where
-      there : x ≡ v → (f .count ≤ g) ⊎ (Missing s f g ⊎ Has s f g) → Has s f g × P
-      there e (inl h) = absurd (omega (arith, ap number e, z, says _ (at-high h)))
-      there e (inr (inl m)) = absurd (omega (arith, ap number e, z, says _ (at-missing m)))
-      there e (inr (inr h)) = (h, p .0 (sym (at-has h) ∙ e))
+  pub bitmap-inside : Inside s b
+  bitmap-inside = subst (LocatedInside s) here (located-inside s f g (is-placed s f y sound) l)
 
--- a bitmap's part
-same-part : (a c p l : ℕ) → At a c ≡ At p l → (a ≡ p) × (c ≡ l)
-same-part a c p l e = (cc, cc)
+  glyph-view : viewOf s (glyphPartOf s g) ≡ take (b .len) (drop (b .start) s)
+  glyph-view = ap (viewOf s) (part-asked s f sound g ∙ ap wholeOf here)
 
-part-same : (a c p l : ℕ) → a ≡ p → c ≡ l → At a c ≡ At p l
-part-same a c p l e q = cc
+  row-view : (i : ℕ) → i < b .height → viewOf s (rowPartOf s g i) ≡ take (rowBytes (b .width)) (drop (b .start + i * rowBytes (b .width)) s)
+  row-view i h = ap (viewOf s) (row-asked s f sound g i ∙ ap (λ (z : Located). rowOf z i) here ∙ row-in b i h)
 
-pub part-is : (b : Bitmap) (p l : ℕ) → (wholeOf (Found b) ≡ At p l) ↔ ((b .start ≡ p) × (b .len ≡ l))
-part-is b p l = (same-part _ _ p l, λ (e, q). part-same _ _ p l e q)
+  rows-joined : (k i : ℕ) → i + k ≤ b .height → take (k * rowBytes (b .width)) (drop (b .start + i * rowBytes (b .width)) s) ≡ joined (λ (j : ℕ). viewOf s (rowPartOf s g j)) i k
+  rows-joined zero i h = let z : 0 * rowBytes (b .width) ≡ 0 = omega arith in ap (λ (m : ℕ). take m (drop (b .start + i * rowBytes (b .width)) s)) z
+  rows-joined (suc k) i h =
+      let r = rowBytes (b .width) in
+      let a = b .start + i * rowBytes (b .width) in
+      let e : suc k * r ≡ r + k * r = suc-mul k r ∙ add-comm (k * r) r in
+      let z : a + r ≡ b .start + suc i * r = omega (arith, suc-mul i r) in
+      ap (λ (m : ℕ). take m (drop a s)) e ∙ take-add r (k * r) (drop a s)
+      ∙ ap (λ (q : List ℕ). q ++ take (k * r) (drop r (drop a s))) (sym (row-view i (omega arith)))
+      ∙ ap (λ (q : List ℕ). viewOf s (rowPartOf s g i) ++ take (k * r) q) (drop-drop r a s ∙ ap (λ (m : ℕ). drop m s) z)
+      ∙ ap (λ (q : List ℕ). viewOf s (rowPartOf s g i) ++ q) (rows-joined k (suc i) (omega arith))
 
--- its rows
-module _ (b : Bitmap) (y : ℕ) where
-  pub row-no-other : partNumber (rowOf (Found b) y) ≡ 16 → ⊥
-  row-no-other e = go (below y (b .height))
-    where
-      go : (y < b .height) ⊎ (b .height ≤ y) → ⊥
-      go (inl h) = omega (arith, e, ap partNumber (row-in b y h))
-      go (inr h) = omega (arith, e, ap partNumber (row-below b y h))
+  -- a glyph is its rows end to end
+  pub rows-whole : viewOf s (glyphPartOf s g) ≡ joined (λ (j : ℕ). viewOf s (rowPartOf s g j)) 0 (b .height)
+  unfolding glyphBytes
+  rows-whole =
+      let e : b .len ≡ b .height * rowBytes (b .width) = bitmap-inside .1 in
+      let z : b .start ≡ b .start + 0 * rowBytes (b .width) = omega arith in
+      glyph-view ∙ ap (λ (m : ℕ). take m (drop (b .start) s)) e ∙ ap (λ (m : ℕ). take (b .height * rowBytes (b .width)) (drop m s)) z
+      ∙ rows-joined (b .height) 0 (omega arith)
 
-  pub row-past : (rowOf (Found b) y ≡ NoPart (refusal Ask 0)) ↔ (b .height ≤ y)
-  row-past = (go (below y (b .height)), λ h. sym (row-below b y h))
-    where
-      go : (y < b .height) ⊎ (b .height ≤ y) → rowOf (Found b) y ≡ NoPart (refusal Ask 0) → b .height ≤ y
-      go (inl h) e = clash partNumber (sym (row-in b y h) ∙ e) (λ z. omega arith)
-      go (inr h) e = h
-
-  pub row-is : (p l : ℕ) → (rowOf (Found b) y ≡ At p l) ↔ ((y < b .height) × (rowStart b y ≡ p) × (rowBytes (b .width) ≡ l))
-  row-is p l = (go (below y (b .height)), λ (h, e, q). row-in b y h ∙ part-same _ _ p l e q)
-    where
-      go : (y < b .height) ⊎ (b .height ≤ y) → rowOf (Found b) y ≡ At p l → (y < b .height) × (rowStart b y ≡ p) × (rowBytes (b .width) ≡ l)
-      go (inl h) e = let q = same-part _ _ p l (sym (row-in b y h) ∙ e) in (h, q .0, q .1)
-      go (inr h) e = clash partNumber (row-below b y h ∙ e) (λ z. omega arith)
-
--- its pixels
-module _ (s : List ℕ) (b : Bitmap) (y x : ℕ) where
-  two : {P : Type 0} → (y < b .height → x < b .width → P) → (b .height ≤ y → P) → (y < b .height → b .width ≤ x → P) → P
-  two {P} f g h = go (below y (b .height)) (below x (b .width))
-    where
-      go : (y < b .height) ⊎ (b .height ≤ y) → (x < b .width) ⊎ (b .width ≤ x) → P
-      go (inl p) (inl q) = f p q
-      go (inl p) (inr q) = h p q
-      go (inr p) q = g p
-
-  pub pixel-no-other : pixelNumber (pixelOf s (Found b) y x) ≡ 16 → ⊥
-  pixel-no-other e =
-      two (λ h w. omega (arith, e, ap pixelNumber (pixel-in s b y x h w))) (λ h. omega (arith, e, ap pixelNumber (pixel-below s b y x h)))
-      (λ h w. omega (arith, e, ap pixelNumber (pixel-past s b y x h w)))
-
-  pub pixel-out : (pixelOf s (Found b) y x ≡ NoPixel (refusal Ask 0)) ↔ ((b .height ≤ y) ⊎ (b .width ≤ x))
-  pixel-out = (there, back)
-    where
-      there : pixelOf s (Found b) y x ≡ NoPixel (refusal Ask 0) → (b .height ≤ y) ⊎ (b .width ≤ x)
-      there e = two (λ h w. clash pixelNumber (sym (pixel-in s b y x h w) ∙ e) (λ z. omega arith)) (λ h. inl h) (λ h w. inr w)
-
-      back : (b .height ≤ y) ⊎ (b .width ≤ x) → pixelOf s (Found b) y x ≡ NoPixel (refusal Ask 0)
-      back (inl h) = sym (pixel-below s b y x h)
-      back (inr w) = two (λ h v. absurd (omega arith)) (λ h. sym (pixel-below s b y x h)) (λ h v. pixel-past s b y x h v)
-
-  pub pixel-is : (v : ℕ) → (pixelOf s (Found b) y x ≡ Bit v) ↔ ((y < b .height) × (x < b .width) × (pixelIn s b y x ≡ v))
-  pixel-is v = (there, λ (h, w, e). pixel-in s b y x h w ∙ ap Bit e)
-    where
-      same-bit : (a : ℕ) → Bit a ≡ Bit v → a ≡ v
-      same-bit a e = cc
-
-      there : pixelOf s (Found b) y x ≡ Bit v → (y < b .height) × (x < b .width) × (pixelIn s b y x ≡ v)
-      there e =
-          two (λ h w. (h, w, same-bit _ (sym (pixel-in s b y x h w) ∙ e))) (λ h. clash pixelNumber (pixel-below s b y x h ∙ e) (λ z. omega arith))
-          (λ h w. clash pixelNumber (sym (pixel-past s b y x h w) ∙ e) (λ z. omega arith))
+  -- a pixel is a bit of its row
+  pub pixel-of : (i j : ℕ) → i < b .height → j < b .width → pixelSays (pixelAt s g i j) ≡ gives (bitOf (getD (viewOf s (rowPartOf s g i)) (j / 8) 0) (j % 8))
+  pixel-of i j h w =
+      let q : j / 8 < rowBytes (b .width) = omega arith in
+      ap pixelSays (pixel-asked s f sound g i j ∙ ap (λ (z : Located). pixelOf s z i j) here ∙ pixel-in s b i j h w)
+      ∙ ap (λ (v : ℕ). gives (bitOf v (j % 8))) (sym (ap (λ (z : List ℕ). getD z (j / 8) 0) (row-view i h) ∙ byte-of-part (rowBytes (b .width)) (b .start + i * rowBytes (b .width)) (j / 8) s q))

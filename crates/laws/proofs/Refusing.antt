@@ -5,6 +5,7 @@ use mathlib.Core.Bool.{Bool, true, false}
 use mathlib.Core.List.{List, [], _∷_, _++_}
 use Prim.Native.Nat.{ℕ, zero, suc, _+_, _≤_, _<_}
 use native.Mathlib.Omega.{arith}
+use native.Mathlib.Nat.{zero-add}
 use lib.ListN.{length}
 use borrow.Author.Tests.{lt-ltb, le-ltb, eq-eqb, ne-eqb}
 use Rattle.base.specs.Reading.{when}
@@ -18,7 +19,8 @@ use Rattle.coding.specs.declared.Coding.the-variants.{Utf8, Ucs2}
 use Rattle.coding.specs.Meaning.{valueOf}
 use Rattle.table.specs.declared.Item.{Item}
 use Rattle.table.specs.declared.Item.the-variants.{Single, Start, Value as InSequence, End}
-use Rattle.table.specs.Meaning.{Desc, items, OfCoding, encode, Readable}
+use Rattle.table.specs.Meaning.{Desc, items, bytes, OfCoding, encode, Readable}
+use Rattle.lookup.specs.Meaning.{Any}
 use Rattle.transcode.specs.declared.Measured.{Measured}
 use Rattle.transcode.specs.declared.Measured.the-variants.{Length, Uncarried}
 use Rattle.transcode.specs.Reading.{tableLen}
@@ -51,18 +53,9 @@ use Rattle.conversion.proofs.Ready.{even-fields}
 use Rattle.convert.specs.declared.Converted.{Converted}
 use Rattle.convert.specs.declared.Converted.the-variants.{Wrote, Refused}
 use Rattle.convert.specs.Reading.{converted, convertedOf}
-use Rattle.laws.proofs.Converting.{has-reading}
-use Rattle.laws.specs.Meaning.{Reads, GlyphsAt, Never, ValueAt, needed, Holds}
-
--- the number of an answer, 0 where there is no refusal
-abbrev pub numbered : Converted → ℕ
-numbered (Wrote n) = 0
-numbered (Refused r) = numberOf (r .reason)
-
--- its place, or the length written
-abbrev pub placed-at : Converted → ℕ
-placed-at (Wrote n) = n
-placed-at (Refused r) = r .place
+use Rattle.laws.specs.Meaning.{convertedSays, GlyphsAt, Holds, FirstValue, ValueAt, needed, ConversionRows}
+use Rattle.laws.proofs.Exactly.{Exact, is, row, row-at, own-first, reading-of, less}
+use Rattle.laws.proofs.Asking.{described, read-as}
 
 -- 1 to 12, then 17
 module _ (c : Conversion) (s : List ℕ) (m : ℕ) where
@@ -237,14 +230,6 @@ module _ (c : Conversion) (tl : List ℕ) (ds : List Desc) (o : Readable (coding
   not-carried : {A : Type 0} (x : Measured) (n k g : ℕ) → x ≡ Length n → x ≡ Uncarried k g → A
   not-carried x n k g a b = let z : _≡_ {A = ℕ} 0 1 = cc in absurd (omega arith)
 
--- where the codings are one, every value is carried
-pub one-coding : (c : Conversion) (f : Font) (ds : List Desc) → Readable (codingOf (sourceKind c)) ds → codingOf (sourceKind c) ≡ codingOf (targetKind c) → Never (ValueAt c f ds)
-one-coding c f ds o z p (k, q, u) =
-    let r = value-by c (encode (codingOf (sourceKind c)) ds) ds o refl k u in
-    let w = length-exactly (codingOf (sourceKind c)) (codingOf (targetKind c)) ds (encode (codingOf (sourceKind c)) ds) o refl (length (encode (codingOf (targetKind c)) ds)) .1
-    (subst (λ (x : Coding). Readable x ds) z o, refl) in
-    not-carried c (encode (codingOf (sourceKind c)) ds) ds o refl _ _ _ _ (measured-as c (encode (codingOf (sourceKind c)) ds) ds o refl ∙ w) (r .1)
-
 -- an item that one coding has and another hasn't has a value that the other hasn't
 uncarried-value : (from to : Coding) (i : Item) → OfCoding from (i ∷ []) → (OfCoding to (i ∷ []) → ⊥) → (v : ℕ) × Holds v i × valueOf from v × (valueOf to v → ⊥)
 uncarried-value from to (Single v) o u = (v, inl refl, o .0, λ x. u (x, tt))
@@ -266,24 +251,123 @@ pub first-value : (from to : Coding) (ds : List Desc) (k : ℕ) → Readable fro
 first-value from to ds k o u =
     uncarried-value from to (u .item) (item-of from (u .before) (u .item) (u .after) (subst (OfCoding from) (u .same) o)) (u .uncarried)
 
+-- the values of a list of items
+carried-value : (c : Coding) (is : List Item) (v : ℕ) → OfCoding c is → Any (Holds v) is → valueOf c v
+carried-value c [] v o h = absurd h
+carried-value c (Single w ∷ is) v o (inl (inl e)) = let q : w ≡ v = cc in subst (valueOf c) q (o .0)
+carried-value c (Single w ∷ is) v o (inl (inr e)) = let z : _≡_ {A = ℕ} 0 1 = cc in absurd (omega arith)
+carried-value c (Single w ∷ is) v o (inr h) = carried-value c is v (o .1) h
+carried-value c (InSequence w ∷ is) v o (inl (inl e)) = let z : _≡_ {A = ℕ} 0 1 = cc in absurd (omega arith)
+carried-value c (InSequence w ∷ is) v o (inl (inr e)) = let q : w ≡ v = cc in subst (valueOf c) q (o .0)
+carried-value c (InSequence w ∷ is) v o (inr h) = carried-value c is v (o .1) h
+carried-value c (Start ∷ is) v o (inl (inl e)) = let z : _≡_ {A = ℕ} 0 1 = cc in absurd (omega arith)
+carried-value c (Start ∷ is) v o (inl (inr e)) = let z : _≡_ {A = ℕ} 0 1 = cc in absurd (omega arith)
+carried-value c (Start ∷ is) v o (inr h) = carried-value c is v o h
+carried-value c (End ∷ is) v o (inl (inl e)) = let z : _≡_ {A = ℕ} 0 1 = cc in absurd (omega arith)
+carried-value c (End ∷ is) v o (inl (inr e)) = let z : _≡_ {A = ℕ} 0 1 = cc in absurd (omega arith)
+carried-value c (End ∷ is) v o (inr h) = carried-value c is v o h
+
+-- items of one coding whose values all are another's
+all-carried : (from to : Coding) (is js : List Item) → OfCoding from (is ++ js) → ((v : ℕ) → valueOf from v → Any (Holds v) is → valueOf to v) → OfCoding to is
+all-carried from to [] js o f = tt
+all-carried from to (Single v ∷ is) js o f = (f v (o .0) (inl (inl refl)), all-carried from to is js (o .1) (λ w p h. f w p (inr h)))
+all-carried from to (InSequence v ∷ is) js o f = (f v (o .0) (inl (inr refl)), all-carried from to is js (o .1) (λ w p h. f w p (inr h)))
+all-carried from to (Start ∷ is) js o f = all-carried from to is js o (λ w p h. f w p (inr h))
+all-carried from to (End ∷ is) js o f = all-carried from to is js o (λ w p h. f w p (inr h))
+
+held-value : (c : Coding) (i : Item) (v : ℕ) → Holds v i → OfCoding c (i ∷ []) → valueOf c v
+held-value c i v h o = carried-value c (i ∷ []) v o (inl h)
+
+-- the first value that is not carried is the first with P, where these are the values of one coding that another hasn't
+module _ (from to : Coding) (P : ℕ → Type 0) (lost : (v : ℕ) → valueOf from v → (valueOf to v → ⊥) → P v) (kept : (v : ℕ) → valueOf from v → (P v → ⊥) → valueOf to v)
+    (not-both : (v : ℕ) → P v → valueOf to v → ⊥) (ds : List Desc) (k : ℕ) (o : Readable from ds) where
+  first-there : FirstUncarried from to (items ds) 0 k → FirstValue from P (items ds) k
+  first-there u =
+      let r = first-value from to ds k o u in
+      record {
+        before = u .before;
+        item = u .item;
+        after = u .after;
+        same = u .same;
+        value = r .0;
+        holds = r .1;
+        has = lost (r .0) (r .2) (r .3);
+        earlier = λ v h p. not-both v p (carried-value to (u .before) v (u .carried) h);
+        here = u .here ∙ zero-add (length (bytes from (u .before)));
+      }
+
+  first-back : FirstValue from P (items ds) k → FirstUncarried from to (items ds) 0 k
+  first-back u = record {
+    before = u .before;
+    item = u .item;
+    after = u .after;
+    same = u .same;
+    carried = all-carried from to (u .before) (u .item ∷ u .after) (subst (OfCoding from) (u .same) o) (λ v p h. kept v p (u .earlier v h));
+    uncarried = λ q. not-both (u .value) (u .has) (held-value to (u .item) (u .value) (u .holds) q);
+    here = u .here ∙ sym (zero-add (length (bytes from (u .before))));
+  }
+
 -- "the first surrogate, D800 to DFFF"
-pub is-surrogate : (v : ℕ) → valueOf Ucs2 v → (valueOf Utf8 v → ⊥) → (0xD800 ≤ v) × (v ≤ 0xDFFF)
+abbrev Surrogate : ℕ → Type 0
+Surrogate v = (0xD800 ≤ v) × (v ≤ 0xDFFF)
+
+lost-surrogate : (v : ℕ) → valueOf Ucs2 v → (valueOf Utf8 v → ⊥) → Surrogate v
 unfolding valueOf
-is-surrogate v a n = go (below v 0xD800) (below v 0xE000)
+lost-surrogate v a n = go (below v 0xD800) (below v 0xE000)
   where
-    go : (v < 0xD800) ⊎ (0xD800 ≤ v) → (v < 0xE000) ⊎ (0xE000 ≤ v) → (0xD800 ≤ v) × (v ≤ 0xDFFF)
+    go : (v < 0xD800) ⊎ (0xD800 ≤ v) → (v < 0xE000) ⊎ (0xE000 ≤ v) → Surrogate v
     go (inl l) y = absurd (n (inl l))
     go (inr l) (inl h) = (l, omega arith)
     go (inr l) (inr h) = absurd (n (inr (h, omega (arith, a))))
 
--- "the first value above FFFD"
-pub is-above : (v : ℕ) → (valueOf Ucs2 v → ⊥) → 0xFFFD < v
+kept-scalar : (v : ℕ) → valueOf Ucs2 v → (Surrogate v → ⊥) → valueOf Utf8 v
 unfolding valueOf
-is-above v n = go (below v 0xFFFE)
+kept-scalar v a n = go (below v 0xD800) (below v 0xE000)
+  where
+    go : (v < 0xD800) ⊎ (0xD800 ≤ v) → (v < 0xE000) ⊎ (0xE000 ≤ v) → valueOf Utf8 v
+    go (inl l) y = inl l
+    go (inr l) (inl h) = absurd (n (l, omega arith))
+    go (inr l) (inr h) = inr (h, omega (arith, a))
+
+no-surrogate : (v : ℕ) → Surrogate v → valueOf Utf8 v → ⊥
+unfolding valueOf
+no-surrogate v s (inl l) = omega (arith, s .0, l)
+no-surrogate v s (inr h) = omega (arith, s .1, h .0)
+
+-- "the first value above FFFD"
+lost-above : (v : ℕ) → valueOf Utf8 v → (valueOf Ucs2 v → ⊥) → 0xFFFD < v
+unfolding valueOf
+lost-above v a n = go (below v 0xFFFE)
   where
     go : (v < 0xFFFE) ⊎ (0xFFFE ≤ v) → 0xFFFD < v
     go (inl l) = absurd (n l)
     go (inr l) = omega arith
+
+kept-word : (v : ℕ) → valueOf Utf8 v → ((0xFFFD < v) → ⊥) → valueOf Ucs2 v
+unfolding valueOf
+kept-word v a n = go (below v 0xFFFE)
+  where
+    go : (v < 0xFFFE) ⊎ (0xFFFE ≤ v) → v < 0xFFFE
+    go (inl l) = l
+    go (inr l) = absurd (n (omega arith))
+
+no-above : (v : ℕ) → 0xFFFD < v → valueOf Ucs2 v → ⊥
+unfolding valueOf
+no-above v h w = omega (arith, h, w)
+
+-- 19, by the conversion
+value-first : (c : Conversion) (ds : List Desc) (k : ℕ) → Readable (codingOf (sourceKind c)) ds →
+    ValueAt c ds k ↔ FirstUncarried (codingOf (sourceKind c)) (codingOf (targetKind c)) (items ds) 0 k
+value-first Psf1ToPsf2 ds k o = (
+  first-back Ucs2 Utf8 Surrogate lost-surrogate kept-scalar no-surrogate ds k o,
+  first-there Ucs2 Utf8 Surrogate lost-surrogate kept-scalar no-surrogate ds k o,
+)
+value-first Psf2ToPsf1 ds k o = (
+  first-back Utf8 Ucs2 (λ v. 0xFFFD < v) lost-above kept-word no-above ds k o,
+  first-there Utf8 Ucs2 (λ v. 0xFFFD < v) lost-above kept-word no-above ds k o,
+)
+value-first Psf2ToVfont2 ds k o = (λ z. absurd z, λ u. let r = first-value Utf8 Utf8 ds k o u in r .3 (r .2))
+value-first Vfont2ToPsf2 ds k o = (λ z. absurd z, λ u. let r = first-value Utf8 Utf8 ds k o u in r .3 (r .2))
 
 -- 20 and 21, by the output's length and the buffer's
 module _ (f : Font) (need m : ℕ) where
@@ -298,8 +382,13 @@ module _ (f : Font) (need m : ℕ) where
   unfolding when
   in-room h k = ap (λ (x : Prepared). converted x m) (sym (fits f need h)) ∙ rw (le-ltb m need k)
 
+-- no place has it
+abbrev Never : (ℕ → Type 0) → Type 0
+Never P = (p : ℕ) → P p → ⊥
+
 -- the answer on a sound font of the kind that is wanted, with its descriptions
-module _ (c : Conversion) (s : List ℕ) (f : Font) (m : ℕ) (y : Bytes s) (e : checkOf s ≡ Sound f) (q : f .kind ≡ sourceKind c) (ds : List Desc) (r : Reads s f ds) where
+module _ (c : Conversion) (s : List ℕ) (f : Font) (m : ℕ) (y : Bytes s) (e : checkOf s ≡ Sound f) (q : f .kind ≡ sourceKind c) (ds : List Desc)
+    (r : Readable (codingOf (f .kind)) ds × (tailOf s f ≡ encode (codingOf (f .kind)) ds)) where
   of-source : Readable (codingOf (sourceKind c)) ds × (tailOf s f ≡ encode (codingOf (sourceKind c)) ds)
   of-source = subst (λ (k : Kind). Readable (codingOf k) ds × (tailOf s f ≡ encode (codingOf k) ds)) q r
 
@@ -316,152 +405,82 @@ module _ (c : Conversion) (s : List ℕ) (f : Font) (m : ℕ) (y : Bytes s) (e :
       go (inl z) = z
       go (inr (p, g)) = absurd (n p g)
 
-  pub value-given : Never (GlyphsAt c s f) → (p : ℕ) → ValueAt c f ds p → convertedOf c s m ≡ Refused (refusal Value p)
-  value-given n p (k, z, u) =
-      let v = value-by c (tailOf s f) ds (of-source .0) (of-source .1) k u in
-      from-font (measuredThen c f (measuredOf c (tailOf s f))) (suited c s f (suits n))
-      ∙ ap (λ (x : Measured). converted (measuredThen c f x) m) (v .1) ∙ ap (λ (x : ℕ). Refused (refusal Value x)) (sym z)
+  pub value-given : Never (GlyphsAt c s f) → (k : ℕ) → ValueAt c ds k → convertedOf c s m ≡ Refused (refusal Value (f .end + k))
+  value-given n k v =
+      let w = value-by c (tailOf s f) ds (of-source .0) (of-source .1) k (value-first c ds k (of-source .0) .0 v) in
+      from-font (measuredThen c f (measuredOf c (tailOf s f))) (suited c s f (suits n)) ∙ ap (λ (x : Measured). converted (measuredThen c f x) m) (w .1)
 
-  fitted : Never (GlyphsAt c s f) → Never (ValueAt c f ds) → convertedOf c s m ≡ converted (fitting f (needed c f ds)) m
+  fitted : Never (GlyphsAt c s f) → Never (ValueAt c ds) → convertedOf c s m ≡ converted (fitting f (needed c f ds)) m
   fitted n v = go (carried-or c (tailOf s f) ds (of-source .0) (of-source .1))
     where
       go : (measuredOf c (tailOf s f) ≡ Length (length (encode (codingOf (targetKind c)) ds))) ⊎ ((k : ℕ) × FirstUncarried (codingOf (sourceKind c)) (codingOf (targetKind c)) (items ds) 0 k) →
           convertedOf c s m ≡ converted (fitting f (needed c f ds)) m
       go (inl z) = from-font (measuredThen c f (measuredOf c (tailOf s f))) (suited c s f (suits n)) ∙ ap (λ (x : Measured). converted (measuredThen c f x) m) z
-      go (inr (k, u)) = absurd (v (f .end + k) (k, refl, u))
+      go (inr (k, u)) = absurd (v k (value-first c ds k (of-source .0) .1 u))
 
-  pub size-given : Never (GlyphsAt c s f) → Never (ValueAt c f ds) → limit < needed c f ds → convertedOf c s m ≡ Refused (refusal Size 0)
+  pub size-given : Never (GlyphsAt c s f) → Never (ValueAt c ds) → limit < needed c f ds → convertedOf c s m ≡ Refused (refusal Size 0)
   size-given n v h = fitted n v ∙ over-limit f (needed c f ds) m h
 
-  pub room-given : Never (GlyphsAt c s f) → Never (ValueAt c f ds) → needed c f ds ≤ limit → m < needed c f ds → convertedOf c s m ≡ Refused (refusal Room (needed c f ds))
+  pub room-given : Never (GlyphsAt c s f) → Never (ValueAt c ds) → needed c f ds ≤ limit → m < needed c f ds → convertedOf c s m ≡ Refused (refusal Room (needed c f ds))
   room-given n v h k = fitted n v ∙ under-room f (needed c f ds) m h k
 
-  pub wrote-given : Never (GlyphsAt c s f) → Never (ValueAt c f ds) → needed c f ds ≤ limit → needed c f ds ≤ m → convertedOf c s m ≡ Wrote (needed c f ds)
+  pub wrote-given : Never (GlyphsAt c s f) → Never (ValueAt c ds) → needed c f ds ≤ limit → needed c f ds ≤ m → convertedOf c s m ≡ Wrote (needed c f ds)
   wrote-given n v h k = fitted n v ∙ in-room f (needed c f ds) m h k
 
-  -- one of the five is given
-  abbrev pub Decided : Type 0
-  Decided =
-      ((p : ℕ) × GlyphsAt c s f p × (convertedOf c s m ≡ Refused (refusal Glyphs p)))
-      ⊎ (((p : ℕ) × Never (GlyphsAt c s f) × ValueAt c f ds p × (convertedOf c s m ≡ Refused (refusal Value p)))
-      ⊎ ((Never (GlyphsAt c s f) × Never (ValueAt c f ds) × (limit < needed c f ds) × (convertedOf c s m ≡ Refused (refusal Size 0)))
-      ⊎ ((Never (GlyphsAt c s f) × Never (ValueAt c f ds) × (needed c f ds ≤ limit) × (m < needed c f ds) × (convertedOf c s m ≡ Refused (refusal Room (needed c f ds))))
-      ⊎ (Never (GlyphsAt c s f) × Never (ValueAt c f ds) × (needed c f ds ≤ limit) × (needed c f ds ≤ m) × (convertedOf c s m ≡ Wrote (needed c f ds))))))
-
-  pub decided : Decided
-  decided = by-glyphs (suits-or s f y e c)
+  -- 18 applies or not, and 19
+  glyphs-or : ((p : ℕ) × GlyphsAt c s f p) ⊎ Never (GlyphsAt c s f)
+  glyphs-or = go (suits-or s f y e c)
     where
-      by-size : Never (GlyphsAt c s f) → Never (ValueAt c f ds) → (limit < needed c f ds) ⊎ (needed c f ds ≤ limit) → (m < needed c f ds) ⊎ (needed c f ds ≤ m) → Decided
-      by-size n v (inl h) k = inr (inr (inl (n, v, h, size-given n v h)))
-      by-size n v (inr h) (inl k) = inr (inr (inr (inl (n, v, h, k, room-given n v h k))))
-      by-size n v (inr h) (inr k) = inr (inr (inr (inr (n, v, h, k, wrote-given n v h k))))
+      go : (suitsOf c s f ≡ Yes) ⊎ ((p : ℕ) × GlyphsAt c s f p) → ((p : ℕ) × GlyphsAt c s f p) ⊎ Never (GlyphsAt c s f)
+      go (inl z) = inr (λ p g. not-suited s f y e _ _ z (glyphs-by s f y e c p g))
+      go (inr g) = inl g
 
-      by-value : Never (GlyphsAt c s f) → (measuredOf c (tailOf s f) ≡ Length (length (encode (codingOf (targetKind c)) ds))) ⊎ ((k : ℕ) × FirstUncarried (codingOf (sourceKind c)) (codingOf (targetKind c)) (items ds) 0 k) → Decided
-      by-value n (inl z) =
-          by-size n (λ p v. let w = value-by c (tailOf s f) ds (of-source .0) (of-source .1) (v .0) (v .2) in not-carried c (tailOf s f) ds (of-source .0) (of-source .1) _ _ _ _ z (w .1))
-          (below limit (needed c f ds)) (below m (needed c f ds))
-      by-value n (inr (k, u)) = inr (inl (f .end + k, n, (k, refl, u), value-given n (f .end + k) (k, refl, u)))
-
-      by-glyphs : (suitsOf c s f ≡ Yes) ⊎ ((p : ℕ) × GlyphsAt c s f p) → Decided
-      by-glyphs (inl z) = by-value (λ p g. not-suited s f y e _ _ z (glyphs-by s f y e c p g)) (carried-or c (tailOf s f) ds (of-source .0) (of-source .1))
-      by-glyphs (inr (p, g)) = inl (p, g, glyphs-given p g)
-
-  -- each of them only for its reason
-  pub glyphs-only : (p : ℕ) → convertedOf c s m ≡ Refused (refusal Glyphs p) → GlyphsAt c s f p
-  glyphs-only p z = go decided
+  value-or : ((k : ℕ) × ValueAt c ds k) ⊎ Never (ValueAt c ds)
+  value-or = go (carried-or c (tailOf s f) ds (of-source .0) (of-source .1))
     where
-      go : Decided → GlyphsAt c s f p
-      go (inl (i, g, x)) = let w : i ≡ p = ap placed-at (sym x ∙ z) in subst (GlyphsAt c s f) w g
-      go (inr (inl x)) = absurd (omega (arith, ap numbered (sym z ∙ x .3)))
-      go (inr (inr (inl x))) = absurd (omega (arith, ap numbered (sym z ∙ x .3)))
-      go (inr (inr (inr (inl x)))) = absurd (omega (arith, ap numbered (sym z ∙ x .4)))
-      go (inr (inr (inr (inr x)))) = absurd (omega (arith, ap numbered (sym z ∙ x .4)))
+      go : (measuredOf c (tailOf s f) ≡ Length (length (encode (codingOf (targetKind c)) ds))) ⊎ ((k : ℕ) × FirstUncarried (codingOf (sourceKind c)) (codingOf (targetKind c)) (items ds) 0 k) →
+          ((k : ℕ) × ValueAt c ds k) ⊎ Never (ValueAt c ds)
+      go (inl z) =
+          inr (λ k v. let w = value-by c (tailOf s f) ds (of-source .0) (of-source .1) k (value-first c ds k (of-source .0) .0 v) in not-carried c (tailOf s f) ds (of-source .0) (of-source .1) _ _ _ _ z (w .1))
+      go (inr (k, u)) = inl (k, value-first c ds k (of-source .0) .1 u)
 
-  pub value-only : (p : ℕ) → convertedOf c s m ≡ Refused (refusal Value p) → Never (GlyphsAt c s f) × ValueAt c f ds p
-  value-only p z = go decided
-    where
-      go : Decided → Never (GlyphsAt c s f) × ValueAt c f ds p
-      go (inl x) = absurd (omega (arith, ap numbered (sym z ∙ x .2)))
-      go (inr (inl (i, n, v, x))) = let w : i ≡ p = ap placed-at (sym x ∙ z) in (n, subst (ValueAt c f ds) w v)
-      go (inr (inr (inl x))) = absurd (omega (arith, ap numbered (sym z ∙ x .3)))
-      go (inr (inr (inr (inl x)))) = absurd (omega (arith, ap numbered (sym z ∙ x .4)))
-      go (inr (inr (inr (inr x)))) = absurd (omega (arith, ap numbered (sym z ∙ x .4)))
+-- two kinds are one or not
+one-kind : (a b : Kind) → (a ≡ b) ⊎ (a ≡ b → ⊥)
+one-kind Psf1 Psf1 = inl refl
+one-kind Psf2 Psf2 = inl refl
+one-kind Vfont2 Vfont2 = inl refl
+one-kind Psf1 Psf2 = inr (λ e. let z : _≡_ {A = ℕ} 0 1 = cc in omega arith)
+one-kind Psf1 Vfont2 = inr (λ e. let z : _≡_ {A = ℕ} 0 1 = cc in omega arith)
+one-kind Psf2 Psf1 = inr (λ e. let z : _≡_ {A = ℕ} 0 1 = cc in omega arith)
+one-kind Psf2 Vfont2 = inr (λ e. let z : _≡_ {A = ℕ} 0 1 = cc in omega arith)
+one-kind Vfont2 Psf1 = inr (λ e. let z : _≡_ {A = ℕ} 0 1 = cc in omega arith)
+one-kind Vfont2 Psf2 = inr (λ e. let z : _≡_ {A = ℕ} 0 1 = cc in omega arith)
 
-  pub size-only : (p : ℕ) → convertedOf c s m ≡ Refused (refusal Size p) → (p ≡ 0) × Never (GlyphsAt c s f) × Never (ValueAt c f ds) × (limit < needed c f ds)
-  size-only p z = go decided
-    where
-      go : Decided → (p ≡ 0) × Never (GlyphsAt c s f) × Never (ValueAt c f ds) × (limit < needed c f ds)
-      go (inl x) = absurd (omega (arith, ap numbered (sym z ∙ x .2)))
-      go (inr (inl x)) = absurd (omega (arith, ap numbered (sym z ∙ x .3)))
-      go (inr (inr (inl x))) = (ap placed-at (sym z ∙ x .3), x .0, x .1, x .2)
-      go (inr (inr (inr (inl x)))) = absurd (omega (arith, ap numbered (sym z ∙ x .4)))
-      go (inr (inr (inr (inr x)))) = absurd (omega (arith, ap numbered (sym z ∙ x .4)))
+wrong-or : (a b : Kind) → (a ≡ b → ⊥) ⊎ ((a ≡ b → ⊥) → ⊥)
+wrong-or a b = go (one-kind a b)
+  where
+    go : (a ≡ b) ⊎ (a ≡ b → ⊥) → (a ≡ b → ⊥) ⊎ ((a ≡ b → ⊥) → ⊥)
+    go (inl e) = inr (λ n. n e)
+    go (inr n) = inl n
 
-  pub room-only : (p : ℕ) → convertedOf c s m ≡ Refused (refusal Room p) →
-      (p ≡ needed c f ds) × Never (GlyphsAt c s f) × Never (ValueAt c f ds) × (needed c f ds ≤ limit) × (m < needed c f ds)
-  room-only p z = go decided
-    where
-      go : Decided → (p ≡ needed c f ds) × Never (GlyphsAt c s f) × Never (ValueAt c f ds) × (needed c f ds ≤ limit) × (m < needed c f ds)
-      go (inl x) = absurd (omega (arith, ap numbered (sym z ∙ x .2)))
-      go (inr (inl x)) = absurd (omega (arith, ap numbered (sym z ∙ x .3)))
-      go (inr (inr (inl x))) = absurd (omega (arith, ap numbered (sym z ∙ x .3)))
-      go (inr (inr (inr (inl x)))) = (ap placed-at (sym z ∙ x .4), x .0, x .1, x .2, x .3)
-      go (inr (inr (inr (inr x)))) = absurd (omega (arith, ap numbered (sym z ∙ x .4)))
+not-wrong : (a b : Kind) → ((a ≡ b → ⊥) → ⊥) → a ≡ b
+not-wrong a b n = go (one-kind a b)
+  where
+    go : (a ≡ b) ⊎ (a ≡ b → ⊥) → a ≡ b
+    go (inl e) = e
+    go (inr m) = absurd (n m)
 
-  pub wrote-only : (n : ℕ) → convertedOf c s m ≡ Wrote n → (n ≡ needed c f ds) × Never (GlyphsAt c s f) × Never (ValueAt c f ds) × (needed c f ds ≤ limit) × (needed c f ds ≤ m)
-  wrote-only n z = go decided
-    where
-      go : Decided → (n ≡ needed c f ds) × Never (GlyphsAt c s f) × Never (ValueAt c f ds) × (needed c f ds ≤ limit) × (needed c f ds ≤ m)
-      go (inl x) = absurd (omega (arith, ap numbered (sym z ∙ x .2)))
-      go (inr (inl x)) = absurd (omega (arith, ap numbered (sym z ∙ x .3)))
-      go (inr (inr (inl x))) = absurd (omega (arith, ap numbered (sym z ∙ x .3)))
-      go (inr (inr (inr (inl x)))) = absurd (omega (arith, ap numbered (sym z ∙ x .4)))
-      go (inr (inr (inr (inr x)))) = (ap placed-at (sym z ∙ x .4), x .0, x .1, x .2, x .3)
-
-  -- whatever is refused, it is for 18 or a later one
-  pub later : (r : Refusal) → convertedOf c s m ≡ Refused r → 18 ≤ numberOf (r .reason)
-  later r z = go decided
-    where
-      go : Decided → 18 ≤ numberOf (r .reason)
-      go (inl x) = omega (arith, ap numbered (sym z ∙ x .2))
-      go (inr (inl x)) = omega (arith, ap numbered (sym z ∙ x .3))
-      go (inr (inr (inl x))) = omega (arith, ap numbered (sym z ∙ x .3))
-      go (inr (inr (inr (inl x)))) = omega (arith, ap numbered (sym z ∙ x .4))
-      go (inr (inr (inr (inr x)))) = let w : _≡_ {A = ℕ} 0 1 = written-refused _ _ _ (x .4) z in absurd (omega arith)
-        where
-          written-refused : (v : Converted) (n : ℕ) (u : Refusal) → v ≡ Wrote n → v ≡ Refused u → _≡_ {A = ℕ} 0 1
-          written-refused v n u a b = cc
-
--- the font's own refusal, and WRONG KIND, only for their reasons
-module _ (c : Conversion) (s : List ℕ) (m : ℕ) (y : Bytes s) where
-  module _ (f : Font) (e : checkOf s ≡ Sound f) where
-    after-kind : f .kind ≡ sourceKind c → (r : Refusal) → convertedOf c s m ≡ Refused r → 18 ≤ numberOf (r .reason)
-    after-kind q r z = let d = has-reading s f y e in later c s f m y e q (d .0) (d .1) r z
-
-    pub kind-only : (p : ℕ) → convertedOf c s m ≡ Refused (refusal WrongKind p) → (p ≡ 0) × (f .kind ≡ sourceKind c → ⊥)
-    kind-only p z =
-        let n : f .kind ≡ sourceKind c → ⊥ = λ q. omega (arith, after-kind q (refusal WrongKind p) z) in
-        (ap placed-at (sym z ∙ kind-given c s m f e n), n)
-
-    after-sound : (r : Refusal) → convertedOf c s m ≡ Refused r → 17 ≤ numberOf (r .reason)
-    after-sound r z = go (sameKind (sourceKind c) (f .kind)) refl
-      where
-        differ : sameKind (sourceKind c) (f .kind) ≡ false → f .kind ≡ sourceKind c → ⊥
-        differ p q =
-            let w : true ≡ false = sym (alike c s m f e (sourceKind c)) ∙ ap (sameKind (sourceKind c)) (sym q) ∙ p in
-            let x : _≡_ {A = ℕ} 0 1 = cc in
-            omega arith
-
-        go : (t : Bool) → sameKind (sourceKind c) (f .kind) ≡ t → 17 ≤ numberOf (r .reason)
-        go true p = omega (arith, after-kind (kind-same (sourceKind c) (f .kind) p) r z)
-        go false p = omega (arith, ap numbered (sym z ∙ kind-given c s m f e (differ p)))
-
-  pub own-only : (r : Refusal) → numberOf (r .reason) ≤ 16 → convertedOf c s m ≡ Refused r → checkOf s ≡ Unsound r
-  own-only r h z = go (checkOf s) refl
-    where
-      same-refusal : (u : Refusal) → Refused u ≡ Refused r → u ≡ r
-      same-refusal u q = cc
-
-      go : (x : Checked) → checkOf s ≡ x → checkOf s ≡ Unsound r
-      go (Sound f) e = absurd (omega (arith, h, after-sound f e r z))
-      go (Unsound u) e = e ∙ ap Unsound (same-refusal u (sym (own-given c s m u e) ∙ z))
+-- all rows
+pub conversion-rows : (c : Conversion) (s : List ℕ) (m : ℕ) → Bytes s → Exact (convertedSays (convertedOf c s m)) (ConversionRows c s m)
+conversion-rows c s m y =
+    own-first s (λ r e. ap convertedSays (own-given c s m r e)) (λ f e.
+    row (wrong-or (f .kind) (sourceKind c)) (λ n. ap convertedSays (kind-given c s m f e n)) (λ n.
+    let q = not-wrong (f .kind) (sourceKind c) n in
+    reading-of s f (described s f y e) (λ ds d.
+    let r = read-as s f y e ds d in
+    row-at (glyphs-or c s f m y e q ds r) (λ p g. ap convertedSays (glyphs-given c s f m y e q ds r p g)) (λ ng.
+    row-at (value-or c s f m y e q ds r) (λ k v. ap convertedSays (value-given c s f m y e q ds r ng k v)) (λ nv.
+    row (less limit (needed c f ds)) (λ h. ap convertedSays (size-given c s f m y e q ds r ng nv h)) (λ h.
+    let small : needed c f ds ≤ limit = omega arith in
+    row (less m (needed c f ds)) (λ l. ap convertedSays (room-given c s f m y e q ds r ng nv small l)) (λ l.
+    is _ _ (ap convertedSays (wrote-given c s f m y e q ds r ng nv small (omega arith))))))))))

@@ -1,83 +1,69 @@
--- Demand 3 about the public calls on a whole file. Of any bytes s that none of refusals 1 to 9 applies to (`throughEntries s ≡ Sound f`;
--- `entries-rows` in Rows says when), marked as having a table: `check` answers `checkOf s`, `item` answers `itemOf s`, `find_value` answers
--- `valueGlyph s`, `find_sequence` answers `sequenceGlyph s`. n is the font's count, c its coding, t its tail: all bytes after the bitmaps.
-use mathlib.Core.Path.{_≡_, _∙_}
+-- Demand 3 about the public calls on a whole file: "For any font within the size limit, marked as having a table, that none of refusals 1 to 9
+-- applies to, with n glyphs". `check` answers `checkOf s`, `item` answers `itemOf s`, `find_value` answers `valueGlyph s`, `find_sequence`
+-- answers `sequenceGlyph s`. `ofTail P s f`: P of the font's tail, in its coding, with n its count of glyphs.
+use mathlib.Core.Path.{_≡_, sym, _∙_}
 use mathlib.Core.Logic.{_↔_}
 use mathlib.Core.Bool.{true}
-use mathlib.Core.List.{List}
-use Prim.Native.Nat.{ℕ, _+_, _≤_}
+use mathlib.Core.List.{List, []}
+use Prim.Native.Nat.{ℕ, _+_, _≤_, _<_}
 use lib.ListN.{length}
 use Rattle.base.specs.Meaning.{Bytes}
-use Rattle.refusal.specs.declared.Refusal.{Refusal}
-use Rattle.refusal.specs.Meaning.{refusal}
-use Rattle.refusal.specs.declared.Reason.the-variants.{TableCut, TableBad, Trailing, Ask, Unmapped}
 use Rattle.table.specs.declared.Item.{Item}
 use Rattle.table.specs.Meaning.{Desc, encode, Readable, IsTable, LongestStart, Unfinished, BadAt, TrailingAt}
 use Rattle.table.proofs.Meaning as meaning
-use Rattle.lookup.specs.Meaning.{ListsValue, ListsSequence, Lowest, Nowhere, ItemIs}
+use Rattle.lookup.specs.Meaning.{Any, ListsValue, ListsSequence, Lowest, Nowhere, ItemIs}
 use Rattle.header.specs.declared.Font.{Font}
-use Rattle.header.specs.declared.Checked.the-variants.{Sound, Refused}
 use Rattle.stages.specs.Meaning.{codingOf, tailOf}
-use Rattle.stages.specs.Reading.{throughEntries, checkOf}
-use Rattle.questions.specs.declared.Walk.the-variants.{Is, Refused as NoWalk}
-use Rattle.questions.specs.declared.Lookup.the-variants.{Glyph, Refused as NoLookup}
-use Rattle.questions.specs.Reading.{askable}
+use Rattle.stages.specs.Reading.{checkOf}
 use Rattle.fonts.specs.Reading.{itemOf, valueGlyph, sequenceGlyph}
+use Rattle.laws.specs.Meaning.{gives, refuses, checkSays, walkSays, lookupSays, ofTail, RowsTo9}
+use Rattle.laws.proofs.Check.{passed-9}
 use Rattle.laws.proofs.Tails as tail
 use Rattle.laws.proofs.Reading as inner
 
-module _ (s : List ℕ) (y : Bytes s) (f : Font) (passed : throughEntries s ≡ Sound f) (marked : f .table ≡ true) where
-  -- (a) accepted exactly when the tail is n descriptions end to end, nothing over
-  pub accepted-exactly : (checkOf s ≡ Sound f) ↔ IsTable (codingOf (f .kind)) (f .count) (tailOf s f)
-  accepted-exactly = tail.accepted-exactly s y f passed marked
+module _ (s : List ℕ) (y : Bytes s) (f : Font) (passes : RowsTo9 s (gives f)) (marked : f .table ≡ true) where
+  -- (a) "its table is accepted exactly when they are n descriptions of the published grammar, end to end, nothing over"
+  pub accepted-exactly : (checkSays (checkOf s) ≡ gives f) ↔ ofTail IsTable s f
+  accepted-exactly = tail.accepted-exactly s y f (passed-9 s f passes) marked
 
-  -- (e) a refused table's place is where the table begins plus the length of its longest start that could still be completed
-  pub refused-place : (r : Refusal) → checkOf s ≡ Refused r → (k : ℕ) × (r .place ≡ f .end + k) × LongestStart (codingOf (f .kind)) (f .count) (tailOf s f) k
-  refused-place = tail.refused-place s y f passed marked
+  -- (e) "A refused table's place is where the table begins plus the length of its longest start that some further bytes, or none, could still
+  -- complete for n glyphs, file size aside; no longer start can be completed"
+  pub refused-place : (number p : ℕ) → checkSays (checkOf s) ≡ refuses number p → (k : ℕ) × (p ≡ f .end + k) × ofTail LongestStart s f k
+  refused-place = tail.refused-place s y f (passed-9 s f passes) marked
 
-  -- TABLE CUT exactly when the whole tail could still be completed, but isn't complete; its place is the file's length
-  pub cut-exactly : (p : ℕ) →
-      (checkOf s ≡ Refused (refusal TableCut p)) ↔
-      ((p ≡ length s) × Unfinished (codingOf (f .kind)) (f .count) (tailOf s f))
-  cut-exactly = tail.cut-exactly s y f passed marked
+  -- TABLE CUT: "the whole tail could still be completed, but isn't complete", place "file length"
+  pub cut-exactly : (p : ℕ) → (checkSays (checkOf s) ≡ refuses 10 p) ↔ ((p ≡ length s) × ofTail Unfinished s f)
+  cut-exactly = tail.cut-exactly s y f (passed-9 s f passes) marked
 
-  -- TABLE BAD exactly when the longest completable start is shorter than the tail and not a complete table; its place is that start's end
-  pub bad-exactly : (p : ℕ) →
-      (checkOf s ≡ Refused (refusal TableBad p)) ↔
-      ((k : ℕ) × (p ≡ f .end + k) × BadAt (codingOf (f .kind)) (f .count) (tailOf s f) k)
-  bad-exactly = tail.bad-exactly s y f passed marked
+  -- TABLE BAD: "the longest completable start is shorter than the tail and not a complete table", place "its end"
+  pub bad-exactly : (p : ℕ) → (checkSays (checkOf s) ≡ refuses 11 p) ↔ ((k : ℕ) × (p ≡ f .end + k) × ofTail BadAt s f k)
+  bad-exactly = tail.bad-exactly s y f (passed-9 s f passes) marked
 
-  -- TRAILING exactly when bytes stand after a complete table; its place is the first such byte
-  pub trailing-exactly : (p : ℕ) →
-      (checkOf s ≡ Refused (refusal Trailing p)) ↔
-      ((k : ℕ) × (p ≡ f .end + k) × TrailingAt (codingOf (f .kind)) (f .count) (tailOf s f) k)
-  trailing-exactly = tail.trailing-exactly s y f passed marked
+  -- TRAILING: "bytes after a complete table", place "first such byte"
+  pub trailing-exactly : (p : ℕ) → (checkSays (checkOf s) ≡ refuses 12 p) ↔ ((k : ℕ) × (p ≡ f .end + k) × ofTail TrailingAt s f k)
+  trailing-exactly = tail.trailing-exactly s y f (passed-9 s f passes) marked
 
-  -- of an accepted font, with its reading
-  module _ (r : IsTable (codingOf (f .kind)) (f .count) (tailOf s f)) where
-    -- (b) it has one reading: any other n descriptions, in the file's coding, have other bytes
+  -- of an accepted font
+  module _ (r : ofTail IsTable s f) where
+    -- (b) "It then has one reading: any other n descriptions, in the file's coding, have other bytes."
     pub one-reading : (ds : List Desc) → Readable (codingOf (f .kind)) ds → encode (codingOf (f .kind)) ds ≡ tailOf s f → ds ≡ r .reading
     one-reading ds o e = meaning.one-reading (codingOf (f .kind)) ds (r .reading) o (r .values) (e ∙ r .same)
 
-    -- (c) a walk answers for glyph g and item k exactly when the reading has that item, and gives it
-    pub walk-exactly : (g k : ℕ) (i : Item) → (itemOf s g k ≡ Is i) ↔ ItemIs (r .reading) g k i
-    walk-exactly = inner.walk-exactly s y f passed marked r
+    -- (c) "A walk answers for glyph g and item k exactly when the reading has that item, and gives it."
+    pub walk-exactly : (g k : ℕ) (i : Item) → (walkSays (itemOf s g k) ≡ gives i) ↔ ItemIs (r .reading) g k i
+    walk-exactly = inner.walk-exactly s y f (passed-9 s f passes) marked r
 
-    -- and else refuses with ASK
-    pub walk-ask-exactly : (g k : ℕ) → (itemOf s g k ≡ NoWalk (refusal Ask 0)) ↔ ((i : Item) → ItemIs (r .reading) g k i → ⊥)
-    walk-ask-exactly = inner.walk-ask-exactly s y f passed marked r
+    -- (d) "A lookup (values to 10FFFF, no empty sequence) gives the lowest glyph the reading lists for that value or sequence, and says unmapped
+    -- exactly when it lists none."
+    pub value-exactly : (v g : ℕ) → v ≤ 0x10FFFF → (lookupSays (valueGlyph s v) ≡ gives g) ↔ Lowest (ListsValue v) 0 (r .reading) g
+    value-exactly = inner.value-exactly s y f (passed-9 s f passes) marked r
 
-    -- (d) a lookup gives the lowest glyph that the reading lists for the value
-    pub value-exactly : (v g : ℕ) → v ≤ 0x10FFFF → (valueGlyph s v ≡ Glyph g) ↔ Lowest (ListsValue v) 0 (r .reading) g
-    value-exactly = inner.value-exactly s y f passed marked r
+    pub value-unmapped-exactly : (v : ℕ) → v ≤ 0x10FFFF → (lookupSays (valueGlyph s v) ≡ refuses 15 0) ↔ Nowhere (ListsValue v) 0 (r .reading)
+    value-unmapped-exactly = inner.value-unmapped-exactly s y f (passed-9 s f passes) marked r
 
-    -- and says unmapped exactly when it lists none
-    pub value-unmapped-exactly : (v : ℕ) → v ≤ 0x10FFFF → (valueGlyph s v ≡ NoLookup (refusal Unmapped 0)) ↔ Nowhere (ListsValue v) 0 (r .reading)
-    value-unmapped-exactly = inner.value-unmapped-exactly s y f passed marked r
+    module _ (vs : List ℕ) (some : vs ≡ [] → ⊥) (low : Any (λ (v : ℕ). 0x10FFFF < v) vs → ⊥) where
+      pub sequence-exactly : (g : ℕ) → (lookupSays (sequenceGlyph s vs) ≡ gives g) ↔ Lowest (ListsSequence vs) 0 (r .reading) g
+      sequence-exactly = inner.sequence-exactly s y f (passed-9 s f passes) marked r vs some low
 
-    -- the same for a sequence that is not empty and has no value above 10FFFF
-    pub sequence-exactly : (vs : List ℕ) (g : ℕ) → askable vs ≡ true → (sequenceGlyph s vs ≡ Glyph g) ↔ Lowest (ListsSequence vs) 0 (r .reading) g
-    sequence-exactly = inner.sequence-exactly s y f passed marked r
-
-    pub sequence-unmapped-exactly : (vs : List ℕ) → askable vs ≡ true → (sequenceGlyph s vs ≡ NoLookup (refusal Unmapped 0)) ↔ Nowhere (ListsSequence vs) 0 (r .reading)
-    sequence-unmapped-exactly = inner.sequence-unmapped-exactly s y f passed marked r
+      pub sequence-unmapped-exactly : (lookupSays (sequenceGlyph s vs) ≡ refuses 15 0) ↔ Nowhere (ListsSequence vs) 0 (r .reading)
+      sequence-unmapped-exactly = inner.sequence-unmapped-exactly s y f (passed-9 s f passes) marked r vs some low

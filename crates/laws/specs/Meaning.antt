@@ -1,133 +1,308 @@
--- The words of the statements: document 01's rows 1 to 12, which glyph numbers have a bitmap, what a conversion keeps, and its rows 17 to 21.
-use Prim.Native.Nat.{ℕ, _+_, _*_, _<_}
+-- The words of the statements: what a call says back, document 01's rows call by call, what a conversion keeps.
+use Prim.Native.Nat.{ℕ, zero, suc, _+_, _*_, _≤_, _<_}
 use mathlib.Core.Path.{_≡_}
 use mathlib.Core.Logic.{_⊎_}
 use mathlib.Core.Bool.{Bool, true, false}
-use mathlib.Core.List.{List}
+use mathlib.Core.List.{List, [], _∷_, _++_}
 use lib.ListN.{length, getD, take, drop}
 use Rattle.base.specs.Meaning.{le32, Begins, Bytes}
-use Rattle.refusal.specs.Meaning.{refusal}
-use Rattle.refusal.specs.declared.Reason.{Reason}
-use Rattle.refusal.specs.declared.Reason.the-variants.{TooLong, Kind, HeaderCut, Version, HeaderSize, Count, Shape, BodyCut, Entry, TableCut, TableBad, Trailing}
+use Rattle.refusal.specs.Meaning.{numberOf}
+use Rattle.refusal.specs.declared.Refusal.{Refusal}
+use Rattle.coding.specs.declared.Coding.{Coding}
+use Rattle.coding.specs.declared.Coding.the-variants.{Utf8, Ucs2}
 use Rattle.table.specs.declared.Item.{Item}
 use Rattle.table.specs.declared.Item.the-variants.{Single, Value}
-use Rattle.table.specs.Meaning.{Desc, items, encode, Readable, Unfinished, BadAt, TrailingAt}
-use Rattle.transcode.specs.Meaning.{FirstUncarried}
+use Rattle.table.specs.Meaning.{Desc, items, bytes, encode, Unfinished, BadAt, TrailingAt}
+use Rattle.lookup.specs.Meaning.{Any, ListsValue, ListsSequence, Lowest, Nowhere, ItemIs}
 use Rattle.header.specs.declared.Kind as K
 use Rattle.header.specs.declared.Kind.the-variants.{Psf1, Psf2, Vfont2}
 use Rattle.header.specs.declared.Font.{Font}
 use Rattle.header.specs.declared.Checked.{Checked}
 use Rattle.header.specs.declared.Checked.the-variants.{Sound, Refused}
 use Rattle.header.specs.Meaning.{limit, rowBytes, psf1Font, fieldsOf, psf2Font, vfont2Font, charSize, magicOf, headerLen, psf1Count, psf1Table}
+use Rattle.entries.specs.declared.Metrics.{Metrics}
 use Rattle.entries.specs.Meaning.{entryAt, addressAt, rowsAt, colsAt, FirstBroken, IsGreatest}
-use Rattle.bitmap.specs.Reading.{bitmapOf, wholeOf, pixelOf, metricsOf, viewOf}
+use Rattle.bitmap.specs.declared.Part.{Part}
+use Rattle.bitmap.specs.declared.Part.the-variants.{At, Refused as NoPart}
+use Rattle.bitmap.specs.declared.Pixel.{Pixel}
+use Rattle.bitmap.specs.declared.Pixel.the-variants.{Bit, Refused as NoPixel}
+use Rattle.bitmap.specs.declared.GlyphMetrics.{GlyphMetrics}
+use Rattle.bitmap.specs.declared.GlyphMetrics.the-variants.{Is as IsMetrics, Refused as NoMetrics}
+use Rattle.bitmap.specs.Meaning.{kindMetrics, rowStart, pixelIn}
+use Rattle.bitmap.specs.Reading.{viewOf}
 use Rattle.stages.specs.Meaning.{codingOf, tailOf}
 use Rattle.stages.specs.Reading.{checkOf}
-use Rattle.content.specs.Meaning.{Content, HasContent, NoGlyph, Plain}
+use Rattle.questions.specs.declared.Walk.{Walk}
+use Rattle.questions.specs.declared.Walk.the-variants.{Is, Refused as NoWalk}
+use Rattle.questions.specs.declared.Lookup.{Lookup}
+use Rattle.questions.specs.declared.Lookup.the-variants.{Glyph, Refused as NoLookup}
+use Rattle.content.specs.Meaning.{bitmapIn, NoGlyph, Describes, Content, HasContent, Plain}
 use Rattle.conversion.specs.declared.Conversion.{Conversion}
 use Rattle.conversion.specs.declared.Conversion.the-variants.{Psf1ToPsf2, Psf2ToPsf1, Psf2ToVfont2, Vfont2ToPsf2}
 use Rattle.conversion.specs.Meaning.{sourceKind, targetKind, frontLen, FirstUneven}
+use Rattle.convert.specs.declared.Converted.{Converted}
+use Rattle.convert.specs.declared.Converted.the-variants.{Wrote as Written, Refused as NotConverted}
+use Rattle.fonts.specs.Reading.{glyphPartOf, rowPartOf, pixelAt, glyphMetricsOf, itemOf, valueGlyph, sequenceGlyph}
 
--- Rows 1 to 12: "Checks on a font run in this order; the first that applies is given." Each row says when it is given, and what then; and
--- where it does not apply, the rows after it decide.
+-- What a call says back: an answer, or "a number and a place". "When an answer is an enum, a definition gives this paper's number and
+-- values for each of its cases."
+pub data Said (A : Type 0) : Type 0 where
+  gives : A → Said A
+  refuses : ℕ → ℕ → Said A
 
--- a row: it applies and is given, a reason and a place; or it does not and the rest decides
-pub data Row (applies : Type 0) (why : Reason) (place : ℕ) (rest : Checked → Type 0) (a : Checked) : Type 0 where
-  given : applies → a ≡ Refused (refusal why place) → Row applies why place rest a
-  skipped : (applies → ⊥) → rest a → Row applies why place rest a
+abbrev pub told : {A : Type 0} → Refusal → Said A
+told r = refuses (numberOf (r .reason)) (r .place)
 
--- a row that applies to a number, which tells its place
-pub data RowAt (applies : ℕ → Type 0) (why : Reason) (place : ℕ → ℕ) (rest : Checked → Type 0) (a : Checked) : Type 0 where
-  given-at : (k : ℕ) → applies k → a ≡ Refused (refusal why (place k)) → RowAt applies why place rest a
-  skipped-at : ((k : ℕ) → applies k → ⊥) → rest a → RowAt applies why place rest a
+abbrev pub checkSays : Checked → Said Font
+checkSays (Sound f) = gives f
+checkSays (Refused r) = told r
 
--- rows 3 to 9 of a file that begins 36 04, and the rows after them of the font that it is
-abbrev pub Psf1Rows : List ℕ → (Font → Checked → Type 0) → Checked → Type 0
+-- an offset and a length
+abbrev pub partSays : Part → Said (ℕ × ℕ)
+partSays (At start len) = gives (start, len)
+partSays (NoPart r) = told r
+
+abbrev pub pixelSays : Pixel → Said ℕ
+pixelSays (Bit v) = gives v
+pixelSays (NoPixel r) = told r
+
+abbrev pub metricsSays : GlyphMetrics → Said Metrics
+metricsSays (IsMetrics m) = gives m
+metricsSays (NoMetrics r) = told r
+
+abbrev pub walkSays : Walk → Said Item
+walkSays (Is i) = gives i
+walkSays (NoWalk r) = told r
+
+-- a glyph number
+abbrev pub lookupSays : Lookup → Said ℕ
+lookupSays (Glyph g) = gives g
+lookupSays (NoLookup r) = told r
+
+-- the bytes written
+abbrev pub convertedSays : Converted → Said ℕ
+convertedSays (Written n) = gives n
+convertedSays (NotConverted r) = told r
+
+-- Rows: "Checks on a font run in this order; the first that applies is given."
+
+-- a row: it applies, and its number and place are given; or it does not, and the rest decides
+pub data Row {A : Type 0} (applies : Type 0) (number place : ℕ) (rest : Said A → Type 0) (a : Said A) : Type 0 where
+  given : applies → a ≡ refuses number place → Row applies number place rest a
+  skipped : (applies → ⊥) → rest a → Row applies number place rest a
+
+-- a row that applies at a number, which tells its place
+pub data RowAt {A : Type 0} (applies : ℕ → Type 0) (number : ℕ) (place : ℕ → ℕ) (rest : Said A → Type 0) (a : Said A) : Type 0 where
+  given-at : (k : ℕ) → applies k → a ≡ refuses number (place k) → RowAt applies number place rest a
+  skipped-at : ((k : ℕ) → applies k → ⊥) → rest a → RowAt applies number place rest a
+
+-- "Every question and conversion gives the font's own refusal (1 to 12) first."
+pub data Own {A : Type 0} (s : List ℕ) (rest : Font → Said A → Type 0) (a : Said A) : Type 0 where
+  own : (r : Refusal) → checkOf s ≡ Refused r → a ≡ told r → Own s rest a
+  sound : (f : Font) → checkOf s ≡ Sound f → rest f a → Own s rest a
+
+-- the rows on a font's reading: its descriptions
+pub data Reading {A : Type 0} (s : List ℕ) (f : Font) (rest : List Desc → Said A → Type 0) (a : Said A) : Type 0 where
+  reads : (ds : List Desc) → Describes s f (f .table) ds → rest ds a → Reading s f rest a
+
+-- what is given has P
+pub data Gives {A : Type 0} (P : A → Type 0) (a : Said A) : Type 0 where
+  gives-it : (v : A) → P v → a ≡ gives v → Gives P a
+
+-- what is said of a table, of the tail of a font: in its coding, of as many descriptions as it has glyphs
+abbrev pub ofTail : {B : Type 1} → (Coding → ℕ → List ℕ → B) → List ℕ → Font → B
+ofTail P s f = P (codingOf (f .kind)) (f .count) (tailOf s f)
+
+-- The check, rows 1 to 12.
+
+-- a file that begins 36 04: rows 3, 4, 7 and 8, and then those of the font that it is
+abbrev pub Psf1Rows : List ℕ → (Font → Said Font → Type 0) → Said Font → Type 0
 Psf1Rows s after =
-    Row (length s < 4) HeaderCut (length s)
-    (Row (5 < getD s 2 0) Version 2
-    (Row (getD s 3 0 ≡ 0) Shape 3
-    (Row (length s < 4 + psf1Count (getD s 2 0) * getD s 3 0) BodyCut (length s)
+    Row (length s < 4) 3 (length s)
+    (Row (5 < getD s 2 0) 4 2
+    (Row (getD s 3 0 ≡ 0) 7 3
+    (Row (length s < 4 + psf1Count (getD s 2 0) * getD s 3 0) 8 (length s)
     (after (psf1Font (psf1Count (getD s 2 0)) (getD s 3 0) (psf1Table (getD s 2 0)))))))
 
--- rows 3 to 6 of a header of 32 bytes
-abbrev pub HeadRows : List ℕ → (Checked → Type 0) → Checked → Type 0
+-- a header of 32 bytes: rows 3 to 6
+abbrev pub HeadRows : List ℕ → (Said Font → Type 0) → Said Font → Type 0
 HeadRows s rest =
-    Row (length s < 32) HeaderCut (length s)
-    (Row (le32 s 4 ≡ 0 → ⊥) Version 4
-    (Row (1 < le32 s 12) Version 12
-    (Row ((le32 s 8 < 32) ⊎ (4096 < le32 s 8)) HeaderSize 8
-    (Row ((le32 s 16 ≡ 0) ⊎ (4096 < le32 s 16)) Count 16 rest))))
+    Row (length s < 32) 3 (length s)
+    (Row (le32 s 4 ≡ 0 → ⊥) 4 4
+    (Row (1 < le32 s 12) 4 12
+    (Row ((le32 s 8 < 32) ⊎ (4096 < le32 s 8)) 5 8
+    (Row ((le32 s 16 ≡ 0) ⊎ (4096 < le32 s 16)) 6 16 rest))))
 
--- rows 3 to 9 of a file that begins 72 B5 4A 86
-abbrev pub Psf2Rows : List ℕ → (Font → Checked → Type 0) → Checked → Type 0
+-- a file that begins 72 B5 4A 86: rows 3 to 8
+abbrev pub Psf2Rows : List ℕ → (Font → Said Font → Type 0) → Said Font → Type 0
 Psf2Rows s after =
     HeadRows s
-    (Row ((le32 s 24 < 1) ⊎ (255 < le32 s 24)) Shape 24
-    (Row ((le32 s 28 < 1) ⊎ (255 < le32 s 28)) Shape 28
-    (Row (le32 s 20 ≡ le32 s 24 * rowBytes (le32 s 28) → ⊥) Shape 20
-    (Row (length s < le32 s 8 + le32 s 16 * le32 s 20) BodyCut (length s)
+    (Row ((le32 s 24 < 1) ⊎ (255 < le32 s 24)) 7 24
+    (Row ((le32 s 28 < 1) ⊎ (255 < le32 s 28)) 7 28
+    (Row (le32 s 20 ≡ le32 s 24 * rowBytes (le32 s 28) → ⊥) 7 20
+    (Row (length s < le32 s 8 + le32 s 16 * le32 s 20) 8 (length s)
     (after (psf2Font (fieldsOf s)))))))
 
--- row 9 of a file that begins 27 5B A4 68
-abbrev pub EntryRows : List ℕ → (Checked → Type 0) → Checked → Type 0
+-- a file that begins 27 5B A4 68: row 9
+abbrev pub EntryRows : List ℕ → (Said Font → Type 0) → Said Font → Type 0
 EntryRows s rest =
-    RowAt (FirstBroken s (le32 s 20) (le32 s 16) (le32 s 8)) Entry (entryAt (le32 s 8))
-    (Row (IsGreatest s (le32 s 16) (le32 s 8) (rowsAt s) (le32 s 24) → ⊥) Entry 24
-    (Row (IsGreatest s (le32 s 16) (le32 s 8) (colsAt s) (le32 s 28) → ⊥) Entry 28 rest))
+    RowAt (FirstBroken s (le32 s 20) (le32 s 16) (le32 s 8)) 9 (entryAt (le32 s 8))
+    (Row (IsGreatest s (le32 s 16) (le32 s 8) (rowsAt s) (le32 s 24) → ⊥) 9 24
+    (Row (IsGreatest s (le32 s 16) (le32 s 8) (colsAt s) (le32 s 28) → ⊥) 9 28 rest))
 
 -- its rows 3 to 9
-abbrev pub Vfont2Rows : List ℕ → (Font → Checked → Type 0) → Checked → Type 0
+abbrev pub Vfont2Rows : List ℕ → (Font → Said Font → Type 0) → Said Font → Type 0
 Vfont2Rows s after =
     HeadRows s
-    (Row (255 < le32 s 24) Shape 24
-    (Row (255 < le32 s 28) Shape 28
-    (Row (length s < le32 s 8 + le32 s 16 * 18 + le32 s 20) BodyCut (length s)
+    (Row (255 < le32 s 24) 7 24
+    (Row (255 < le32 s 28) 7 28
+    (Row (length s < le32 s 8 + le32 s 16 * 18 + le32 s 20) 8 (length s)
     (EntryRows s (after (vfont2Font (fieldsOf s)))))))
 
 -- the rows of the kind that a file begins with
-abbrev pub KindRows : List ℕ → (Font → Checked → Type 0) → Checked → Type 0
+abbrev pub KindRows : List ℕ → (Font → Said Font → Type 0) → Said Font → Type 0
 KindRows s after a =
     (Begins (magicOf Psf1) s × Psf1Rows s after a)
     ⊎ ((Begins (magicOf Psf2) s × Psf2Rows s after a) ⊎ (Begins (magicOf Vfont2) s × Vfont2Rows s after a))
 
 -- rows 1 to 9, and those after them
-abbrev pub RowsThen : List ℕ → (Font → Checked → Type 0) → Checked → Type 0
+abbrev pub RowsThen : List ℕ → (Font → Said Font → Type 0) → Said Font → Type 0
 RowsThen s after =
-    Row (limit < length s) TooLong limit
-    (Row ((Begins (magicOf Psf1) s → ⊥) × (Begins (magicOf Psf2) s → ⊥) × (Begins (magicOf Vfont2) s → ⊥)) Kind 0
+    Row (limit < length s) 1 limit
+    (Row ((Begins (magicOf Psf1) s → ⊥) × (Begins (magicOf Psf2) s → ⊥) × (Begins (magicOf Vfont2) s → ⊥)) 2 0
     (KindRows s after))
 
 -- rows 10 to 12 of a font with a table, row 12 of one without
-abbrev pub TailRows : List ℕ → Font → Bool → Checked → Type 0
+abbrev pub TailRows : List ℕ → Font → Bool → Said Font → Type 0
 TailRows s f true =
-    Row (Unfinished (codingOf (f .kind)) (f .count) (tailOf s f)) TableCut (length s)
-    (RowAt (BadAt (codingOf (f .kind)) (f .count) (tailOf s f)) TableBad (λ k. f .end + k)
-    (RowAt (TrailingAt (codingOf (f .kind)) (f .count) (tailOf s f)) Trailing (λ k. f .end + k)
-    (λ a. a ≡ Sound f)))
-TailRows s f false = Row (f .end < length s) Trailing (f .end) (λ a. a ≡ Sound f)
+    Row (ofTail Unfinished s f) 10 (length s)
+    (RowAt (ofTail BadAt s f) 11 (λ k. f .end + k)
+    (RowAt (ofTail TrailingAt s f) 12 (λ k. f .end + k)
+    (λ a. a ≡ gives f)))
+TailRows s f false = Row (f .end < length s) 12 (f .end) (λ a. a ≡ gives f)
 
--- rows 1 to 9
-abbrev pub RowsTo9 : List ℕ → Checked → Type 0
-RowsTo9 s = RowsThen s (λ f a. a ≡ Sound f)
+-- rows 1 to 9 alone: of a font f that none of them applies to, `RowsTo9 s (gives f)`
+abbrev pub RowsTo9 : List ℕ → Said Font → Type 0
+RowsTo9 s = RowsThen s (λ f a. a ≡ gives f)
 
--- all rows
-abbrev pub Rows : List ℕ → Checked → Type 0
-Rows s = RowsThen s (λ f. TailRows s f (f .table))
+-- all rows of the check
+abbrev pub CheckRows : List ℕ → Said Font → Type 0
+CheckRows s = RowsThen s (λ f. TailRows s f (f .table))
 
--- the number of a glyph that has no bitmap, and of one that has
-abbrev pub Missing : List ℕ → Font → ℕ → Type 0
-Missing s f g = (g < f .count) × NoGlyph s f g (f .kind)
+-- Bitmaps: "ASK for the glyph, NO GLYPH, ASK for row and column."
 
-abbrev pub Has : List ℕ → Font → ℕ → Type 0
-Has s f g = (g < f .count) × (NoGlyph s f g (f .kind) → ⊥)
+abbrev pub GlyphRows : {A : Type 0} → List ℕ → ℕ → (Font → Said A → Type 0) → Said A → Type 0
+GlyphRows s g rest = Own s (λ f. Row (f .count ≤ g) 13 0 (Row (NoGlyph s f g (f .kind)) 16 0 (rest f)))
 
--- "A reading is n descriptions as lists of items, glyph 0's first, whose bytes in the font's coding, end to end, are the tail"; of a font
--- without a table, whose tail is nothing, no descriptions
-abbrev pub Reads : List ℕ → Font → List Desc → Type 0
-Reads s f ds = Readable (codingOf (f .kind)) ds × (tailOf s f ≡ encode (codingOf (f .kind)) ds)
+-- a glyph's bytes
+abbrev pub GlyphPartRows : List ℕ → ℕ → Said (ℕ × ℕ) → Type 0
+GlyphPartRows s g = GlyphRows s g (λ f a. a ≡ gives (bitmapIn s f g (f .kind) .start, bitmapIn s f g (f .kind) .len))
 
--- o is a sound font of a kind, with all that font f of s has
+-- a row's bytes
+abbrev pub RowPartRows : List ℕ → ℕ → ℕ → Said (ℕ × ℕ) → Type 0
+RowPartRows s g y =
+    GlyphRows s g (λ f.
+    Row (bitmapIn s f g (f .kind) .height ≤ y) 13 0
+    (λ a. a ≡ gives (rowStart (bitmapIn s f g (f .kind)) y, rowBytes (bitmapIn s f g (f .kind) .width))))
+
+-- a pixel
+abbrev pub PixelRows : List ℕ → ℕ → ℕ → ℕ → Said ℕ → Type 0
+PixelRows s g y x =
+    GlyphRows s g (λ f.
+    Row ((bitmapIn s f g (f .kind) .height ≤ y) ⊎ (bitmapIn s f g (f .kind) .width ≤ x)) 13 0
+    (λ a. a ≡ gives (pixelIn s (bitmapIn s f g (f .kind)) y x)))
+
+-- a glyph's metrics
+abbrev pub MetricsRows : List ℕ → ℕ → Said Metrics → Type 0
+MetricsRows s g = GlyphRows s g (λ f a. a ≡ gives (kindMetrics s f g (f .kind)))
+
+-- k parts from the i-th on, end to end
+abbrev pub joined : (ℕ → List ℕ) → ℕ → ℕ → List ℕ
+joined part i zero = []
+joined part i (suc k) = part i ++ joined part (suc i) k
+
+-- "Lookups and walks: NO TABLE, then ASK, then UNMAPPED."
+
+-- item k of glyph g
+abbrev pub ItemRows : List ℕ → ℕ → ℕ → Said Item → Type 0
+ItemRows s g k =
+    Own s (λ f.
+    Row (f .table ≡ false) 14 0
+    (Reading s f (λ ds.
+    Row ((i : Item) → ItemIs ds g k i → ⊥) 13 0
+    (Gives (ItemIs ds g k)))))
+
+-- the lowest glyph that lists the value v
+abbrev pub ValueRows : List ℕ → ℕ → Said ℕ → Type 0
+ValueRows s v =
+    Own s (λ f.
+    Row (f .table ≡ false) 14 0
+    (Row (0x10FFFF < v) 13 0
+    (Reading s f (λ ds.
+    Row (Nowhere (ListsValue v) 0 ds) 15 0
+    (Gives (Lowest (ListsValue v) 0 ds))))))
+
+-- the lowest glyph that lists the sequence vs
+abbrev pub SequenceRows : List ℕ → List ℕ → Said ℕ → Type 0
+SequenceRows s vs =
+    Own s (λ f.
+    Row (f .table ≡ false) 14 0
+    (Row ((vs ≡ []) ⊎ Any (λ (v : ℕ). 0x10FFFF < v) vs) 13 0
+    (Reading s f (λ ds.
+    Row (Nowhere (ListsSequence vs) 0 ds) 15 0
+    (Gives (Lowest (ListsSequence vs) 0 ds))))))
+
+-- "Conversions: 17 to 21 in order."
+
+-- 18: "GLYPHS if n is not 256 or 512 (place 16), then if the width is not 8 (place 28)"; "GLYPHS, place that entry's start, at the first entry
+-- that has no glyph or whose five metrics are not (greatest height, 0, 0, greatest width, greatest width)"
+abbrev pub GlyphsAt : Conversion → List ℕ → Font → ℕ → Type 0
+GlyphsAt Psf1ToPsf2 s f p = ⊥
+GlyphsAt Psf2ToPsf1 s f p =
+    ((p ≡ 16) × (f .count ≡ 256 → ⊥) × (f .count ≡ 512 → ⊥)) ⊎ ((p ≡ 28) × ((f .count ≡ 256) ⊎ (f .count ≡ 512)) × (f .width ≡ 8 → ⊥))
+GlyphsAt Psf2ToVfont2 s f p = ⊥
+GlyphsAt Vfont2ToPsf2 s f p = (i : ℕ) × (p ≡ entryAt (f .entries) i) × FirstUneven s (f .height) (f .width) (f .count) (f .entries) i
+
+-- an item that has a value, single or in a sequence
+abbrev pub Holds : ℕ → Item → Type 0
+Holds v i = (i ≡ Single v) ⊎ (i ≡ Value v)
+
+-- the first value with P among items in a coding has its first byte at k
+pub record FirstValue (c : Coding) (P : ℕ → Type 0) (is : List Item) (k : ℕ) : Type 0 where
+  pub before : List Item
+  pub item : Item
+  pub after : List Item
+  pub same : is ≡ before ++ (item ∷ after)
+  pub value : ℕ
+  pub holds : Holds value item
+  pub has : P value
+  pub earlier : (v : ℕ) → Any (Holds v) before → P v → ⊥
+  pub here : k ≡ length (bytes c before)
+
+-- 19: "VALUE at the first surrogate, D800 to DFFF"; "VALUE at the first value above FFFD"; place "value's first byte"
+abbrev pub ValueAt : Conversion → List Desc → ℕ → Type 0
+ValueAt Psf1ToPsf2 ds = FirstValue Ucs2 (λ v. (0xD800 ≤ v) × (v ≤ 0xDFFF)) (items ds)
+ValueAt Psf2ToPsf1 ds = FirstValue Utf8 (λ v. 0xFFFD < v) (items ds)
+ValueAt Psf2ToVfont2 ds = λ k. ⊥
+ValueAt Vfont2ToPsf2 ds = λ k. ⊥
+
+-- "32 + 18n + nc + t", "32 + nc + t", "4 + nc + t", with "t the bytes of the table in the target's coding"
+abbrev pub needed : Conversion → Font → List Desc → ℕ
+needed c f ds = frontLen c f + length (encode (codingOf (targetKind c)) ds)
+
+-- into a buffer of m bytes
+abbrev pub ConversionRows : Conversion → List ℕ → ℕ → Said ℕ → Type 0
+ConversionRows c s m =
+    Own s (λ f.
+    Row (f .kind ≡ sourceKind c → ⊥) 17 0
+    (Reading s f (λ ds.
+    RowAt (GlyphsAt c s f) 18 (λ p. p)
+    (RowAt (ValueAt c ds) 19 (λ k. f .end + k)
+    (Row (limit < needed c f ds) 20 0
+    (Row (m < needed c f ds) 21 (needed c f ds)
+    (λ a. a ≡ gives (needed c f ds))))))))
+
+-- o is a sound font of a kind, with all that font f of s has: whatever is asked, the calls answer of o as they do of s
 pub record Keeps (s : List ℕ) (f : Font) (o : List ℕ) (k : K.Kind) : Type 0 where
   pub font : Font
   pub sound : checkOf o ≡ Sound font
@@ -136,13 +311,14 @@ pub record Keeps (s : List ℕ) (f : Font) (o : List ℕ) (k : K.Kind) : Type 0 
   pub height : font .height ≡ f .height
   pub width : font .width ≡ f .width
   pub table : font .table ≡ f .table
-  -- every byte of every glyph: "Filler bits may be anything; conversions carry them."
-  pub glyphs : (g : ℕ) → viewOf o (wholeOf (bitmapOf o font g)) ≡ viewOf s (wholeOf (bitmapOf s f g))
-  -- what is answered for every pixel, and for the metrics of every glyph
-  pub pixels : (g y x : ℕ) → pixelOf o (bitmapOf o font g) y x ≡ pixelOf s (bitmapOf s f g) y x
-  pub metrics : (g : ℕ) → metricsOf o font g (bitmapOf o font g) ≡ metricsOf s f g (bitmapOf s f g)
-  -- the descriptions
-  pub reading : (ds : List Desc) → Reads s f ds → Reads o font ds
+  -- every byte of every glyph and row: "Filler bits may be anything; conversions carry them."
+  pub glyphs : (g : ℕ) → viewOf o (glyphPartOf o g) ≡ viewOf s (glyphPartOf s g)
+  pub rows : (g y : ℕ) → viewOf o (rowPartOf o g y) ≡ viewOf s (rowPartOf s g y)
+  pub pixels : (g y x : ℕ) → pixelAt o g y x ≡ pixelAt s g y x
+  pub metrics : (g : ℕ) → glyphMetricsOf o g ≡ glyphMetricsOf s g
+  pub walks : (g k : ℕ) → itemOf o g k ≡ itemOf s g k
+  pub values : (v : ℕ) → valueGlyph o v ≡ valueGlyph s v
+  pub sequences : (vs : List ℕ) → sequenceGlyph o vs ≡ sequenceGlyph s vs
   pub content : (m : Content) → HasContent s m → HasContent o m
 
 -- what a conversion that answered n left of a buffer xs: it "writes exactly the output at the front and nothing behind it", and the output
@@ -159,29 +335,3 @@ pub record Wrote (c : Conversion) (s : List ℕ) (n : ℕ) (xs out : List ℕ) :
   pub plain : Plain (take n out) (targetKind c)
   -- "Entry i has address i × c"
   pub addresses : targetKind c ≡ Vfont2 → (i : ℕ) → i < font .count → addressAt (take n out) (entryAt (headerLen Vfont2) i) ≡ i * charSize font
-
--- 18: "GLYPHS if n is not 256 or 512 (place 16), then if the width is not 8 (place 28)"; "GLYPHS, place that entry's start, at the first entry
--- that has no glyph or whose five metrics are not (greatest height, 0, 0, greatest width, greatest width)"
-abbrev pub GlyphsAt : Conversion → List ℕ → Font → ℕ → Type 0
-GlyphsAt Psf1ToPsf2 s f p = ⊥
-GlyphsAt Psf2ToPsf1 s f p =
-    ((p ≡ 16) × (f .count ≡ 256 → ⊥) × (f .count ≡ 512 → ⊥)) ⊎ ((p ≡ 28) × ((f .count ≡ 256) ⊎ (f .count ≡ 512)) × (f .width ≡ 8 → ⊥))
-GlyphsAt Psf2ToVfont2 s f p = ⊥
-GlyphsAt Vfont2ToPsf2 s f p = (i : ℕ) × (p ≡ entryAt (f .entries) i) × FirstUneven s (f .height) (f .width) (f .count) (f .entries) i
-
--- no place has it
-abbrev pub Never : (ℕ → Type 0) → Type 0
-Never P = (p : ℕ) → P p → ⊥
-
--- 19: VALUE at the first value of the descriptions that the target's coding hasn't: "the first surrogate", "the first value above FFFD"; the
--- place is the "value's first byte"
-abbrev pub ValueAt : Conversion → Font → List Desc → ℕ → Type 0
-ValueAt c f ds p = (k : ℕ) × (p ≡ f .end + k) × FirstUncarried (codingOf (sourceKind c)) (codingOf (targetKind c)) (items ds) 0 k
-
--- "32 + 18n + nc + t", "32 + nc + t", "4 + nc + t", with "t the bytes of the table in the target's coding"
-abbrev pub needed : Conversion → Font → List Desc → ℕ
-needed c f ds = frontLen c f + length (encode (codingOf (targetKind c)) ds)
-
--- an item that has a value, single or in a sequence
-abbrev pub Holds : ℕ → Item → Type 0
-Holds v i = (i ≡ Single v) ⊎ (i ≡ Value v)
