@@ -34,8 +34,8 @@ use Rattle.questions.specs.Reading.{fontItems, walkOf, lookupOf, anyHigh, askab
 use Rattle.content.specs.Meaning.{Describes}
 use Rattle.content.proofs.Tails.{Tail, tail-known}
 use Rattle.fonts.specs.Reading.{itemOf, valueGlyph, sequenceGlyph}
-use Rattle.laws.specs.Meaning.{Said, gives, refuses, walkSays, lookupSays, Row, Gives, ItemRows, ValueRows, SequenceRows}
-use Rattle.laws.proofs.Exactly.{Exact, row, own-first, reading-of, is-some, less, either}
+use Rattle.laws.specs.Meaning.{Exact, Said, gives, refuses, walkSays, lookupSays, Row, Gives, ItemRows, ValueRows, SequenceRows}
+use Rattle.laws.proofs.Exactly.{row, own-first, reading-of, is-some, less, either}
 
 -- the reading of a sound font
 module _ (s : List ℕ) (f : Font) (y : Bytes s) (sound : checkOf s ≡ Sound f) where

@@ -18,8 +18,7 @@ use Rattle.stages.specs.Reading.{checkOf}
 use Rattle.content.specs.Meaning.{bitmapIn, NoGlyph}
 use Rattle.content.proofs.Source.{unbroken}
 use Rattle.fonts.specs.Reading.{glyphPartOf, rowPartOf, pixelAt, glyphMetricsOf}
-use Rattle.laws.specs.Meaning.{gives, partSays, pixelSays, metricsSays, GlyphPartRows, RowPartRows, PixelRows, MetricsRows, joined}
-use Rattle.laws.proofs.Exactly.{Exact}
+use Rattle.laws.specs.Meaning.{Exact, gives, partSays, pixelSays, metricsSays, GlyphPartRows, RowPartRows, PixelRows, MetricsRows, joined}
 use Rattle.laws.proofs.Located.{part-rows, row-rows, pixel-rows, metrics-rows, bitmap-inside, rows-whole, pixel-of}
 
 module _ (s : List ℕ) (y : Bytes s) where

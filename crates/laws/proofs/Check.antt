@@ -10,8 +10,8 @@ use Rattle.header.specs.declared.Checked.{Checked}
 use Rattle.header.specs.declared.Checked.the-variants.{Sound, Refused}
 use Rattle.stages.specs.Reading.{throughEntries, checkOf}
 use Rattle.stages.proofs.Cases.{tail-after}
-use Rattle.laws.specs.Meaning.{gives, checkSays, RowsTo9, TailRows, CheckRows}
-use Rattle.laws.proofs.Exactly.{Exact, is}
+use Rattle.laws.specs.Meaning.{Exact, gives, checkSays, RowsTo9, TailRows, CheckRows}
+use Rattle.laws.proofs.Exactly.{is}
 use Rattle.laws.proofs.Deciding.{rows-then}
 use Rattle.laws.proofs.Tails.{tail-rows}
 
@@ -25,10 +25,11 @@ check-exactly s y =
 pub to-9-exactly : (s : List ℕ) → Exact (checkSays (throughEntries s)) (RowsTo9 s)
 to-9-exactly s = rows-then s (λ f a. a ≡ gives f) (checkSays (throughEntries s)) (λ r e. ap checkSays (sym e)) (λ f e. is _ (gives f) (ap checkSays (sym e)))
 
+-- a sound font by what is said of it
+pub sound-said : (a : Checked) (f : Font) → checkSays a ≡ gives f → a ≡ Sound f
+sound-said (Sound g) f e = let h : g ≡ f = cc in ap Sound h
+sound-said (Refused r) f e = let z : _≡_ {A = ℕ} 0 1 = cc in absurd (omega arith)
+
 -- a font that none of rows 1 to 9 applies to passed the stages before its tail
 pub passed-9 : (s : List ℕ) (f : Font) → RowsTo9 s (gives f) → throughEntries s ≡ Sound f
-passed-9 s f r = sound-as (throughEntries s) (to-9-exactly s (gives f) .1 r)
-  where
-    sound-as : (a : Checked) → checkSays a ≡ gives f → a ≡ Sound f
-    sound-as (Sound g) e = let h : g ≡ f = cc in ap Sound h
-    sound-as (Refused r) e = let z : _≡_ {A = ℕ} 0 1 = cc in absurd (omega arith)
+passed-9 s f r = sound-said (throughEntries s) f (to-9-exactly s (gives f) .1 r)

@@ -19,7 +19,7 @@ use Rattle.table.proofs.Meaning.{items-read}
 use Rattle.transcode.specs.declared.Measured.the-variants.{Length}
 use Rattle.transcode.proofs.Meaning.{recoded-table}
 use Rattle.header.specs.declared.Kind.{Kind}
-use Rattle.header.specs.declared.Kind.the-variants.{Vfont2}
+use Rattle.header.specs.declared.Kind.the-variants.{Psf1, Psf2, Vfont2}
 use Rattle.header.specs.declared.Font.{Font}
 use Rattle.header.specs.declared.Checked.the-variants.{Sound}
 use Rattle.header.specs.Meaning.{limit, rowBytes, glyphBytes, charSize, headerLen}
@@ -61,7 +61,7 @@ use Rattle.convert.specs.declared.Converted.the-variants.{Wrote as Written, Ref
 use Rattle.convert.specs.Reading.{convertedOf, convertedInto}
 use Rattle.convert.proofs.Cases.{unprepared, no-room, wrote}
 use Rattle.convert.proofs.Asks.{ready, ready-even, ready-long}
-use Rattle.laws.specs.Meaning.{Keeps}
+use Rattle.laws.specs.Meaning.{gives, refuses, convertedSays, Keeps, Wrote}
 use Rattle.laws.proofs.Asking.{described, read-as, itemWith, item-asked, valueWith, value-asked, sequenceWith, sequence-asked}
 use Rattle.laws.proofs.Located.{part-asked, row-asked, pixel-asked, metrics-asked}
 
@@ -405,3 +405,51 @@ module _ (c : Conversion) (s xs : List ℕ) where
     output-is =
         let w = readied n e in
         ap (take n) (w .2) ∙ front-is (outputOf c s (w .0)) xs n (output-length c s (w .0) n y (w .1))
+
+-- an answer by what it says
+pub wrote-said : (x : Converted) (n : ℕ) → convertedSays x ≡ gives n → x ≡ Written n
+wrote-said (Written k) n e = let h : k ≡ n = cc in ap Written h
+wrote-said (Refused r) n e = let z : _≡_ {A = ℕ} 0 1 = cc in absurd (omega arith)
+
+pub refused-said : (x : Converted) (n p : ℕ) → convertedSays x ≡ refuses n p → (r : Refusal) × (x ≡ Refused r)
+refused-said (Written k) n p e = let z : _≡_ {A = ℕ} 0 1 = cc in absurd (omega arith)
+refused-said (Refused r) n p e = (r, refl)
+
+module _ (c : Conversion) (s xs : List ℕ) where
+  module _ (n : ℕ) (y : Bytes s) (e : convertedOf c s (length xs) ≡ Written n) where
+    -- what was written
+    pub means : Wrote c s n xs (convertedInto c s xs)
+    means =
+        let w = readied c s xs n e in
+        let f = w .0 in
+        record {
+          font = f;
+          sound = is-sound c s f n y (w .1);
+          kind = is-source c s f n y (w .1);
+          long = ap length (output-is c s xs n y e) ∙ output-length c s f n y (w .1);
+          behind = ap (drop n) (w .2) ∙ rest-is (outputOf c s f) xs n (output-length c s f n y (w .1));
+          octets = subst Bytes (sym (output-is c s xs n y e)) (output-bytes c s f n y (w .1));
+          keeps = subst (λ (x : List ℕ). Keeps s f x (targetKind c)) (sym (output-is c s xs n y e)) (output-keeps c s f n y (w .1));
+          plain = subst (λ (x : List ℕ). Plain x (targetKind c)) (sym (output-is c s xs n y e)) (output-plain c s f n y (w .1));
+          addresses = λ q i l. ap (λ (x : List ℕ). addressAt x (entryAt (headerLen Vfont2) i)) (output-is c s xs n y e) ∙ output-addresses c s f n y (w .1) q i l;
+        }
+
+-- there and back, where both steps are accepted: xs and ys are the two buffers
+module _ (c d : Conversion) (s xs ys : List ℕ) (n k : ℕ) (y : Bytes s) (e : convertedOf c s (length xs) ≡ Written n)
+    (q : convertedOf d (take n (convertedInto c s xs)) (length ys) ≡ Written k) where
+  pub back-keeps : (f : Font) × (checkOf s ≡ Sound f) × Keeps s f (take k (convertedInto d (take n (convertedInto c s xs)) ys)) (targetKind d)
+  back-keeps =
+      let a = means c s xs n y e in
+      let b = means d (take n (convertedInto c s xs)) ys k (a .octets) q in
+      (a .font, a .sound, keeps-twice s (take n (convertedInto c s xs)) _ (a .font) (b .font) (targetKind c) (targetKind d) (a .keeps) (b .sound) (b .keeps))
+
+  pub back-bytes : targetKind d ≡ sourceKind c → (sourceKind c ≡ Psf1) ⊎ (sourceKind c ≡ Psf2) → Plain s (sourceKind c) → take k (convertedInto d (take n (convertedInto c s xs)) ys) ≡ s
+  back-bytes same b p =
+      let w = readied c s xs n e in
+      let f = w .0 in
+      let o = outputOf c s f in
+      let z : take n (convertedInto c s xs) ≡ o = output-is c s xs n y e in
+      let q' : convertedOf d o (length ys) ≡ Written k = subst (λ (x : List ℕ). convertedOf d x (length ys) ≡ Written k) z q in
+      let v = readied d o ys k q' in
+      ap (λ (x : List ℕ). take k (convertedInto d x ys)) z ∙ output-is d o ys k (output-bytes c s f n y (w .1)) q'
+      ∙ output-back c d s f n y (w .1) (v .0) k (v .1) same b p

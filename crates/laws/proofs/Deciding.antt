@@ -27,8 +27,8 @@ use Rattle.entries.proofs.Meaning.{scan-broken, scan-greatest, one-greatest}
 use Rattle.stages.specs.Reading.{scanned, entriesOf, throughBody, throughEntries}
 use Rattle.stages.proofs.Cases as stages
 use Rattle.content.proofs.Magic.{kind-says}
-use Rattle.laws.specs.Meaning.{Said, refuses, told, Row, Psf1Rows, HeadRows, Psf2Rows, EntryRows, Vfont2Rows, KindRows, RowsThen}
-use Rattle.laws.proofs.Exactly.{Exact, row, row-at, less, equal, other, either}
+use Rattle.laws.specs.Meaning.{Exact, Said, refuses, told, Row, Psf1Rows, HeadRows, Psf2Rows, EntryRows, Vfont2Rows, KindRows, RowsThen}
+use Rattle.laws.proofs.Exactly.{row, row-at, less, equal, other, either}
 
 -- whether a number is the greatest, where the greatest is known
 module _ (s : List ℕ) (n start : ℕ) (m : ℕ → ℕ) (a p : ℕ) (g : IsGreatest s n start m p) where

@@ -12,10 +12,7 @@ use Rattle.header.specs.declared.Checked.{Checked}
 use Rattle.header.specs.declared.Checked.the-variants.{Sound, Refused}
 use Rattle.stages.specs.Reading.{checkOf}
 use Rattle.content.specs.Meaning.{Describes}
-use Rattle.laws.specs.Meaning.{Said, gives, refuses, told, Row, given, skipped, RowAt, given-at, skipped-at, Own, own, sound, Reading, reads, Gives, gives-it}
-
-abbrev pub Exact : {A : Type 0} → Said A → (Said A → Type 0) → Type 0
-Exact {A} x P = (a : Said A) → (x ≡ a) ↔ P a
+use Rattle.laws.specs.Meaning.{Exact, Said, gives, refuses, told, Row, given, skipped, RowAt, given-at, skipped-at, Own, own, sound, Reading, reads, Gives, gives-it}
 
 -- the end of a chain: one answer
 pub is : {A : Type 0} (x v : Said A) → x ≡ v → Exact x (λ a. a ≡ v)

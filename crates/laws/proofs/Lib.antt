@@ -1,14 +1,18 @@
--- What the public calls mean.
+-- What the public calls mean. To read first: Demands, and then the pages that it cites: Check, Tables, Bitmaps, Questions, Conversions, and
+-- Vectors (the cases P1 to P14). The other files are the steps to them.
+pub mod Demands
 pub mod Check
 pub mod Tables
-pub mod Questions
 pub mod Bitmaps
+pub mod Questions
 pub mod Conversions
+pub mod Vectors
 mod Exactly
 mod Deciding
 mod Tails
 mod Asking
 mod Reading
+mod WellFormed
 mod Located
 mod Converting
 mod Refusing

@@ -36,8 +36,8 @@ use Rattle.content.proofs.Source.{is-placed}
 use Rattle.content.proofs.Stretches.{byte-of-part}
 use Rattle.stages.specs.Reading.{checkOf}
 use Rattle.fonts.specs.Reading.{glyphPartOf, rowPartOf, pixelAt, glyphMetricsOf}
-use Rattle.laws.specs.Meaning.{Said, gives, refuses, told, partSays, pixelSays, metricsSays, GlyphRows, GlyphPartRows, RowPartRows, PixelRows, MetricsRows, joined}
-use Rattle.laws.proofs.Exactly.{Exact, is, row, own-first, moved, less, at-most, either}
+use Rattle.laws.specs.Meaning.{Exact, Said, gives, refuses, told, partSays, pixelSays, metricsSays, GlyphRows, GlyphPartRows, RowPartRows, PixelRows, MetricsRows, joined}
+use Rattle.laws.proofs.Exactly.{is, row, own-first, moved, less, at-most, either}
 
 -- whether a number below the count is that of a glyph without a bitmap
 glyph-or-none : (s : List ℕ) (f : Font) (g : ℕ) (k : Kind) → Without s f g k ⊎ (Without s f g k → ⊥)

@@ -5,8 +5,7 @@ use mathlib.Core.List.{List}
 use Prim.Native.Nat.{ℕ}
 use Rattle.base.specs.Meaning.{Bytes}
 use Rattle.fonts.specs.Reading.{itemOf, valueGlyph, sequenceGlyph}
-use Rattle.laws.specs.Meaning.{walkSays, lookupSays, ItemRows, ValueRows, SequenceRows}
-use Rattle.laws.proofs.Exactly.{Exact}
+use Rattle.laws.specs.Meaning.{Exact, walkSays, lookupSays, ItemRows, ValueRows, SequenceRows}
 use Rattle.laws.proofs.Asking.{item-rows, value-rows, sequence-rows}
 
 module _ (s : List ℕ) (y : Bytes s) where

@@ -53,8 +53,8 @@ use Rattle.conversion.proofs.Ready.{even-fields}
 use Rattle.convert.specs.declared.Converted.{Converted}
 use Rattle.convert.specs.declared.Converted.the-variants.{Wrote, Refused}
 use Rattle.convert.specs.Reading.{converted, convertedOf}
-use Rattle.laws.specs.Meaning.{convertedSays, GlyphsAt, Holds, FirstValue, ValueAt, needed, ConversionRows}
-use Rattle.laws.proofs.Exactly.{Exact, is, row, row-at, own-first, reading-of, less}
+use Rattle.laws.specs.Meaning.{Exact, convertedSays, GlyphsAt, Holds, FirstValue, ValueAt, needed, ConversionRows}
+use Rattle.laws.proofs.Exactly.{is, row, row-at, own-first, reading-of, less}
 use Rattle.laws.proofs.Asking.{described, read-as}
 
 -- 1 to 12, then 17

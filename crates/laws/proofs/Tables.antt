@@ -1,13 +1,16 @@
 -- Demand 3 about the public calls on a whole file: "For any font within the size limit, marked as having a table, that none of refusals 1 to 9
 -- applies to, with n glyphs". `check` answers `checkOf s`, `item` answers `itemOf s`, `find_value` answers `valueGlyph s`, `find_sequence`
 -- answers `sequenceGlyph s`. `ofTail P s f`: P of the font's tail, in its coding, with n its count of glyphs.
-use mathlib.Core.Path.{_≡_, sym, _∙_}
+use mathlib.Core.Path.{_≡_, sym, _∙_, subst}
 use mathlib.Core.Logic.{_↔_}
 use mathlib.Core.Bool.{true}
 use mathlib.Core.List.{List, []}
 use Prim.Native.Nat.{ℕ, _+_, _≤_, _<_}
 use lib.ListN.{length}
-use Rattle.base.specs.Meaning.{Bytes}
+use Rattle.base.specs.Meaning.{Begins, Bytes}
+use Rattle.utf8.specs.declared.Read.the-variants.{Value as ReadValue}
+use Rattle.utf8.specs.Meaning.{Scalar, utf8Bytes, WellFormed}
+use Rattle.utf8.specs.Reading.{readValue}
 use Rattle.table.specs.declared.Item.{Item}
 use Rattle.table.specs.Meaning.{Desc, encode, Readable, IsTable, LongestStart, Unfinished, BadAt, TrailingAt}
 use Rattle.table.proofs.Meaning as meaning
@@ -20,6 +23,8 @@ use Rattle.laws.specs.Meaning.{gives, refuses, checkSays, walkSays, look
 use Rattle.laws.proofs.Check.{passed-9}
 use Rattle.laws.proofs.Tails as tail
 use Rattle.laws.proofs.Reading as inner
+use Rattle.laws.proofs.WellFormed.{formed-is, is-formed}
+use Rattle.laws.proofs.WellFormed as reader
 
 module _ (s : List ℕ) (y : Bytes s) (f : Font) (passes : RowsTo9 s (gives f)) (marked : f .table ≡ true) where
   -- (a) "its table is accepted exactly when they are n descriptions of the published grammar, end to end, nothing over"
@@ -67,3 +72,11 @@ module _ (s : List ℕ) (y : Bytes s) (f : Font) (passes : RowsTo9 s (gives f)) 
 
       pub sequence-unmapped-exactly : (lookupSays (sequenceGlyph s vs) ≡ refuses 15 0) ↔ Nowhere (ListsSequence vs) 0 (r .reading)
       sequence-unmapped-exactly = inner.sequence-unmapped-exactly s y f (passed-9 s f passes) marked r vs some low
+
+-- "In PSF2 and vfont2 a value is well-formed UTF-8": the bytes of a value are the rows of the Unicode Standard's Table 3-7, all of them
+pub well-formed-exactly : (s : List ℕ) → WellFormed s ↔ ((v : ℕ) × Scalar v × (s ≡ utf8Bytes v))
+well-formed-exactly s = (formed-is s, λ (v, h, e). subst WellFormed (sym e) (is-formed v h))
+
+-- the one reader of a value (`utf8::read_value`) gives v, l bytes long, exactly when v is a value, l its length, and the bytes begin with its bytes
+pub read-exactly : (s : List ℕ) → Bytes s → (v l : ℕ) → (readValue s ≡ ReadValue v l) ↔ (Scalar v × (l ≡ length (utf8Bytes v)) × Begins (utf8Bytes v) s)
+read-exactly = reader.value-exactly

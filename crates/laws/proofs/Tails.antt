@@ -22,8 +22,8 @@ use Rattle.header.specs.declared.Checked.the-variants.{Sound, Refused}
 use Rattle.stages.specs.Meaning.{codingOf, tailOf}
 use Rattle.stages.specs.Reading.{answered, throughEntries, checkOf}
 use Rattle.stages.proofs.Cases.{with-table, bare-trailing, bare-sound, tail-after, placed}
-use Rattle.laws.specs.Meaning.{gives, refuses, checkSays, given, skipped, given-at, skipped-at, ofTail, TailRows}
-use Rattle.laws.proofs.Exactly.{Exact, row, row-at, is, less, clash, saidPlace}
+use Rattle.laws.specs.Meaning.{Exact, gives, refuses, checkSays, given, skipped, given-at, skipped-at, ofTail, TailRows}
+use Rattle.laws.proofs.Exactly.{row, row-at, is, less, clash, saidPlace}
 
 not-refused : {A : Type 0} {f : Font} (number p : ℕ) → refuses number p ≡ gives f → A
 not-refused number p e = let z : _≡_ {A = ℕ} 0 1 = cc in absurd (omega arith)

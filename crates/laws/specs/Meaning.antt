@@ -1,7 +1,7 @@
 -- The words of the statements: what a call says back, document 01's rows call by call, what a conversion keeps.
 use Prim.Native.Nat.{ℕ, zero, suc, _+_, _*_, _≤_, _<_}
 use mathlib.Core.Path.{_≡_}
-use mathlib.Core.Logic.{_⊎_}
+use mathlib.Core.Logic.{_⊎_, _↔_}
 use mathlib.Core.Bool.{Bool, true, false}
 use mathlib.Core.List.{List, [], _∷_, _++_}
 use lib.ListN.{length, getD, take, drop}
@@ -108,6 +108,10 @@ pub data Reading {A : Type 0} (s : List ℕ) (f : Font) (rest : List Desc → Sa
 -- what is given has P
 pub data Gives {A : Type 0} (P : A → Type 0) (a : Said A) : Type 0 where
   gives-it : (v : A) → P v → a ≡ gives v → Gives P a
+
+-- a call says x: of an answer, its rows hold exactly when it is x
+abbrev pub Exact : {A : Type 0} → Said A → (Said A → Type 0) → Type 0
+Exact {A} x rows = (a : Said A) → (x ≡ a) ↔ rows a
 
 -- what is said of a table, of the tail of a font: in its coding, of as many descriptions as it has glyphs
 abbrev pub ofTail : {B : Type 1} → (Coding → ℕ → List ℕ → B) → List ℕ → Font → B

@@ -1,6 +1,5 @@
 -- The laws of the table; those to read first are in Meaning.
 pub mod Meaning
-pub mod Vectors
 pub mod Stepping
 pub mod Firsts
 pub mod Telling
