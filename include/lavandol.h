@@ -25,20 +25,20 @@
 #include <stddef.h>
 #include <stdint.h>
 
-/* The number of this interface: it grows when a declaration below changes. */
-#define LAVANDOL_VERSION 1
+/* The number of this interface: it grows when a declaration below changes. Since 2 every answer begins with a lav_refusal. */
+#define LAVANDOL_VERSION 2
 
 #ifdef __cplusplus
 extern "C" {
 #endif
 
 /*
- * Refusals. Each answer has the members `refusal` and `place`. `refusal` is 0 where the question is answered; then `place` is 0. Else
- * `refusal` is one of the numbers below, `place` tells where, and all other members are 0.
+ * Refusals. The first member of each answer is `refusal`, a lav_refusal. Its number is 0 (LAV_OK) where the question is answered; then
+ * its place is 0. Else its number is one of those below, its place tells where, and all other members of the answer are 0.
  *
  * Every call gives the font's own refusal, 1 to 12, before any other. They are tried in this order and the first that applies is
  * given, so a font that is refused is refused by all calls alike. The places of 1 to 12 are offsets in the file; the place of 13 to 16
- * is 0.
+ * is 0; those of 17 to 21 are said at each.
  */
 enum {
     LAV_OK = 0,
@@ -57,10 +57,11 @@ enum {
     LAV_TABLE_BAD = 11,  /* no table begins so; place: the first byte after the longest part that could still be completed */
     LAV_TRAILING = 12,   /* bytes after a complete table, or after the bitmaps of a font without one; place: the first such byte */
 
-    LAV_ASK = 13,        /* the question's fault: glyph, item, row or column number too high, value above 10FFFF, empty sequence */
-    LAV_NO_TABLE = 14,   /* a walk or lookup on a font without a Unicode table */
-    LAV_UNMAPPED = 15,   /* no glyph lists it */
-    LAV_NO_GLYPH = 16,   /* a bitmap or metrics asked of a vfont2 entry of size 0 */
+    LAV_ASK = 13,        /* the question's fault: glyph, item, row or column number too high, value above 10FFFF, empty sequence;
+                            place 0 */
+    LAV_NO_TABLE = 14,   /* a walk or lookup on a font without a Unicode table; place 0 */
+    LAV_UNMAPPED = 15,   /* no glyph lists it; place 0 */
+    LAV_NO_GLYPH = 16,   /* a bitmap or metrics asked of a vfont2 entry of size 0; place 0 */
 
     LAV_WRONG_KIND = 17, /* the conversion wants another kind; place 0 */
     LAV_GLYPHS = 18,     /* the target can't have these glyphs; to PSF1: not 256 or 512 of them (place 16), then width not 8 (28);
@@ -77,11 +78,16 @@ enum { LAV_PSF1 = 1, LAV_PSF2 = 2, LAV_VFONT2 = 3 };
 /* Kinds of item in a glyph's description (`kind` of lav_item_answer). */
 enum { LAV_SINGLE = 1, LAV_START = 2, LAV_VALUE_IN_SEQUENCE = 3, LAV_END = 4 };
 
+/* A refusal, the first member of every answer. */
+typedef struct {
+    uint32_t number; /* LAV_OK where the question is answered, else LAV_TOO_LONG to LAV_ROOM */
+    uint64_t place;
+} lav_refusal;
+
 /* What a sound font's header says. */
 typedef struct {
-    uint32_t refusal;
+    lav_refusal refusal;
     uint32_t kind;  /* LAV_PSF1, LAV_PSF2 or LAV_VFONT2 */
-    size_t place;
     size_t count;   /* glyphs */
     size_t height;  /* greatest height and width of a glyph, in pixels */
     size_t width;
@@ -92,18 +98,16 @@ typedef struct {
     size_t end;     /* offset of the first byte after the bitmaps: the Unicode table, if there is one */
 } lav_font;
 
-/* A part of the file: `length` bytes from `offset` on. Both are 0 where the question is refused. */
+/* A part of the file: `length` bytes from `offset` on. Both are 0 where the question is refused; offset + length <= file_len always. */
 typedef struct {
-    uint32_t refusal;
-    size_t place;
+    lav_refusal refusal;
     size_t offset;
     size_t length;
 } lav_part;
 
 /* A glyph's metrics, in pixels; each may be negative. All are 0 where the question is refused. */
 typedef struct {
-    uint32_t refusal;
-    size_t place;
+    lav_refusal refusal;
     int32_t up;      /* rows above the baseline point, */
     int32_t down;    /* and below it */
     int32_t left;    /* columns left of the baseline point, */
@@ -113,34 +117,61 @@ typedef struct {
 
 /* One item of a glyph's description. A mark has the value 0. */
 typedef struct {
-    uint32_t refusal;
+    lav_refusal refusal;
     uint32_t kind; /* LAV_SINGLE, LAV_START, LAV_VALUE_IN_SEQUENCE or LAV_END */
-    size_t place;
     uint32_t value;
 } lav_item_answer;
 
 /* One number; what it counts is said at each call. */
 typedef struct {
-    uint32_t refusal;
-    size_t place;
+    lav_refusal refusal;
     size_t number;
 } lav_number;
 
-/* The sizes that the library's own structs have. */
-#if defined SIZE_MAX && SIZE_MAX > 0xFFFFFFFF
+/* The sizes that the library's own structs have, and where their members stand: a compiler that lays them out otherwise stops here. */
 #if defined __cplusplus && __cplusplus >= 201103L
 #define LAVANDOL_ASSERT static_assert
 #elif defined __STDC_VERSION__ && __STDC_VERSION__ >= 201112L
 #define LAVANDOL_ASSERT _Static_assert
 #endif
 #ifdef LAVANDOL_ASSERT
-LAVANDOL_ASSERT(sizeof(lav_font) == 80, "lav_font has 80 bytes");
-LAVANDOL_ASSERT(sizeof(lav_part) == 32, "lav_part has 32 bytes");
-LAVANDOL_ASSERT(sizeof(lav_metrics_answer) == 40, "lav_metrics_answer has 40 bytes");
-LAVANDOL_ASSERT(sizeof(lav_item_answer) == 24, "lav_item_answer has 24 bytes");
-LAVANDOL_ASSERT(sizeof(lav_number) == 24, "lav_number has 24 bytes");
+#define LAVANDOL_SIZE(type, size) LAVANDOL_ASSERT(sizeof(type) == size, #type " has " #size " bytes")
+#define LAVANDOL_AT(type, member, at) LAVANDOL_ASSERT(offsetof(type, member) == at, #member " of " #type " stands at " #at)
+LAVANDOL_SIZE(lav_refusal, 16);
+LAVANDOL_AT(lav_refusal, number, 0);
+LAVANDOL_AT(lav_refusal, place, 8);
+LAVANDOL_SIZE(lav_font, 88);
+LAVANDOL_AT(lav_font, refusal, 0);
+LAVANDOL_AT(lav_font, kind, 16);
+LAVANDOL_AT(lav_font, count, 24);
+LAVANDOL_AT(lav_font, height, 32);
+LAVANDOL_AT(lav_font, width, 40);
+LAVANDOL_AT(lav_font, table, 48);
+LAVANDOL_AT(lav_font, entries, 56);
+LAVANDOL_AT(lav_font, bitmaps, 64);
+LAVANDOL_AT(lav_font, size, 72);
+LAVANDOL_AT(lav_font, end, 80);
+LAVANDOL_SIZE(lav_part, 32);
+LAVANDOL_AT(lav_part, refusal, 0);
+LAVANDOL_AT(lav_part, offset, 16);
+LAVANDOL_AT(lav_part, length, 24);
+LAVANDOL_SIZE(lav_metrics_answer, 40);
+LAVANDOL_AT(lav_metrics_answer, refusal, 0);
+LAVANDOL_AT(lav_metrics_answer, up, 16);
+LAVANDOL_AT(lav_metrics_answer, down, 20);
+LAVANDOL_AT(lav_metrics_answer, left, 24);
+LAVANDOL_AT(lav_metrics_answer, right, 28);
+LAVANDOL_AT(lav_metrics_answer, logical, 32);
+LAVANDOL_SIZE(lav_item_answer, 24);
+LAVANDOL_AT(lav_item_answer, refusal, 0);
+LAVANDOL_AT(lav_item_answer, kind, 16);
+LAVANDOL_AT(lav_item_answer, value, 20);
+LAVANDOL_SIZE(lav_number, 24);
+LAVANDOL_AT(lav_number, refusal, 0);
+LAVANDOL_AT(lav_number, number, 16);
+#undef LAVANDOL_AT
+#undef LAVANDOL_SIZE
 #undef LAVANDOL_ASSERT
-#endif
 #endif
 
 /* Checks a font. Refusals: 1 to 12. A font that passes is refused by no later call on the same bytes with 1 to 12. */
@@ -148,13 +179,13 @@ lav_font lav_check(const uint8_t *file, size_t file_len);
 
 /*
  * Where glyph g's bitmap stands in the file: rows from the top, each row so many whole bytes as its pixels fill, pixels from a byte's
- * top bit on, 1 is drawn. Bits after a row's last pixel may be anything. Where it is not refused, offset + length <= file_len.
+ * top bit on, 1 is drawn. Bits after a row's last pixel may be anything. offset + length <= file_len.
  * Refusals: 1 to 12, ASK (no glyph g), NO_GLYPH.
  */
 lav_part lav_glyph(const uint8_t *file, size_t file_len, size_t g);
 
 /*
- * Where row y of glyph g stands. Where it is not refused, offset + length <= file_len.
+ * Where row y of glyph g stands. offset + length <= file_len.
  * Refusals: 1 to 12, ASK (no glyph g), NO_GLYPH, ASK (no row y in this glyph).
  */
 lav_part lav_row(const uint8_t *file, size_t file_len, size_t g, size_t y);
