@@ -6,16 +6,17 @@
  * outside the slices that it is lent. The proof ends at this header: nothing checks the declarations below against the library, and
  * the caller must keep the three rules that follow.
  *
- * - A slice is a pointer and a number of elements: `file, file_len` are bytes, `values, value_count` are uint32_t. The pointer is not
- *   NULL, also where the length is 0, and so many elements can be read there (written, for a buffer). A slice of uint32_t is aligned.
+ * - A slice is a pointer and a number of elements: `file, file_len` are bytes, `values, value_count` are uint32_t. So many elements can
+ *   be read there (written, for a buffer). The pointer must not be NULL, not even where the length is 0: pass the address of any byte
+ *   then (of a uint32_t for `values`); nothing is read or written there. A slice of uint32_t is aligned.
  * - A lent slice does not change during the call, and a buffer overlaps nothing else that the call is lent.
  * - The pointers are not kept: memory may be moved or freed after the call.
  *
  * The functions allocate nothing, have no global state and no locks, and call nothing: the archive needs no C library. So they may run
  * in several threads at once, and in an interrupt handler; but lav_check, lav_metrics and the four conversions use SSE registers (the
- * compiler's doing), so a handler that does not save them must not call these six. They need at most about 600 bytes of stack
- * (docs/BENCHMARK.md), whatever the font. Each call checks the font first, one pass over the header, the vfont2 entries and the Unicode
- * table; a walk or a lookup is another pass over the Unicode table at most, a conversion two.
+ * compiler's doing; tools/try-boundary reads it off the archive), so a handler that does not save them must not call these six. They
+ * need at most about 600 bytes of stack (docs/BENCHMARK.md), whatever the font. Each call checks the font first, one pass over the
+ * header, the vfont2 entries and the Unicode table; a walk or a lookup is another pass over the Unicode table at most, a conversion two.
  *
  * Numbers in the files are little endian. Glyphs, rows, columns and items are counted from 0.
  */
@@ -204,8 +205,10 @@ lav_metrics_answer lav_metrics(const uint8_t *file, size_t file_len, size_t g);
 
 /*
  * Item k of glyph g's description, in the order of the file: its singles, then for each sequence a start mark and its values, last the
- * end mark. So a walk asks k = 0, 1, .. up to LAV_END. Each call checks the font again, its whole table too, so walking all glyphs
- * takes time quadratic in the table's length. Refusals: 1 to 12, NO_TABLE, ASK (no glyph g, or no item k).
+ * end mark. So a walk asks k = 0, 1, .. up to LAV_END. Each call checks the font again, its whole table too, and then goes to the item
+ * from the table's start. So the time of one call is linear in the table's length, and that of a walk over all items quadratic: in a
+ * font of 1 MiB whose one glyph lists 349,514 values a call took 2 to 4 ms, so all of them take a quarter of an hour.
+ * Refusals: 1 to 12, NO_TABLE, ASK (no glyph g, or no item k).
  */
 lav_item_answer lav_item(const uint8_t *file, size_t file_len, size_t g, size_t k);
 
@@ -214,15 +217,21 @@ lav_number lav_find_value(const uint8_t *file, size_t file_len, uint32_t v);
 
 /*
  * The lowest glyph that lists the sequence: after some start mark, exactly these values up to the next mark. A sequence of one value
- * is not a single. Refusals: 1 to 12, NO_TABLE, ASK (no values, or one above 10FFFF), UNMAPPED.
+ * is not a single. `values` must not be NULL, also where value_count is 0. Refusals: 1 to 12, NO_TABLE, ASK (no values, or one above
+ * 10FFFF), UNMAPPED.
  */
 lav_number lav_find_sequence(const uint8_t *file, size_t file_len, const uint32_t *values, size_t value_count);
 
 /*
  * Conversions. Each writes the whole output to the front of the lent buffer `out` and answers how many bytes that is; what stands
- * behind them in the buffer stays. A refused conversion leaves the buffer as it was. To learn the size needed, lend a buffer of length
- * 0 (its pointer not NULL): ROOM gives it as its place. The written header has 32 bytes (4 for PSF1) and version 0; extra header bytes
- * are dropped.
+ * behind them in the buffer stays. A refused conversion leaves the buffer as it was. The written header has 32 bytes (4 for PSF1) and
+ * version 0; extra header bytes are dropped.
+ *
+ * To learn the size needed, lend a buffer of length 0: ROOM gives it as its place. Its pointer must not be NULL; the address of any byte
+ * will do, which is neither read nor written:
+ *     uint8_t none;
+ *     lav_refusal r = lav_psf2_to_vfont2(file, file_len, &none, 0).refusal;    (r.number is LAV_ROOM, r.place the size)
+ *
  * Refusals, tried in this order: 1 to 12, WRONG_KIND, GLYPHS, VALUE, SIZE, ROOM; a conversion that can't meet one is named so.
  */
 
