@@ -95,8 +95,9 @@ fn refusal_told(r: Refusal) -> LavRefusal
     ensures { λ a. ⌜ a ≡ refusalTold r ⌝ }
 {
     let reason = r.reason;
+    let number = refusal::number(reason);
     LavRefusal {
-        number: refusal::number(reason),
+        number: number,
         place: r.place as u64,
     }
 }
