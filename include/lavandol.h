@@ -2,9 +2,9 @@
  * lavandol.h: bitmap fonts in the formats PSF1, PSF2 and vfont2, read from memory.
  *
  * Link with target/staticlib/liblavandol.a, which `rt staticlib lavandol` makes: x86-64 ELF, its functions called by the System V
- * calling convention. Every function is proved to answer as its comment says on any bytes and any numbers, to end, and to read nothing
- * outside the slices that it is lent. The proof ends at this header: nothing checks the declarations below against the library, and
- * the caller must keep the three rules that follow.
+ * calling convention. Every function is proved to answer as its comment says on any bytes and any numbers, to end, and to read and
+ * write nothing outside the slices that it is lent. The proof ends at this header: nothing checks the declarations below against the
+ * library, and the caller must keep the three rules that follow.
  *
  * - A slice is a pointer and a number of elements: `file, file_len` are bytes, `values, value_count` are uint32_t. So many elements can
  *   be read there (written, for a buffer). The pointer must not be NULL, not even where the length is 0: pass the address of any byte
