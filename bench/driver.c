@@ -20,9 +20,16 @@ static volatile size_t kept; /* so that no call is left out */
 /* A library from before this call was there is measured without it. */
 #pragma weak lav_metrics
 
+/* Whether an answer is a refusal; before version 2 its number stood in the answer itself. */
+#if LAVANDOL_VERSION + 0 < 2
+#define REFUSED(answer) ((answer).refusal)
+#else
+#define REFUSED(answer) ((answer).refusal.number)
+#endif
+
 #define FIGURE(name, call) __attribute__((noinline)) void bench_##name(void) { kept += (call); }
 FIGURE(check, lav_check(file, length).count)
-FIGURE(none, lav_find_value(file, length, 0x10FFF0).refusal)
+FIGURE(none, REFUSED(lav_find_value(file, length, 0x10FFF0)))
 FIGURE(last, lav_find_value(file, length, last).number)
 FIGURE(psf1_to_psf2, lav_psf1_to_psf2(file, length, out, ROOM).number)
 FIGURE(psf2_to_psf1, lav_psf2_to_psf1(file, length, out, ROOM).number)
@@ -82,7 +89,7 @@ int main(int argc, char **argv) {
     length = fread(file, 1, sizeof file, in);
     fclose(in);
     lav_font font = lav_check(file, length);
-    if (font.refusal) return 1;
+    if (REFUSED(font)) return 1;
     last = lav_item(file, length, font.count - 1, 0).value;
     bitmaps = font.bitmaps;
     bitmap_bytes = font.end - font.bitmaps;

@@ -2,20 +2,21 @@
  * lavandol.h: bitmap fonts in the formats PSF1, PSF2 and vfont2, read from memory.
  *
  * Link with target/staticlib/liblavandol.a, which `rt staticlib lavandol` makes: x86-64 ELF, its functions called by the System V
- * calling convention. Every function is proved to answer as its comment says on any bytes and any numbers, to end, and to read nothing
- * outside the slices that it is lent. The proof ends at this header: nothing checks the declarations below against the library, and
- * the caller must keep the three rules that follow.
+ * calling convention. Every function is proved to answer as its comment says on any bytes and any numbers, to end, and to read and
+ * write nothing outside the slices that it is lent. The proof ends at this header: nothing checks the declarations below against the
+ * library, and the caller must keep the three rules that follow.
  *
- * - A slice is a pointer and a number of elements: `file, file_len` are bytes, `values, value_count` are uint32_t. The pointer is not
- *   NULL, also where the length is 0, and so many elements can be read there (written, for a buffer). A slice of uint32_t is aligned.
+ * - A slice is a pointer and a number of elements: `file, file_len` are bytes, `values, value_count` are uint32_t. So many elements can
+ *   be read there (written, for a buffer). The pointer must not be NULL, not even where the length is 0: pass the address of any byte
+ *   then (of a uint32_t for `values`); nothing is read or written there. A slice of uint32_t is aligned.
  * - A lent slice does not change during the call, and a buffer overlaps nothing else that the call is lent.
  * - The pointers are not kept: memory may be moved or freed after the call.
  *
  * The functions allocate nothing, have no global state and no locks, and call nothing: the archive needs no C library. So they may run
  * in several threads at once, and in an interrupt handler; but lav_check, lav_metrics and the four conversions use SSE registers (the
- * compiler's doing), so a handler that does not save them must not call these six. They need at most about 600 bytes of stack
- * (docs/BENCHMARK.md), whatever the font. Each call checks the font first, one pass over the header, the vfont2 entries and the Unicode
- * table; a walk or a lookup is another pass over the Unicode table at most, a conversion two.
+ * compiler's doing; tools/try-boundary reads it off the archive), so a handler that does not save them must not call these six. They
+ * need at most about 600 bytes of stack (docs/BENCHMARK.md), whatever the font. Each call checks the font first, one pass over the
+ * header, the vfont2 entries and the Unicode table; a walk or a lookup is another pass over the Unicode table at most, a conversion two.
  *
  * Numbers in the files are little endian. Glyphs, rows, columns and items are counted from 0.
  */
@@ -25,20 +26,20 @@
 #include <stddef.h>
 #include <stdint.h>
 
-/* The number of this interface: it grows when a declaration below changes. */
-#define LAVANDOL_VERSION 1
+/* The number of this interface: it grows when a declaration below changes. Since 2 every answer begins with a lav_refusal. */
+#define LAVANDOL_VERSION 2
 
 #ifdef __cplusplus
 extern "C" {
 #endif
 
 /*
- * Refusals. Each answer has the members `refusal` and `place`. `refusal` is 0 where the question is answered; then `place` is 0. Else
- * `refusal` is one of the numbers below, `place` tells where, and all other members are 0.
+ * Refusals. The first member of each answer is `refusal`, a lav_refusal. Its number is 0 (LAV_OK) where the question is answered; then
+ * its place is 0. Else its number is one of those below, its place tells where, and all other members of the answer are 0.
  *
  * Every call gives the font's own refusal, 1 to 12, before any other. They are tried in this order and the first that applies is
  * given, so a font that is refused is refused by all calls alike. The places of 1 to 12 are offsets in the file; the place of 13 to 16
- * is 0.
+ * is 0; those of 17 to 21 are said at each.
  */
 enum {
     LAV_OK = 0,
@@ -57,10 +58,11 @@ enum {
     LAV_TABLE_BAD = 11,  /* no table begins so; place: the first byte after the longest part that could still be completed */
     LAV_TRAILING = 12,   /* bytes after a complete table, or after the bitmaps of a font without one; place: the first such byte */
 
-    LAV_ASK = 13,        /* the question's fault: glyph, item, row or column number too high, value above 10FFFF, empty sequence */
-    LAV_NO_TABLE = 14,   /* a walk or lookup on a font without a Unicode table */
-    LAV_UNMAPPED = 15,   /* no glyph lists it */
-    LAV_NO_GLYPH = 16,   /* a bitmap or metrics asked of a vfont2 entry of size 0 */
+    LAV_ASK = 13,        /* the question's fault: glyph, item, row or column number too high, value above 10FFFF, empty sequence;
+                            place 0 */
+    LAV_NO_TABLE = 14,   /* a walk or lookup on a font without a Unicode table; place 0 */
+    LAV_UNMAPPED = 15,   /* no glyph lists it; place 0 */
+    LAV_NO_GLYPH = 16,   /* a bitmap or metrics asked of a vfont2 entry of size 0; place 0 */
 
     LAV_WRONG_KIND = 17, /* the conversion wants another kind; place 0 */
     LAV_GLYPHS = 18,     /* the target can't have these glyphs; to PSF1: not 256 or 512 of them (place 16), then width not 8 (28);
@@ -77,11 +79,16 @@ enum { LAV_PSF1 = 1, LAV_PSF2 = 2, LAV_VFONT2 = 3 };
 /* Kinds of item in a glyph's description (`kind` of lav_item_answer). */
 enum { LAV_SINGLE = 1, LAV_START = 2, LAV_VALUE_IN_SEQUENCE = 3, LAV_END = 4 };
 
+/* A refusal, the first member of every answer. */
+typedef struct {
+    uint32_t number; /* LAV_OK where the question is answered, else LAV_TOO_LONG to LAV_ROOM */
+    uint64_t place;
+} lav_refusal;
+
 /* What a sound font's header says. */
 typedef struct {
-    uint32_t refusal;
+    lav_refusal refusal;
     uint32_t kind;  /* LAV_PSF1, LAV_PSF2 or LAV_VFONT2 */
-    size_t place;
     size_t count;   /* glyphs */
     size_t height;  /* greatest height and width of a glyph, in pixels */
     size_t width;
@@ -92,18 +99,16 @@ typedef struct {
     size_t end;     /* offset of the first byte after the bitmaps: the Unicode table, if there is one */
 } lav_font;
 
-/* A part of the file: `length` bytes from `offset` on. Both are 0 where the question is refused. */
+/* A part of the file: `length` bytes from `offset` on. Both are 0 where the question is refused; offset + length <= file_len always. */
 typedef struct {
-    uint32_t refusal;
-    size_t place;
+    lav_refusal refusal;
     size_t offset;
     size_t length;
 } lav_part;
 
 /* A glyph's metrics, in pixels; each may be negative. All are 0 where the question is refused. */
 typedef struct {
-    uint32_t refusal;
-    size_t place;
+    lav_refusal refusal;
     int32_t up;      /* rows above the baseline point, */
     int32_t down;    /* and below it */
     int32_t left;    /* columns left of the baseline point, */
@@ -113,34 +118,61 @@ typedef struct {
 
 /* One item of a glyph's description. A mark has the value 0. */
 typedef struct {
-    uint32_t refusal;
+    lav_refusal refusal;
     uint32_t kind; /* LAV_SINGLE, LAV_START, LAV_VALUE_IN_SEQUENCE or LAV_END */
-    size_t place;
     uint32_t value;
 } lav_item_answer;
 
 /* One number; what it counts is said at each call. */
 typedef struct {
-    uint32_t refusal;
-    size_t place;
+    lav_refusal refusal;
     size_t number;
 } lav_number;
 
-/* The sizes that the library's own structs have. */
-#if defined SIZE_MAX && SIZE_MAX > 0xFFFFFFFF
+/* The sizes that the library's own structs have, and where their members stand: a compiler that lays them out otherwise stops here. */
 #if defined __cplusplus && __cplusplus >= 201103L
 #define LAVANDOL_ASSERT static_assert
 #elif defined __STDC_VERSION__ && __STDC_VERSION__ >= 201112L
 #define LAVANDOL_ASSERT _Static_assert
 #endif
 #ifdef LAVANDOL_ASSERT
-LAVANDOL_ASSERT(sizeof(lav_font) == 80, "lav_font has 80 bytes");
-LAVANDOL_ASSERT(sizeof(lav_part) == 32, "lav_part has 32 bytes");
-LAVANDOL_ASSERT(sizeof(lav_metrics_answer) == 40, "lav_metrics_answer has 40 bytes");
-LAVANDOL_ASSERT(sizeof(lav_item_answer) == 24, "lav_item_answer has 24 bytes");
-LAVANDOL_ASSERT(sizeof(lav_number) == 24, "lav_number has 24 bytes");
+#define LAVANDOL_SIZE(type, size) LAVANDOL_ASSERT(sizeof(type) == size, #type " has " #size " bytes")
+#define LAVANDOL_AT(type, member, at) LAVANDOL_ASSERT(offsetof(type, member) == at, #member " of " #type " stands at " #at)
+LAVANDOL_SIZE(lav_refusal, 16);
+LAVANDOL_AT(lav_refusal, number, 0);
+LAVANDOL_AT(lav_refusal, place, 8);
+LAVANDOL_SIZE(lav_font, 88);
+LAVANDOL_AT(lav_font, refusal, 0);
+LAVANDOL_AT(lav_font, kind, 16);
+LAVANDOL_AT(lav_font, count, 24);
+LAVANDOL_AT(lav_font, height, 32);
+LAVANDOL_AT(lav_font, width, 40);
+LAVANDOL_AT(lav_font, table, 48);
+LAVANDOL_AT(lav_font, entries, 56);
+LAVANDOL_AT(lav_font, bitmaps, 64);
+LAVANDOL_AT(lav_font, size, 72);
+LAVANDOL_AT(lav_font, end, 80);
+LAVANDOL_SIZE(lav_part, 32);
+LAVANDOL_AT(lav_part, refusal, 0);
+LAVANDOL_AT(lav_part, offset, 16);
+LAVANDOL_AT(lav_part, length, 24);
+LAVANDOL_SIZE(lav_metrics_answer, 40);
+LAVANDOL_AT(lav_metrics_answer, refusal, 0);
+LAVANDOL_AT(lav_metrics_answer, up, 16);
+LAVANDOL_AT(lav_metrics_answer, down, 20);
+LAVANDOL_AT(lav_metrics_answer, left, 24);
+LAVANDOL_AT(lav_metrics_answer, right, 28);
+LAVANDOL_AT(lav_metrics_answer, logical, 32);
+LAVANDOL_SIZE(lav_item_answer, 24);
+LAVANDOL_AT(lav_item_answer, refusal, 0);
+LAVANDOL_AT(lav_item_answer, kind, 16);
+LAVANDOL_AT(lav_item_answer, value, 20);
+LAVANDOL_SIZE(lav_number, 24);
+LAVANDOL_AT(lav_number, refusal, 0);
+LAVANDOL_AT(lav_number, number, 16);
+#undef LAVANDOL_AT
+#undef LAVANDOL_SIZE
 #undef LAVANDOL_ASSERT
-#endif
 #endif
 
 /* Checks a font. Refusals: 1 to 12. A font that passes is refused by no later call on the same bytes with 1 to 12. */
@@ -148,13 +180,13 @@ lav_font lav_check(const uint8_t *file, size_t file_len);
 
 /*
  * Where glyph g's bitmap stands in the file: rows from the top, each row so many whole bytes as its pixels fill, pixels from a byte's
- * top bit on, 1 is drawn. Bits after a row's last pixel may be anything. Where it is not refused, offset + length <= file_len.
+ * top bit on, 1 is drawn. Bits after a row's last pixel may be anything. offset + length <= file_len.
  * Refusals: 1 to 12, ASK (no glyph g), NO_GLYPH.
  */
 lav_part lav_glyph(const uint8_t *file, size_t file_len, size_t g);
 
 /*
- * Where row y of glyph g stands. Where it is not refused, offset + length <= file_len.
+ * Where row y of glyph g stands. offset + length <= file_len.
  * Refusals: 1 to 12, ASK (no glyph g), NO_GLYPH, ASK (no row y in this glyph).
  */
 lav_part lav_row(const uint8_t *file, size_t file_len, size_t g, size_t y);
@@ -173,8 +205,10 @@ lav_metrics_answer lav_metrics(const uint8_t *file, size_t file_len, size_t g);
 
 /*
  * Item k of glyph g's description, in the order of the file: its singles, then for each sequence a start mark and its values, last the
- * end mark. So a walk asks k = 0, 1, .. up to LAV_END. Each call checks the font again, its whole table too, so walking all glyphs
- * takes time quadratic in the table's length. Refusals: 1 to 12, NO_TABLE, ASK (no glyph g, or no item k).
+ * end mark. So a walk asks k = 0, 1, .. up to LAV_END. Each call checks the font again, its whole table too, and then goes to the item
+ * from the table's start. So the time of one call is linear in the table's length, and that of a walk over all items quadratic: in a
+ * font of 1 MiB whose one glyph lists 349,514 values a call took 2 to 4 ms, so all of them take a quarter of an hour.
+ * Refusals: 1 to 12, NO_TABLE, ASK (no glyph g, or no item k).
  */
 lav_item_answer lav_item(const uint8_t *file, size_t file_len, size_t g, size_t k);
 
@@ -183,15 +217,21 @@ lav_number lav_find_value(const uint8_t *file, size_t file_len, uint32_t v);
 
 /*
  * The lowest glyph that lists the sequence: after some start mark, exactly these values up to the next mark. A sequence of one value
- * is not a single. Refusals: 1 to 12, NO_TABLE, ASK (no values, or one above 10FFFF), UNMAPPED.
+ * is not a single. `values` must not be NULL, also where value_count is 0. Refusals: 1 to 12, NO_TABLE, ASK (no values, or one above
+ * 10FFFF), UNMAPPED.
  */
 lav_number lav_find_sequence(const uint8_t *file, size_t file_len, const uint32_t *values, size_t value_count);
 
 /*
  * Conversions. Each writes the whole output to the front of the lent buffer `out` and answers how many bytes that is; what stands
- * behind them in the buffer stays. A refused conversion leaves the buffer as it was. To learn the size needed, lend a buffer of length
- * 0 (its pointer not NULL): ROOM gives it as its place. The written header has 32 bytes (4 for PSF1) and version 0; extra header bytes
- * are dropped.
+ * behind them in the buffer stays. A refused conversion leaves the buffer as it was. The written header has 32 bytes (4 for PSF1) and
+ * version 0; extra header bytes are dropped.
+ *
+ * To learn the size needed, lend a buffer of length 0: ROOM gives it as its place. Its pointer must not be NULL; the address of any byte
+ * will do, which is neither read nor written:
+ *     uint8_t none;
+ *     lav_refusal r = lav_psf2_to_vfont2(file, file_len, &none, 0).refusal;    (r.number is LAV_ROOM, r.place the size)
+ *
  * Refusals, tried in this order: 1 to 12, WRONG_KIND, GLYPHS, VALUE, SIZE, ROOM; a conversion that can't meet one is named so.
  */
 

@@ -1,54 +1,89 @@
 /*
- * Looks a letter up in a font and draws its glyph:  ./lookup FONT 41  (the letter as hexadecimal code point).
+ * Looks a letter up in a font and draws its glyph:  target/lookup examples/fonts/small.psf2 C5  (the letter's code point, hexadecimal).
  * Build, in the repository's folder after `rt staticlib lavandol`:
  *   gcc -O2 -Wall -Wextra -Iinclude -o target/lookup examples/c/lookup.c target/staticlib/liblavandol.a
  */
 #include <ctype.h>
+#include <inttypes.h>
 #include <lavandol.h>
 #include <stdio.h>
 #include <stdlib.h>
 
 static uint8_t file[1048577]; /* one byte over the limit, so that a longer file is refused as such */
 
-static int refused(const char *what, uint32_t refusal, size_t place) {
-    fprintf(stderr, "%s: refused %u %zu\n", what, (unsigned)refusal, place);
+/* The refusals' names; number 0 is none. */
+static const char *const names[] = {
+    "answered", "too long", "kind", "header cut", "version", "header size", "count", "shape", "body cut", "entry", "table cut",
+    "table bad", "trailing", "ask", "no table", "unmapped", "no glyph", "wrong kind", "glyphs", "value", "size", "room",
+};
+
+/* Tells a refusal by number, place and name: `C5: refused 15 0 (unmapped)`. */
+static int refused(const char *what, lav_refusal refusal) {
+    const char *name = refusal.number < sizeof names / sizeof *names ? names[refusal.number] : "unknown";
+    fprintf(stderr, "%s: refused %" PRIu32 " %" PRIu64 " (%s)\n", what, refusal.number, refusal.place, name);
     return 1;
 }
 
+/* The hexadecimal number of a word: digits alone, and no more than 32 bits. */
+static int read_value(const char *word, uint32_t *value) {
+    for (const char *c = word; *c; c++) {
+        if (!isxdigit((unsigned char)*c)) return 0;
+    }
+    unsigned long long number = strtoull(word, NULL, 16); /* the greatest there is, where it does not fit */
+    *value = (uint32_t)number;
+    return *word && number <= UINT32_MAX;
+}
+
+/* The whole file, or its first 1,048,577 bytes. A folder can be opened, but not read. */
+static int read_file(const char *path, size_t *length) {
+    FILE *in = fopen(path, "rb");
+    if (!in) return 0;
+    *length = fread(file, 1, sizeof file, in);
+    if (ferror(in)) return 0;
+    fclose(in);
+    return 1;
+}
+
+/* The rows of a glyph's bitmap, from the top, each of whole bytes; pixels from a byte's top bit on. */
+static void draw(const uint8_t *bitmap, size_t height, size_t width) {
+    size_t row_bytes = (width + 7) / 8;
+    for (size_t y = 0; y < height; y++) {
+        const uint8_t *row = bitmap + y * row_bytes;
+        for (size_t x = 0; x < width; x++) putchar(row[x / 8] >> (7 - x % 8) & 1 ? '#' : '.');
+        putchar('\n');
+    }
+}
+
 int main(int argc, char **argv) {
+    uint32_t value;
+    size_t length;
     if (argc != 3) {
         fprintf(stderr, "usage: lookup FONT HEX\n");
         return 2;
     }
-    char *end;
-    unsigned long long value = strtoull(argv[2], &end, 16);
-    if (!isxdigit((unsigned char)argv[2][0]) || *end || value > UINT32_MAX) {
-        fprintf(stderr, "%s: not a hexadecimal code point\n", argv[2]);
+    if (!read_value(argv[2], &value)) {
+        fprintf(stderr, "%s: not a hexadecimal number of 32 bits\n", argv[2]);
         return 2;
     }
-    FILE *in = fopen(argv[1], "rb");
-    size_t length = in ? fread(file, 1, sizeof file, in) : 0;
-    if (!in || ferror(in)) { /* a folder can be opened, but not read */
+    if (!read_file(argv[1], &length)) {
         perror(argv[1]);
         return 2;
     }
-    fclose(in);
 
     lav_font font = lav_check(file, length);
-    if (font.refusal) return refused(argv[1], font.refusal, font.place);
+    if (font.refusal.number) return refused(argv[1], font.refusal);
 
-    lav_number glyph = lav_find_value(file, length, (uint32_t)value);
-    if (glyph.refusal) return refused(argv[2], glyph.refusal, glyph.place);
+    lav_number glyph = lav_find_value(file, length, value);
+    if (glyph.refusal.number) return refused(argv[2], glyph.refusal);
     printf("glyph %zu of %zu\n", glyph.number, font.count);
 
+    /* A letter may be listed by a glyph that is not drawn (NO GLYPH). */
+    lav_part part = lav_glyph(file, length, glyph.number);
+    if (part.refusal.number) return refused(argv[2], part.refusal);
     lav_metrics_answer metrics = lav_metrics(file, length, glyph.number);
-    if (metrics.refusal) return refused(argv[2], metrics.refusal, metrics.place); /* LAV_NO_GLYPH: listed, but not drawn */
+    if (metrics.refusal.number) return refused(argv[2], metrics.refusal);
 
-    for (int y = 0; y < metrics.up + metrics.down; y++) {
-        for (int x = 0; x < metrics.left + metrics.right; x++) {
-            putchar(lav_pixel(file, length, glyph.number, y, x).number ? '#' : '.');
-        }
-        putchar('\n');
-    }
+    /* up + down and left + right are the glyph's height and width, and its bytes stand in the file. */
+    draw(file + part.offset, (size_t)(metrics.up + metrics.down), (size_t)(metrics.left + metrics.right));
     return 0;
 }

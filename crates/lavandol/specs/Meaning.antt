@@ -1,5 +1,5 @@
--- Each answer of the public calls as the struct that C reads: `refusal` 0 and the answer's numbers, or the refusal's number and place
--- and zeros. include/lavandol.h says the same in C.
+-- Each answer of the public calls as the struct that C reads: no refusal and the answer's numbers, or the refusal and zeros.
+-- include/lavandol.h says the same in C.
 use Prim.Native.Nat.{ℕ}
 use lib.IntN.{pos}
 use mathlib.Core.Bool.{Bool, true, false}
@@ -23,11 +23,20 @@ use Rattle.questions.specs.declared.Lookup.{Lookup}
 use Rattle.questions.specs.declared.Lookup.the-variants.{Glyph, Refused as NoLookup}
 use Rattle.convert.specs.declared.Converted.{Converted}
 use Rattle.convert.specs.declared.Converted.the-variants.{Wrote, Refused as NoOutput}
+use Rattle.lavandol.specs.declared.LavRefusal.{LavRefusal}
 use Rattle.lavandol.specs.declared.LavFont.{LavFont}
 use Rattle.lavandol.specs.declared.LavPart.{LavPart}
 use Rattle.lavandol.specs.declared.LavMetrics.{LavMetrics}
 use Rattle.lavandol.specs.declared.LavItem.{LavItem}
 use Rattle.lavandol.specs.declared.LavNumber.{LavNumber}
+
+-- a refusal: document 01's number (the column "No", `numberOf`) and place
+abbrev pub refusalTold : Refusal → LavRefusal
+refusalTold r = record { number = numberOf (r .reason); place = r .place }
+
+-- the call is answered: LAV_OK, place 0
+abbrev pub noRefusal : LavRefusal
+noRefusal = record { number = 0; place = 0 }
 
 -- LAV_PSF1, LAV_PSF2, LAV_VFONT2
 abbrev pub kindNumber : Kind → ℕ
@@ -44,9 +53,8 @@ flagNumber false = 0
 abbrev pub refusedFont : Refusal → LavFont
 refusedFont r =
     record {
-      refusal = numberOf (r .reason);
+      refusal = refusalTold r;
       kind = 0;
-      place = r .place;
       count = 0;
       height = 0;
       width = 0;
@@ -60,9 +68,8 @@ refusedFont r =
 abbrev pub fontAnswer : Checked → LavFont
 fontAnswer (Sound f) =
     record {
-      refusal = 0;
+      refusal = noRefusal;
       kind = kindNumber (f .kind);
-      place = 0;
       count = f .count;
       height = f .height;
       width = f .width;
@@ -76,26 +83,26 @@ fontAnswer (Refused r) = refusedFont r
 
 -- a part of the file
 abbrev pub refusedPart : Refusal → LavPart
-refusedPart r = record { refusal = numberOf (r .reason); place = r .place; offset = 0; length = 0 }
+refusedPart r = record { refusal = refusalTold r; offset = 0; length = 0 }
 
 abbrev pub partAnswer : Part → LavPart
-partAnswer (At start len) = record { refusal = 0; place = 0; offset = start; length = len }
+partAnswer (At start len) = record { refusal = noRefusal; offset = start; length = len }
 partAnswer (NoPart r) = refusedPart r
 
 -- a glyph's metrics
 abbrev pub refusedMetrics : Refusal → LavMetrics
-refusedMetrics r = record { refusal = numberOf (r .reason); place = r .place; up = pos 0; down = pos 0; left = pos 0; right = pos 0; logical = pos 0 }
+refusedMetrics r = record { refusal = refusalTold r; up = pos 0; down = pos 0; left = pos 0; right = pos 0; logical = pos 0 }
 
 abbrev pub metricsAnswer : GlyphMetrics → LavMetrics
-metricsAnswer (IsMetrics m) = record { refusal = 0; place = 0; up = m .up; down = m .down; left = m .left; right = m .right; logical = m .logical }
+metricsAnswer (IsMetrics m) = record { refusal = noRefusal; up = m .up; down = m .down; left = m .left; right = m .right; logical = m .logical }
 metricsAnswer (NoMetrics r) = refusedMetrics r
 
 -- one number, and the refusals of the calls that answer so
 abbrev pub numberAnswer : ℕ → LavNumber
-numberAnswer n = record { refusal = 0; place = 0; number = n }
+numberAnswer n = record { refusal = noRefusal; number = n }
 
 abbrev pub refusedNumber : Refusal → LavNumber
-refusedNumber r = record { refusal = numberOf (r .reason); place = r .place; number = 0 }
+refusedNumber r = record { refusal = refusalTold r; number = 0 }
 
 -- a pixel, 1 is drawn
 abbrev pub pixelAnswer : Pixel → LavNumber
@@ -109,14 +116,14 @@ lookupAnswer (NoLookup r) = refusedNumber r
 
 -- LAV_SINGLE, LAV_START, LAV_VALUE_IN_SEQUENCE, LAV_END; a mark has the value 0
 abbrev pub itemAnswer : I.Item → LavItem
-itemAnswer (Single v) = record { refusal = 0; kind = 1; place = 0; value = v }
-itemAnswer Start = record { refusal = 0; kind = 2; place = 0; value = 0 }
-itemAnswer (Value v) = record { refusal = 0; kind = 3; place = 0; value = v }
-itemAnswer End = record { refusal = 0; kind = 4; place = 0; value = 0 }
+itemAnswer (Single v) = record { refusal = noRefusal; kind = 1; value = v }
+itemAnswer Start = record { refusal = noRefusal; kind = 2; value = 0 }
+itemAnswer (Value v) = record { refusal = noRefusal; kind = 3; value = v }
+itemAnswer End = record { refusal = noRefusal; kind = 4; value = 0 }
 
 -- an item of a description
 abbrev pub refusedItem : Refusal → LavItem
-refusedItem r = record { refusal = numberOf (r .reason); kind = 0; place = r .place; value = 0 }
+refusedItem r = record { refusal = refusalTold r; kind = 0; value = 0 }
 
 abbrev pub walkAnswer : Walk → LavItem
 walkAnswer (Is i) = itemAnswer i

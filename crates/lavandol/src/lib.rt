@@ -11,20 +11,28 @@ use questions::Walk;
 use refusal::Refusal;
 use table::Item;
 ghost use mathlib.Core.Path.{_≡_};
+ghost use Prim.Native.Nat.{_+_, _≤_};
 ghost use lib.ListN.{length};
 ghost use Rattle.stages.specs.Reading.{checkOf};
 ghost use Rattle.fonts.specs.Reading.{glyphPartOf, rowPartOf, pixelAt, glyphMetricsOf, itemOf, valueGlyph, sequenceGlyph};
 ghost use Rattle.conversion.specs.declared.Conversion.the-variants.{Psf1ToPsf2, Psf2ToPsf1, Psf2ToVfont2, Vfont2ToPsf2};
 ghost use Rattle.convert.specs.Reading.{convertedOf, convertedInto};
-ghost use Rattle.lavandol.specs.Meaning.{kindNumber, flagNumber, refusedFont, fontAnswer, refusedPart, partAnswer, refusedMetrics, metricsAnswer, numberAnswer, refusedNumber, pixelAnswer, lookupAnswer, itemAnswer, refusedItem, walkAnswer, convertedAnswer};
+ghost use Rattle.lavandol.specs.Meaning.{noRefusal, refusalTold, kindNumber, flagNumber, refusedFont, fontAnswer, refusedPart, partAnswer, refusedMetrics, metricsAnswer, numberAnswer, refusedNumber, pixelAnswer, lookupAnswer, itemAnswer, refusedItem, walkAnswer, convertedAnswer};
 
-// What the check says: a refusal's number (0 where the font is sound) and place; the fields of a sound font.
+// A refusal as C reads it, the first field of every answer: document 01's number and place; both 0 where the call is answered.
+// Only `no_refusal` and `refusal_told` make one.
+#[repr(C)]
+pub struct LavRefusal {
+    pub number: u32,
+    pub place: u64,
+}
+
+// What the check says of a sound font.
 #[repr(C)]
 pub struct LavFont {
-    pub refusal: u32,
+    pub refusal: LavRefusal,
     // 1 PSF1, 2 PSF2, 3 vfont2
     pub kind: u32,
-    pub place: usize,
     pub count: usize,
     // greatest height and width
     pub height: usize,
@@ -43,8 +51,7 @@ pub struct LavFont {
 // A part of the file.
 #[repr(C)]
 pub struct LavPart {
-    pub refusal: u32,
-    pub place: usize,
+    pub refusal: LavRefusal,
     pub offset: usize,
     pub length: usize,
 }
@@ -52,8 +59,7 @@ pub struct LavPart {
 // A glyph's metrics.
 #[repr(C)]
 pub struct LavMetrics {
-    pub refusal: u32,
-    pub place: usize,
+    pub refusal: LavRefusal,
     pub up: i32,
     pub down: i32,
     pub left: i32,
@@ -64,18 +70,36 @@ pub struct LavMetrics {
 // An item of a description: 1 single, 2 start mark, 3 value in a sequence, 4 end mark.
 #[repr(C)]
 pub struct LavItem {
-    pub refusal: u32,
+    pub refusal: LavRefusal,
     pub kind: u32,
-    pub place: usize,
     pub value: u32,
 }
 
 // One number: a pixel, a glyph, a length.
 #[repr(C)]
 pub struct LavNumber {
-    pub refusal: u32,
-    pub place: usize,
+    pub refusal: LavRefusal,
     pub number: usize,
+}
+
+fn no_refusal() -> LavRefusal
+    ensures { λ a. ⌜ a ≡ noRefusal ⌝ }
+{
+    LavRefusal {
+        number: 0,
+        place: 0,
+    }
+}
+
+fn refusal_told(r: Refusal) -> LavRefusal
+    ensures { λ a. ⌜ a ≡ refusalTold r ⌝ }
+{
+    let reason = r.reason;
+    let number = refusal::number(reason);
+    LavRefusal {
+        number: number,
+        place: r.place as u64,
+    }
 }
 
 fn kind_number(k: Kind) -> u32
@@ -100,11 +124,9 @@ fn flag_number(b: bool) -> usize
 fn refused_font(r: Refusal) -> LavFont
     ensures { λ a. ⌜ a ≡ refusedFont r ⌝ }
 {
-    let reason = r.reason;
     LavFont {
-        refusal: refusal::number(reason),
+        refusal: refusal_told(r),
         kind: 0,
-        place: r.place,
         count: 0,
         height: 0,
         width: 0,
@@ -123,9 +145,8 @@ fn font_answer(a: Checked) -> LavFont
         Checked::Sound(f) => {
             let k = f.kind;
             LavFont {
-                refusal: 0,
+                refusal: no_refusal(),
                 kind: kind_number(k),
-                place: 0,
                 count: f.count,
                 height: f.height,
                 width: f.width,
@@ -143,10 +164,8 @@ fn font_answer(a: Checked) -> LavFont
 fn refused_part(r: Refusal) -> LavPart
     ensures { λ a. ⌜ a ≡ refusedPart r ⌝ }
 {
-    let reason = r.reason;
     LavPart {
-        refusal: refusal::number(reason),
-        place: r.place,
+        refusal: refusal_told(r),
         offset: 0,
         length: 0,
     }
@@ -157,8 +176,7 @@ fn part_answer(p: Part) -> LavPart
 {
     match p {
         Part::At(start, len) => LavPart {
-            refusal: 0,
-            place: 0,
+            refusal: no_refusal(),
             offset: start,
             length: len,
         },
@@ -170,8 +188,7 @@ fn number_answer(n: usize) -> LavNumber
     ensures { λ r. ⌜ r ≡ numberAnswer n ⌝ }
 {
     LavNumber {
-        refusal: 0,
-        place: 0,
+        refusal: no_refusal(),
         number: n,
     }
 }
@@ -179,10 +196,8 @@ fn number_answer(n: usize) -> LavNumber
 fn refused_number(r: Refusal) -> LavNumber
     ensures { λ a. ⌜ a ≡ refusedNumber r ⌝ }
 {
-    let reason = r.reason;
     LavNumber {
-        refusal: refusal::number(reason),
-        place: r.place,
+        refusal: refusal_told(r),
         number: 0,
     }
 }
@@ -208,10 +223,8 @@ fn lookup_answer(l: Lookup) -> LavNumber
 fn refused_metrics(r: Refusal) -> LavMetrics
     ensures { λ a. ⌜ a ≡ refusedMetrics r ⌝ }
 {
-    let reason = r.reason;
     LavMetrics {
-        refusal: refusal::number(reason),
-        place: r.place,
+        refusal: refusal_told(r),
         up: 0,
         down: 0,
         left: 0,
@@ -225,8 +238,7 @@ fn metrics_answer(m: GlyphMetrics) -> LavMetrics
 {
     match m {
         GlyphMetrics::Is(x) => LavMetrics {
-            refusal: 0,
-            place: 0,
+            refusal: no_refusal(),
             up: x.up,
             down: x.down,
             left: x.left,
@@ -242,27 +254,23 @@ fn item_answer(i: Item) -> LavItem
 {
     match i {
         Item::Single(v) => LavItem {
-            refusal: 0,
+            refusal: no_refusal(),
             kind: 1,
-            place: 0,
             value: v,
         },
         Item::Start => LavItem {
-            refusal: 0,
+            refusal: no_refusal(),
             kind: 2,
-            place: 0,
             value: 0,
         },
         Item::Value(v) => LavItem {
-            refusal: 0,
+            refusal: no_refusal(),
             kind: 3,
-            place: 0,
             value: v,
         },
         Item::End => LavItem {
-            refusal: 0,
+            refusal: no_refusal(),
             kind: 4,
-            place: 0,
             value: 0,
         },
     }
@@ -271,11 +279,9 @@ fn item_answer(i: Item) -> LavItem
 fn refused_item(r: Refusal) -> LavItem
     ensures { λ a. ⌜ a ≡ refusedItem r ⌝ }
 {
-    let reason = r.reason;
     LavItem {
-        refusal: refusal::number(reason),
+        refusal: refusal_told(r),
         kind: 0,
-        place: r.place,
         value: 0,
     }
 }
@@ -298,19 +304,23 @@ pub extern "C" fn lav_check(file: &[u8]) -> LavFont
     font_answer(a)
 }
 
-// Offset and length of glyph g's bytes. Refusals: the font's own (1 to 12), ASK, NO GLYPH.
+// Offset and length of glyph g's bytes: a part of the file, of length 0 at 0 where refused.
+// Refusals: the font's own (1 to 12), ASK, NO GLYPH.
 #[no_mangle]
 pub extern "C" fn lav_glyph(file: &[u8], g: usize) -> LavPart
-    ensures { λ r. ⌜ r ≡ partAnswer (glyphPartOf (now (file .entry)) g) ⌝ }
+    ensures equal { λ r. ⌜ r ≡ partAnswer (glyphPartOf (now (file .entry)) g) ⌝ }
+    ensures inside { λ r. ⌜ r .offset + r .length ≤ length (now (file .entry)) ⌝ }
 {
     let p = fonts::glyph_part(file, g);
     part_answer(p)
 }
 
-// Offset and length of row y of glyph g. Refusals: the font's own (1 to 12), ASK for the glyph, NO GLYPH, ASK for the row.
+// Offset and length of row y of glyph g: a part of the file, of length 0 at 0 where refused.
+// Refusals: the font's own (1 to 12), ASK for the glyph, NO GLYPH, ASK for the row.
 #[no_mangle]
 pub extern "C" fn lav_row(file: &[u8], g: usize, y: usize) -> LavPart
-    ensures { λ r. ⌜ r ≡ partAnswer (rowPartOf (now (file .entry)) g y) ⌝ }
+    ensures equal { λ r. ⌜ r ≡ partAnswer (rowPartOf (now (file .entry)) g y) ⌝ }
+    ensures inside { λ r. ⌜ r .offset + r .length ≤ length (now (file .entry)) ⌝ }
 {
     let p = fonts::row_part(file, g, y);
     part_answer(p)

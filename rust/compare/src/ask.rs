@@ -25,7 +25,7 @@ impl Tally {
 pub type Answer<T> = Result<T, (u32, usize)>;
 
 pub fn ours<T>(r: Result<T, lavandol::Refusal>) -> Answer<T> {
-    r.map_err(|r| (r.number, r.place))
+    r.map_err(|r| (r.number(), r.place))
 }
 
 pub fn theirs<T>(r: Result<T, second::Refusal>) -> Answer<T> {

@@ -1,10 +1,19 @@
 //! The functions of the static library, as include/lavandol.h declares them.
 
+use core::mem::{offset_of, size_of};
+
+/// A refusal, the first field of every answer; number 0 where the call is answered.
+#[repr(C)]
+#[derive(Clone, Copy)]
+pub struct LavRefusal {
+    pub number: u32,
+    pub place: u64,
+}
+
 #[repr(C)]
 pub struct LavFont {
-    pub refusal: u32,
+    pub refusal: LavRefusal,
     pub kind: u32,
-    pub place: usize,
     pub count: usize,
     pub height: usize,
     pub width: usize,
@@ -17,16 +26,14 @@ pub struct LavFont {
 
 #[repr(C)]
 pub struct LavPart {
-    pub refusal: u32,
-    pub place: usize,
+    pub refusal: LavRefusal,
     pub offset: usize,
     pub length: usize,
 }
 
 #[repr(C)]
 pub struct LavMetrics {
-    pub refusal: u32,
-    pub place: usize,
+    pub refusal: LavRefusal,
     pub up: i32,
     pub down: i32,
     pub left: i32,
@@ -36,28 +43,37 @@ pub struct LavMetrics {
 
 #[repr(C)]
 pub struct LavItem {
-    pub refusal: u32,
+    pub refusal: LavRefusal,
     pub kind: u32,
-    pub place: usize,
     pub value: u32,
 }
 
 #[repr(C)]
 pub struct LavNumber {
-    pub refusal: u32,
-    pub place: usize,
+    pub refusal: LavRefusal,
     pub number: usize,
 }
 
-/// The sizes that the header asserts too.
-#[cfg(target_pointer_width = "64")]
-const _: () = {
-    assert!(std::mem::size_of::<LavFont>() == 80);
-    assert!(std::mem::size_of::<LavPart>() == 32);
-    assert!(std::mem::size_of::<LavMetrics>() == 40);
-    assert!(std::mem::size_of::<LavItem>() == 24);
-    assert!(std::mem::size_of::<LavNumber>() == 24);
-};
+/// A struct's size and where its fields stand.
+macro_rules! laid_out {
+    ($($kind:ty: $size:literal bytes, $($field:ident $at:literal),*;)*) => {
+        const _: () = {
+            $(assert!(size_of::<$kind>() == $size);
+            $(assert!(offset_of!($kind, $field) == $at);)*)*
+        };
+    };
+}
+
+// What the header asserts too.
+laid_out! {
+    LavRefusal: 16 bytes, number 0, place 8;
+    LavFont: 88 bytes, refusal 0, kind 16, count 24, height 32, width 40, table 48, entries 56,
+        bitmaps 64, size 72, end 80;
+    LavPart: 32 bytes, refusal 0, offset 16, length 24;
+    LavMetrics: 40 bytes, refusal 0, up 16, down 20, left 24, right 28, logical 32;
+    LavItem: 24 bytes, refusal 0, kind 16, value 20;
+    LavNumber: 24 bytes, refusal 0, number 16;
+}
 
 extern "C" {
     pub fn lav_check(file: *const u8, len: usize) -> LavFont;

@@ -1,6 +1,6 @@
 //! Bitmap fonts in the formats PSF1, PSF2 and vfont2, read from a slice: a safe
 //! wrapper over the proved library `lavandol`. A call answers, or gives one
-//! refusal with its place. Nothing is allocated.
+//! refusal with its place. Nothing is allocated, and `std` is not needed.
 //!
 //! ```
 //! # let file = lavandol::SMALL;
@@ -9,63 +9,19 @@
 //! assert_eq!((font.count, g), (2, 1));
 //! assert_eq!(lavandol::glyph(file, g)?, [0xE0, 0x20]);
 //! assert_eq!(lavandol::metrics(file, g)?.logical, 3);
+//! let refusal = lavandol::find_value(file, 0x42).unwrap_err();
+//! assert_eq!(refusal.reason, lavandol::Reason::Unmapped);
+//! assert_eq!(refusal.to_string(), "refused 15 0 (unmapped)");
 //! # Ok::<(), lavandol::Refusal>(())
 //! ```
+#![no_std]
 
-use std::fmt;
-use std::ops::Range;
+use core::ops::Range;
 
 mod boundary;
+mod refusal;
 use boundary::*;
-
-/// Why a call is refused. `place` is an offset in the file; for ROOM it is the size
-/// needed.
-#[derive(Debug, Clone, Copy, PartialEq, Eq)]
-pub struct Refusal {
-    pub number: u32,
-    pub place: usize,
-}
-
-/// The refusals' names; number 1 comes first.
-const NAMES: [&str; 21] = [
-    "too long",
-    "kind",
-    "header cut",
-    "version",
-    "header size",
-    "count",
-    "shape",
-    "body cut",
-    "entry",
-    "table cut",
-    "table bad",
-    "trailing",
-    "ask",
-    "no table",
-    "unmapped",
-    "no glyph",
-    "wrong kind",
-    "glyphs",
-    "value",
-    "size",
-    "room",
-];
-
-impl Refusal {
-    /// The refusal's name; a number that is none (0, or above 21) is "unknown".
-    pub fn name(&self) -> &'static str {
-        let at = (self.number as usize).wrapping_sub(1);
-        NAMES.get(at).copied().unwrap_or("unknown")
-    }
-}
-
-impl fmt::Display for Refusal {
-    fn fmt(&self, f: &mut fmt::Formatter) -> fmt::Result {
-        write!(f, "refused {} {} ({})", self.number, self.place, self.name())
-    }
-}
-
-impl std::error::Error for Refusal {}
+pub use refusal::{Reason, Refusal};
 
 #[derive(Debug, Clone, Copy, PartialEq, Eq)]
 pub enum Kind {
@@ -116,20 +72,20 @@ pub enum Item {
     End,
 }
 
-fn unless_refused<T>(number: u32, place: usize, answer: T) -> Result<T, Refusal> {
-    if number == 0 {
-        Ok(answer)
-    } else {
-        Err(Refusal { number, place })
+fn unless_refused<T>(r: LavRefusal, answer: T) -> Result<T, Refusal> {
+    match r.number {
+        0 => Ok(answer),
+        number => Err(Refusal { reason: Reason::of(number), place: r.place as usize }),
     }
 }
 
+/// A part's end is no greater than the file's length, so the sum can't overflow.
 fn part(p: LavPart) -> Result<Range<usize>, Refusal> {
-    unless_refused(p.refusal, p.place, p.offset..p.offset + p.length)
+    unless_refused(p.refusal, p.offset..p.offset + p.length)
 }
 
 fn number(n: LavNumber) -> Result<usize, Refusal> {
-    unless_refused(n.refusal, n.place, n.number)
+    unless_refused(n.refusal, n.number)
 }
 
 /// Checks a font. Refusals: 1 to 12, in their order.
@@ -154,7 +110,7 @@ pub fn check(file: &[u8]) -> Result<Font, Refusal> {
         size: f.size,
         end: f.end,
     };
-    unless_refused(f.refusal, f.place, font)
+    unless_refused(f.refusal, font)
 }
 
 /// Where glyph g's bytes stand in the file. Refusals: 1 to 12, ASK, NO GLYPH.
@@ -189,12 +145,14 @@ pub fn pixel(file: &[u8], g: usize, y: usize, x: usize) -> Result<bool, Refusal>
 /// PSF2. Refusals: 1 to 12, ASK, NO GLYPH.
 pub fn metrics(file: &[u8], g: usize) -> Result<Metrics, Refusal> {
     let m = unsafe { lav_metrics(file.as_ptr(), file.len(), g) };
-    let LavMetrics { refusal, place, up, down, left, right, logical } = m;
-    unless_refused(refusal, place, Metrics { up, down, left, right, logical })
+    let LavMetrics { refusal, up, down, left, right, logical } = m;
+    unless_refused(refusal, Metrics { up, down, left, right, logical })
 }
 
 /// Item k of glyph g's description, in the order of the file; the end mark comes
-/// last. Refusals: 1 to 12, NO TABLE, ASK.
+/// last. Each call checks the font and goes to the item from the table's start, so a
+/// walk over all items takes time quadratic in the table's length. Refusals: 1 to 12,
+/// NO TABLE, ASK.
 pub fn item(file: &[u8], g: usize, k: usize) -> Result<Item, Refusal> {
     let i = unsafe { lav_item(file.as_ptr(), file.len(), g, k) };
     let item = match i.kind {
@@ -203,7 +161,7 @@ pub fn item(file: &[u8], g: usize, k: usize) -> Result<Item, Refusal> {
         3 => Item::Value(i.value),
         _ => Item::End,
     };
-    unless_refused(i.refusal, i.place, item)
+    unless_refused(i.refusal, item)
 }
 
 /// The lowest glyph that lists v as a single. Refusals: 1 to 12, NO TABLE, ASK,

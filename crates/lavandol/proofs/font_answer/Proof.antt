@@ -8,6 +8,9 @@ use Rattle.lavandol.proofs.font_answer.Tie as tie
 enum-known-a : tie.Need-enum-known-a
 enum-known-a c = search needs
 
+no-refusal-requires : tie.Need-no-refusal-requires
+no-refusal-requires c κs = search needs
+
 kind-number-requires : tie.Need-kind-number-requires
 kind-number-requires c κs = search needs
 
@@ -21,7 +24,7 @@ refused-font-requires : tie.Need-refused-font-requires
 refused-font-requires c κs = search needs
 
 returns : tie.Need-returns
-returns c = rw (c .before .before .before .a .given .1, c .before .kind-number .ensures, c .flag-number .ensures)
+returns c = rw (c .before .before .before .before .a .given .1, c .before .before .no-refusal .ensures, c .before .kind-number .ensures, c .flag-number .ensures)
 
 returns-2 : tie.Need-returns-2
 returns-2 c = c .refused-font .ensures ∙ ap fontAnswer (sym (c .before .before .a2 .given .1))
@@ -31,6 +34,7 @@ font-answer-spec =
     tie.close
     (tie.spec
     enum-known-a
+    no-refusal-requires
     kind-number-requires
     flag-number-requires
     enum-known-a-2

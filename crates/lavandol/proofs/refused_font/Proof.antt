@@ -1,13 +1,13 @@
--- `lavandol::refused_font` meets its contract: the refusal's number and place. Assumes nothing.
+-- `lavandol::refused_font` meets its contract: the refusal and zeros. Assumes nothing.
 use borrow.Author.Needs.{needs}
 use Rattle.lavandol.proofs.refused_font.Statement.{statement}
 use Rattle.lavandol.proofs.refused_font.Tie as tie
 
-number-requires : tie.Need-number-requires
-number-requires c κs = search needs
+refusal-told-requires : tie.Need-refusal-told-requires
+refusal-told-requires c κs = search needs
 
 returns : tie.Need-returns
-returns c = rw (c .number .ensures)
+returns c = rw (c .refusal-told .ensures)
 
 pub refused-font-spec : {M : Type 1} → statement M
-refused-font-spec = tie.close (tie.spec number-requires returns)
+refused-font-spec = tie.close (tie.spec refusal-told-requires returns)

@@ -1,13 +1,13 @@
--- `lavandol::refused_item` meets its contract: the refusal's number and place. Assumes nothing.
+-- `lavandol::refused_item` meets its contract: the refusal and zeros. Assumes nothing.
 use borrow.Author.Needs.{needs}
 use Rattle.lavandol.proofs.refused_item.Statement.{statement}
 use Rattle.lavandol.proofs.refused_item.Tie as tie
 
-number-requires : tie.Need-number-requires
-number-requires c κs = search needs
+refusal-told-requires : tie.Need-refusal-told-requires
+refusal-told-requires c κs = search needs
 
 returns : tie.Need-returns
-returns c = rw (c .number .ensures)
+returns c = rw (c .refusal-told .ensures)
 
 pub refused-item-spec : {M : Type 1} → statement M
-refused-item-spec = tie.close (tie.spec number-requires returns)
+refused-item-spec = tie.close (tie.spec refusal-told-requires returns)

@@ -1,0 +1,2 @@
+-- Laws on the answers as C reads them.
+pub mod Inside
