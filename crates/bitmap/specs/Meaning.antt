@@ -1,9 +1,9 @@
 -- A glyph's bitmap and metrics: where it stands, how large it is, its pixels (document 01; source documents 000 and 004).
 use Prim.Native.Nat.{ℕ, _+_, _-_, _*_, _/_, _%_, _^_}
 use mathlib.Core.Path.{_≡_}
-use mathlib.Core.List.{List}
+use mathlib.Core.List.{List, []}
 use lib.IntN.{pos}
-use lib.ListN.{getD}
+use lib.ListN.{getD, take, drop}
 use Rattle.header.specs.declared.Kind.{Kind}
 use Rattle.header.specs.declared.Kind.the-variants.{Psf1, Psf2, Vfont2}
 use Rattle.header.specs.declared.Font.{Font}
@@ -11,6 +11,8 @@ use Rattle.header.specs.Meaning.{rowBytes}
 use Rattle.entries.specs.declared.Metrics.{Metrics}
 use Rattle.entries.specs.Meaning.{entryAt, addressAt, sizeAt, metricsAt, rowsAt, colsAt, HasGlyph}
 use Rattle.bitmap.specs.declared.Bitmap as B
+use Rattle.bitmap.specs.declared.Part.{Part}
+use Rattle.bitmap.specs.declared.Part.the-variants.{At, Refused as NoPart}
 
 -- glyph g of a font whose bitmaps have one size: "The bitmap for a glyph is stored as height consecutive pixel rows"
 abbrev pub evenBitmap : Font → ℕ → B.Bitmap
@@ -45,3 +47,8 @@ bitOf b i = b / 2 ^ (7 - i) % 2
 -- "Pixels run left to right from the top bit of a row's first byte; 1 is drawn."
 abbrev pub pixelIn : List ℕ → B.Bitmap → ℕ → ℕ → ℕ
 pixelIn s b y x = bitOf (getD s (rowStart b y + x / 8) 0) (x % 8)
+
+-- the part of a file that an answer names: "the part alone, of length 0 if refused"
+abbrev pub viewOf : List ℕ → Part → List ℕ
+viewOf s (At start len) = take len (drop start s)
+viewOf s (NoPart r) = []

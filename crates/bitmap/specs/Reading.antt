@@ -58,8 +58,3 @@ pixelOf s (NotLocated r) y x = NoPixel r
 abbrev pub metricsOf : List ℕ → Font → ℕ → Located → GlyphMetrics
 metricsOf s f g (Found b) = Is (kindMetrics s f g (f .kind))
 metricsOf s f g (NotLocated r) = NoMetrics r
-
--- the part of a file that an answer names: "the part alone, of length 0 if refused"
-abbrev pub viewOf : List ℕ → Part → List ℕ
-viewOf s (At start len) = take len (drop start s)
-viewOf s (NoPart r) = []

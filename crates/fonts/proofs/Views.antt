@@ -7,7 +7,7 @@ use lib.ListN.{take, drop}
 use Rattle.refusal.specs.declared.Refusal.{Refusal}
 use Rattle.bitmap.specs.declared.Part.{Part}
 use Rattle.bitmap.specs.declared.Part.the-variants.{At, Refused as NoPart}
-use Rattle.bitmap.specs.Reading.{viewOf}
+use Rattle.bitmap.specs.Meaning.{viewOf}
 
 pub view-at : (s : List ℕ) (p : Part) (start len : ℕ) → p ≡ At start len → take (start + len - start) (drop start s) ≡ viewOf s p
 view-at s p start len e = rw (e, add-sub-cancel-left start len)

@@ -13,7 +13,7 @@ ghost use lib.ListN.{length};
 ghost use Rattle.stages.specs.Reading.{checkOf};
 ghost use Rattle.conversion.specs.declared.Conversion.the-variants.{Psf1ToPsf2, Psf2ToPsf1, Psf2ToVfont2, Vfont2ToPsf2};
 ghost use Rattle.convert.specs.Reading.{convertedOf, convertedInto};
-ghost use Rattle.bitmap.specs.Reading.{viewOf};
+ghost use Rattle.bitmap.specs.Meaning.{viewOf};
 ghost use Rattle.bitmap.specs.Bounds.{PartInside};
 ghost use Rattle.fonts.specs.Reading.{glyphPartOf, rowPartOf, pixelAt, glyphMetricsOf, itemOf, valueGlyph, sequenceGlyph};
 

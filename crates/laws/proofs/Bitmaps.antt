@@ -12,8 +12,7 @@ use Rattle.header.specs.declared.Kind.the-variants.{Psf1, Psf2, Vfont2}
 use Rattle.header.specs.declared.Font.{Font}
 use Rattle.header.specs.declared.Checked.the-variants.{Sound}
 use Rattle.entries.specs.Meaning.{entryAt, addressAt, sizeAt, rowsAt, colsAt, Breaks}
-use Rattle.bitmap.specs.Meaning.{bitOf}
-use Rattle.bitmap.specs.Reading.{viewOf}
+use Rattle.bitmap.specs.Meaning.{bitOf, viewOf}
 use Rattle.stages.specs.Reading.{checkOf}
 use Rattle.content.specs.Meaning.{bitmapIn, NoGlyph}
 use Rattle.content.proofs.Source.{unbroken}

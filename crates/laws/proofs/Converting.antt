@@ -29,8 +29,8 @@ use Rattle.bitmap.specs.declared.Located.{Located}
 use Rattle.bitmap.specs.declared.Located.the-variants.{Found}
 use Rattle.bitmap.specs.declared.GlyphMetrics.the-variants.{Is}
 use Rattle.bitmap.specs.declared.Pixel.the-variants.{Bit}
-use Rattle.bitmap.specs.Meaning.{evenMetrics}
-use Rattle.bitmap.specs.Reading.{bitmapOf, wholeOf, rowOf, pixelOf, metricsOf, viewOf}
+use Rattle.bitmap.specs.Meaning.{evenMetrics, viewOf}
+use Rattle.bitmap.specs.Reading.{bitmapOf, wholeOf, rowOf, pixelOf, metricsOf}
 use Rattle.bitmap.proofs.Places.{too-high, row-in, row-below, pixel-in, pixel-past, pixel-below}
 use Rattle.layout.specs.Reading.{evenly, fieldAt20, glyphsIn}
 use Rattle.stages.specs.Meaning.{codingOf, tailOf}

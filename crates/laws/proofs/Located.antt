@@ -26,8 +26,8 @@ use Rattle.bitmap.specs.declared.Part.the-variants.{At, Refused as NoPart}
 use Rattle.bitmap.specs.declared.Pixel.{Pixel}
 use Rattle.bitmap.specs.declared.Pixel.the-variants.{Bit, Refused as NoPixel}
 use Rattle.bitmap.specs.declared.GlyphMetrics.the-variants.{Refused as NoMetrics}
-use Rattle.bitmap.specs.Meaning.{kindMetrics, rowStart, bitOf, pixelIn}
-use Rattle.bitmap.specs.Reading.{bitmapOf, wholeOf, rowOf, pixelOf, metricsOf, viewOf}
+use Rattle.bitmap.specs.Meaning.{kindMetrics, rowStart, bitOf, pixelIn, viewOf}
+use Rattle.bitmap.specs.Reading.{bitmapOf, wholeOf, rowOf, pixelOf, metricsOf}
 use Rattle.bitmap.specs.Bounds.{Inside, LocatedInside}
 use Rattle.bitmap.proofs.Places.{too-high, row-in, row-below, pixel-in, pixel-past, pixel-below, located-inside}
 use Rattle.content.specs.Meaning.{bitmapIn, NoGlyph as Without}

@@ -23,8 +23,7 @@ use Rattle.table.specs.Meaning.{Desc, items, bytes, OfCoding, encode, Readable}
 use Rattle.lookup.specs.Meaning.{Any}
 use Rattle.transcode.specs.declared.Measured.{Measured}
 use Rattle.transcode.specs.declared.Measured.the-variants.{Length, Uncarried}
-use Rattle.transcode.specs.Reading.{tableLen}
-use Rattle.transcode.specs.Meaning.{FirstUncarried}
+use Rattle.transcode.specs.Reading.{tableLen, FirstUncarried}
 use Rattle.transcode.proofs.Meaning.{length-exactly, uncarried-place}
 use Rattle.header.specs.declared.Kind.{Kind}
 use Rattle.header.specs.declared.Kind.the-variants.{Psf1, Psf2, Vfont2}

@@ -9,7 +9,7 @@ use Prim.Native.Nat.{ℕ, _+_, _≤_, _<_}
 use lib.ListN.{length}
 use Rattle.base.specs.Meaning.{Begins, Bytes}
 use Rattle.utf8.specs.declared.Read.the-variants.{Value as ReadValue}
-use Rattle.utf8.specs.Meaning.{Scalar, utf8Bytes, WellFormed}
+use Rattle.utf8.specs.Meaning.{Scalar, utf8Bytes}
 use Rattle.utf8.specs.Reading.{readValue}
 use Rattle.table.specs.declared.Item.{Item}
 use Rattle.table.specs.Meaning.{Desc, encode, Readable, IsTable, LongestStart, Unfinished, BadAt, TrailingAt}
@@ -19,7 +19,7 @@ use Rattle.header.specs.declared.Font.{Font}
 use Rattle.stages.specs.Meaning.{codingOf, tailOf}
 use Rattle.stages.specs.Reading.{checkOf}
 use Rattle.fonts.specs.Reading.{itemOf, valueGlyph, sequenceGlyph}
-use Rattle.laws.specs.Meaning.{gives, refuses, checkSays, walkSays, lookupSays, ofTail, RowsTo9}
+use Rattle.laws.specs.Meaning.{gives, refuses, checkSays, walkSays, lookupSays, ofTail, RowsTo9, WellFormed}
 use Rattle.laws.proofs.Check.{passed-9}
 use Rattle.laws.proofs.Tails as tail
 use Rattle.laws.proofs.Reading as inner

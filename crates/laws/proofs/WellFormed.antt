@@ -10,7 +10,8 @@ use Rattle.base.specs.Meaning.{Begins, Bytes}
 use Rattle.base.proofs.Tests.{below}
 use Rattle.token.specs.declared.Token.the-variants.{Value}
 use Rattle.utf8.specs.declared.Read.the-variants.{Value as ReadValue, Bad}
-use Rattle.utf8.specs.Meaning.{Scalar, utf8Bytes, In, WellFormed}
+use Rattle.utf8.specs.Meaning.{Scalar, utf8Bytes}
+use Rattle.laws.specs.Meaning.{In, WellFormed}
 use Rattle.utf8.specs.Reading.{readValue, readUtf8, asToken}
 use Rattle.utf8.proofs.Rows.{row-y}
 use Rattle.utf8.proofs.First.{no-value, no-bytes, empty, no-mark, back-value}

@@ -28,8 +28,7 @@ use Rattle.bitmap.specs.declared.Pixel.{Pixel}
 use Rattle.bitmap.specs.declared.Pixel.the-variants.{Bit, Refused as NoPixel}
 use Rattle.bitmap.specs.declared.GlyphMetrics.{GlyphMetrics}
 use Rattle.bitmap.specs.declared.GlyphMetrics.the-variants.{Is as IsMetrics, Refused as NoMetrics}
-use Rattle.bitmap.specs.Meaning.{kindMetrics, rowStart, pixelIn}
-use Rattle.bitmap.specs.Reading.{viewOf}
+use Rattle.bitmap.specs.Meaning.{kindMetrics, rowStart, pixelIn, viewOf}
 use Rattle.stages.specs.Meaning.{codingOf, tailOf}
 use Rattle.stages.specs.Reading.{checkOf}
 use Rattle.questions.specs.declared.Walk.{Walk}
@@ -192,6 +191,25 @@ RowsTo9 s = RowsThen s (λ f a. a ≡ gives f)
 -- all rows of the check
 abbrev pub CheckRows : List ℕ → Said Font → Type 0
 CheckRows s = RowsThen s (λ f. TailRows s f (f .table))
+
+-- Unicode's Table 3-7, "Well-Formed UTF-8 Byte Sequences", row by row
+abbrev pub In : ℕ → ℕ → ℕ → Type 0
+In lo hi b = (lo ≤ b) × (b ≤ hi)
+
+abbrev pub WellFormed : List ℕ → Type 0
+WellFormed [] = ⊥
+WellFormed (a ∷ []) = In 0x00 0x7F a
+WellFormed (a ∷ b ∷ []) = In 0xC2 0xDF a × In 0x80 0xBF b
+WellFormed (a ∷ b ∷ c ∷ []) =
+    (In 0xE0 0xE0 a × In 0xA0 0xBF b × In 0x80 0xBF c)
+    ⊎ ((In 0xE1 0xEC a × In 0x80 0xBF b × In 0x80 0xBF c)
+    ⊎ ((In 0xED 0xED a × In 0x80 0x9F b × In 0x80 0xBF c)
+    ⊎ (In 0xEE 0xEF a × In 0x80 0xBF b × In 0x80 0xBF c)))
+WellFormed (a ∷ b ∷ c ∷ d ∷ []) =
+    (In 0xF0 0xF0 a × In 0x90 0xBF b × In 0x80 0xBF c × In 0x80 0xBF d)
+    ⊎ ((In 0xF1 0xF3 a × In 0x80 0xBF b × In 0x80 0xBF c × In 0x80 0xBF d)
+    ⊎ (In 0xF4 0xF4 a × In 0x80 0x8F b × In 0x80 0xBF c × In 0x80 0xBF d))
+WellFormed (a ∷ b ∷ c ∷ d ∷ e ∷ s) = ⊥
 
 -- Bitmaps: "ASK for the glyph, NO GLYPH, ASK for row and column."
 

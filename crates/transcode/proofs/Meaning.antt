@@ -14,8 +14,7 @@ use Rattle.table.specs.Reading.{endsIn, stepsFrom, itemsIn}
 use Rattle.table.proofs.Meaning.{items-read, glyph-of-item}
 use Rattle.transcode.specs.declared.Measured.{Measured}
 use Rattle.transcode.specs.declared.Measured.the-variants.{Length, Uncarried}
-use Rattle.transcode.specs.Reading.{measure, tableLen, recoded}
-use Rattle.transcode.specs.Meaning.{FirstUncarried}
+use Rattle.transcode.specs.Reading.{measure, tableLen, recoded, FirstUncarried}
 use Rattle.transcode.proofs.Measuring.{Said, same-place, measured, uncarried-measured}
 
 -- an item among items of a coding

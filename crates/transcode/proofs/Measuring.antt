@@ -21,8 +21,7 @@ use Rattle.table.proofs.Stepping.{item-front}
 use Rattle.table.proofs.Moves.{ended, ended-more}
 use Rattle.transcode.specs.declared.Measured.{Measured}
 use Rattle.transcode.specs.declared.Measured.the-variants.{Length, Uncarried}
-use Rattle.transcode.specs.Reading.{measure, tableLen, recoded}
-use Rattle.transcode.specs.Meaning.{FirstUncarried}
+use Rattle.transcode.specs.Reading.{measure, tableLen, recoded, FirstUncarried}
 use Rattle.transcode.proofs.Turns.{value-more, value-not, start-more, end-more}
 
 never : {A : Type 0} (k g m : ℕ) → Uncarried k g ≡ Length m → A

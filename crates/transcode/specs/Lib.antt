@@ -1,4 +1,3 @@
 -- A table's items written in another coding.
-pub mod Meaning
 pub mod Reading
 pub mod Bounds

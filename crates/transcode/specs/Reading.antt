@@ -1,12 +1,14 @@
 -- A table's items in another coding: their bytes, how many those are, and the first value that the coding can't carry.
 use Prim.Native.Nat.{ℕ, _+_, suc}
-use mathlib.Core.List.{List, [], _∷_}
+use mathlib.Core.Path.{_≡_}
+use mathlib.Core.List.{List, [], _∷_, _++_}
 use lib.ListN.{length}
 use Rattle.coding.specs.declared.Coding.{Coding}
-use Rattle.table.specs.Meaning.{bytes}
+use Rattle.table.specs.Meaning.{bytes, OfCoding}
 use Rattle.base.specs.Reading.{when}
 use Rattle.coding.specs.Reading.{carriesOf, markLen}
 use Rattle.coding.specs.Meaning.{valueBytes}
+use Rattle.table.specs.declared.Item.{Item}
 use Rattle.table.specs.declared.Step.{Step}
 use Rattle.table.specs.declared.Step.the-variants.{Value as StepValue, Start as StepStart, End as StepEnd, Cut as StepCut, Bad as StepBad}
 use Rattle.table.specs.Reading.{stepsFrom, itemsIn}
@@ -31,3 +33,14 @@ measure to g at n (StepBad k ∷ xs) = Length n
 -- the coding can't carry, and its glyph
 unfoldable pub tableLen : Coding → Coding → List ℕ → Measured
 tableLen from to s = measure to 0 0 0 (stepsFrom from 0 0 s)
+
+-- items, written in one coding from a place on, of which the first whose value another coding can't carry stands at a place:
+-- everything before it is carried, and it isn't
+pub record FirstUncarried (from to : Coding) (is : List Item) (at place : ℕ) : Type 0 where
+  pub before : List Item
+  pub item : Item
+  pub after : List Item
+  pub same : is ≡ before ++ (item ∷ after)
+  pub carried : OfCoding to before
+  pub uncarried : OfCoding to (item ∷ []) → ⊥
+  pub here : place ≡ at + length (bytes from before)
