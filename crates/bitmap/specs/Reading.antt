@@ -1,8 +1,7 @@
 -- What the bitmap questions answer on a font whose parts stand in the file. "Bitmaps: ASK for the glyph, NO GLYPH, ASK for row and column."
 use Prim.Native.Nat.{ℕ, _+_}
-use mathlib.Core.List.{List, []}
+use mathlib.Core.List.{List}
 use lib.Dec.{ltb}
-use lib.ListN.{take, drop}
 use Rattle.base.specs.Reading.{when}
 use Rattle.refusal.specs.Meaning.{refusal}
 use Rattle.refusal.specs.declared.Reason.the-variants.{Ask, NoGlyph, Entry as BrokenEntry}

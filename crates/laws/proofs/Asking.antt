@@ -10,9 +10,8 @@ use borrow.Author.Tests.{ltb-true, lt-ltb, le-ltb}
 use Rattle.base.specs.Meaning.{pick, Bytes}
 use Rattle.base.specs.Reading.{when}
 use Rattle.refusal.specs.Meaning.{refusal}
-use Rattle.refusal.specs.declared.Reason.the-variants.{Ask, NoTable, Unmapped}
+use Rattle.refusal.specs.declared.Reason.the-variants.{Ask, NoTable}
 use Rattle.refusal.specs.declared.Refusal.{Refusal}
-use Rattle.coding.specs.declared.Coding.{Coding}
 use Rattle.table.specs.declared.Item.{Item}
 use Rattle.table.specs.Meaning.{Desc, encode, Readable}
 use Rattle.lookup.specs.declared.Walked.{Walked}
@@ -27,15 +26,15 @@ use Rattle.header.specs.declared.Checked.the-variants.{Sound, Refused}
 use Rattle.stages.specs.Meaning.{codingOf, tailOf}
 use Rattle.stages.specs.Reading.{checkOf}
 use Rattle.questions.specs.declared.Walk.{Walk}
-use Rattle.questions.specs.declared.Walk.the-variants.{Is, Refused as NoWalk}
+use Rattle.questions.specs.declared.Walk.the-variants.{Refused as NoWalk}
 use Rattle.questions.specs.declared.Lookup.{Lookup}
-use Rattle.questions.specs.declared.Lookup.the-variants.{Glyph, Refused as NoLookup}
+use Rattle.questions.specs.declared.Lookup.the-variants.{Refused as NoLookup}
 use Rattle.questions.specs.Reading.{fontItems, walkOf, lookupOf, anyHigh, askable}
 use Rattle.content.specs.Meaning.{Describes}
 use Rattle.content.proofs.Tails.{Tail, tail-known}
 use Rattle.fonts.specs.Reading.{itemOf, valueGlyph, sequenceGlyph}
 use Rattle.laws.specs.Meaning.{Exact, Said, gives, refuses, walkSays, lookupSays, Row, Gives, ItemRows, ValueRows, SequenceRows}
-use Rattle.laws.proofs.Exactly.{row, own-first, reading-of, is-some, less, either}
+use Rattle.laws.proofs.Exactly.{row, own-first, reading-of, is-some, less}
 
 -- the reading of a sound font
 module _ (s : List ℕ) (f : Font) (y : Bytes s) (sound : checkOf s ≡ Sound f) where

@@ -9,8 +9,6 @@ use lib.ListN.{getD, take, drop}
 use lib.Seq.{take-add, drop-drop}
 use Rattle.base.specs.Meaning.{Bytes}
 use Rattle.base.proofs.Tests.{same}
-use Rattle.refusal.specs.Meaning.{refusal}
-use Rattle.refusal.specs.declared.Reason.the-variants.{Ask, NoGlyph}
 use Rattle.refusal.specs.declared.Refusal.{Refusal}
 use Rattle.header.specs.declared.Kind.{Kind}
 use Rattle.header.specs.declared.Kind.the-variants.{Psf1, Psf2, Vfont2}
@@ -21,12 +19,10 @@ use Rattle.entries.specs.Meaning.{entryAt, sizeAt}
 use Rattle.bitmap.specs.declared.Bitmap.{Bitmap}
 use Rattle.bitmap.specs.declared.Located.{Located}
 use Rattle.bitmap.specs.declared.Located.the-variants.{Found, Refused as NotLocated}
-use Rattle.bitmap.specs.declared.Part.{Part}
-use Rattle.bitmap.specs.declared.Part.the-variants.{At, Refused as NoPart}
-use Rattle.bitmap.specs.declared.Pixel.{Pixel}
-use Rattle.bitmap.specs.declared.Pixel.the-variants.{Bit, Refused as NoPixel}
+use Rattle.bitmap.specs.declared.Part.the-variants.{Refused as NoPart}
+use Rattle.bitmap.specs.declared.Pixel.the-variants.{Refused as NoPixel}
 use Rattle.bitmap.specs.declared.GlyphMetrics.the-variants.{Refused as NoMetrics}
-use Rattle.bitmap.specs.Meaning.{kindMetrics, rowStart, bitOf, pixelIn, viewOf}
+use Rattle.bitmap.specs.Meaning.{bitOf, viewOf}
 use Rattle.bitmap.specs.Reading.{bitmapOf, wholeOf, rowOf, pixelOf, metricsOf}
 use Rattle.bitmap.specs.Bounds.{Inside, LocatedInside}
 use Rattle.bitmap.proofs.Places.{too-high, row-in, row-below, pixel-in, pixel-past, pixel-below, located-inside}

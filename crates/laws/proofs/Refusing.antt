@@ -11,7 +11,7 @@ use borrow.Author.Tests.{lt-ltb, le-ltb, eq-eqb, ne-eqb}
 use Rattle.base.specs.Reading.{when}
 use Rattle.base.specs.Meaning.{Bytes}
 use Rattle.base.proofs.Tests.{below, same}
-use Rattle.refusal.specs.Meaning.{numberOf, refusal}
+use Rattle.refusal.specs.Meaning.{refusal}
 use Rattle.refusal.specs.declared.Refusal.{Refusal}
 use Rattle.refusal.specs.declared.Reason.the-variants.{WrongKind, Glyphs, Value, Size, Room}
 use Rattle.coding.specs.declared.Coding.{Coding}
@@ -28,7 +28,6 @@ use Rattle.transcode.proofs.Meaning.{length-exactly, uncarried-place}
 use Rattle.header.specs.declared.Kind.{Kind}
 use Rattle.header.specs.declared.Kind.the-variants.{Psf1, Psf2, Vfont2}
 use Rattle.header.specs.declared.Font.{Font}
-use Rattle.header.specs.declared.Checked.{Checked}
 use Rattle.header.specs.declared.Checked.the-variants.{Sound, Refused as Unsound}
 use Rattle.header.specs.Meaning.{limit}
 use Rattle.entries.specs.Meaning.{entryAt}
@@ -49,7 +48,6 @@ use Rattle.bitmap.specs.Meaning.{EvenGlyph}
 use Rattle.conversion.specs.Reading.{sameKind, isPsf1Count, suitsPsf1, isEven, evenness, evenSuits, suitsOf, measuredOf, fitting, measuredThen, preparedOn, preparedOf}
 use Rattle.conversion.proofs.Cases.{kind-same, right-kind, wrong-kind, not-opened, count-256, count-512, count-wrong, width-other, width-eight, last-logical, uneven-within, measured-is, suits-is, too-large, fits, suited, unsuited, opened-as}
 use Rattle.conversion.proofs.Ready.{even-fields}
-use Rattle.convert.specs.declared.Converted.{Converted}
 use Rattle.convert.specs.declared.Converted.the-variants.{Wrote, Refused}
 use Rattle.convert.specs.Reading.{converted, convertedOf}
 use Rattle.laws.specs.Meaning.{Exact, convertedSays, GlyphsAt, Holds, FirstValue, ValueAt, needed, ConversionRows}

@@ -1,5 +1,5 @@
 -- "Small tables": document 01's cases P1 to P14, "one proved table under one statement about the grammar", places counted from the table's start.
-use mathlib.Core.Path.{_≡_, refl, sym}
+use mathlib.Core.Path.{_≡_, refl}
 use mathlib.Core.Bool.{Bool, true, false, _&&_}
 use mathlib.Core.List.{List, [], _∷_}
 use mathlib.Core.Logic.{inl, inr}

@@ -1,5 +1,5 @@
 -- The program's words and lines (document 01): the first line, a refusal's line. The lines of glyphs: crates/lines; numbers: crates/text.
-use Prim.Native.Nat.{ℕ, _+_}
+use Prim.Native.Nat.{ℕ}
 use mathlib.Core.List.{List, [], _∷_, _++_}
 use Rattle.text.specs.Meaning.{numberText}
 use mathlib.Core.Bool.{Bool, true, false}

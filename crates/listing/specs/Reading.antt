@@ -1,5 +1,5 @@
 -- The listing of a file, and what a call leaves in a buffer.
-use Prim.Native.Nat.{ℕ, _+_}
+use Prim.Native.Nat.{ℕ}
 use mathlib.Core.List.{List, [], _++_}
 use lib.Dec.{ltb}
 use Rattle.base.specs.Meaning.{pick}

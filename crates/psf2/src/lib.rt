@@ -10,7 +10,6 @@ ghost use Prim.Native.Nat.{_+_, _*_, _≤_, _<_};
 ghost use lib.ListN.{length};
 ghost use Rattle.base.specs.Reading.{over};
 ghost use Rattle.header.specs.declared.Kind.the-variants.{Psf2 as psf2};
-ghost use Rattle.header.specs.Meaning.{entryLen};
 ghost use Rattle.header.specs.Reading.{headOf, psf2Shaped, onFields, headerBytes};
 
 pub struct Psf2;

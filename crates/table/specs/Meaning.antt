@@ -2,7 +2,7 @@
 --   <unicodedescription> := <uc>*<seq>*<term>
 --   <seq> := <ss><uc><uc>*
 use mathlib.Core.List.{List, [], _∷_, _++_}
-use Prim.Native.Nat.{ℕ, suc, _+_, _≤_, _<_}
+use Prim.Native.Nat.{ℕ, suc, _≤_, _<_}
 use lib.ListN.{length, take}
 use Rattle.coding.specs.declared.Coding.{Coding}
 use Rattle.coding.specs.Meaning.{valueOf, valueBytes, startBytes, endBytes}

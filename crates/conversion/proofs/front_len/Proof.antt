@@ -1,6 +1,6 @@
 -- `conversion::front_len` meets its contract: header, entries and bitmaps. Assumes a font within the formats' bounds.
 use native.Mathlib.Omega.{arith}
-use Prim.Native.Nat.{_-_, _≤_}
+use Prim.Native.Nat.{_≤_}
 use Rattle.conversion.proofs.Cases as cases
 use native.Mathlib.Nat.{mul-le-mul}
 use borrow.Author.Needs.{needs}

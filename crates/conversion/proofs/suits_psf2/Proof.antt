@@ -1,7 +1,7 @@
 -- `conversion::suits_psf2` meets its contract: the first entry that is not even. Assumes `Placed`, of a vfont2 font.
 use native.Mathlib.Omega.{arith}
 use mathlib.Core.Path.{sym, _∙_, ap, subst}
-use Prim.Native.Nat.{_-_, _≤_}
+use Prim.Native.Nat.{_≤_}
 use Rattle.conversion.proofs.Cases as cases
 use Rattle.conversion.specs.declared.Suits.the-variants.{Refused as Unsuited}
 use Rattle.header.specs.declared.Kind.{Kind}

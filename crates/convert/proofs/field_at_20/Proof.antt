@@ -1,7 +1,7 @@
 -- `convert::field_at_20` meets its contract: by the kind. Assumes small numbers.
 use native.Mathlib.Omega.{arith}
 use mathlib.Core.Path.{_≡_, refl}
-use Prim.Native.Nat.{ℕ, _-_, _≤_}
+use Prim.Native.Nat.{ℕ, _≤_}
 use native.Mathlib.Nat.{mul-le-mul}
 use Rattle.header.specs.declared.Kind.the-variants.{Psf1, Psf2}
 use Rattle.convert.proofs.Cases.{no-vfont2}

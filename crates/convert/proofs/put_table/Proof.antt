@@ -1,7 +1,7 @@
 -- `convert::put_table` meets its contract: by the conversion. Assumes a table that can be carried, and room.
 use Rattle.conversion.proofs.Cases.{measured-is}
 use mathlib.Core.Path.{sym, _∙_, ap, subst}
-use Prim.Native.Nat.{_-_, _≤_}
+use Prim.Native.Nat.{_≤_}
 use Rattle.conversion.specs.declared.Conversion.the-variants.{Psf1ToPsf2, Psf2ToPsf1}
 use lib.ListN.{length}
 use Rattle.base.specs.Reading.{over}

@@ -13,7 +13,7 @@ use Rattle.conversion.specs.Reading.{tableIn, measuredOf}
 use Rattle.convert.proofs.Cases as cases
 use native.Mathlib.Omega.{arith}
 use mathlib.Core.Path.{_≡_, refl, sym, _∙_, ap, subst}
-use Prim.Native.Nat.{ℕ, _+_, _-_, _*_, _≤_}
+use Prim.Native.Nat.{ℕ, _+_, _*_, _≤_}
 use native.Mathlib.Nat.{mul-le-mul}
 use Rattle.conversion.proofs.Cases.{front-is}
 use borrow.Author.Needs.{needs}

@@ -2,7 +2,6 @@
 use Rattle.layout.specs.Reading.{metricsBytes, entryBytes}
 use Rattle.base.proofs.Over.{over-none, behind}
 use Rattle.base.specs.Reading.{bytes32}
-use Prim.Native.Nat.{_+_, _-_}
 use mathlib.Core.List.{[], _++_}
 use mathlib.Core.Path.{refl}
 use borrow.Author.Needs.{needs}
