@@ -147,7 +147,7 @@ module _ (s : List ℕ) (y : Bytes s) (f : Font) (passed : throughEntries s ≡ 
       go (inl h) = not-refused number p (sym e ∙ ap checkSays (accepted h))
       go (inr (inl h)) = (length (tailOf s f), ap saidPlace (sym e ∙ ap checkSays (cut h)) ∙ sym where-it-ends, whole-start (h .0))
       go (inr (inr (inl (k, h)))) = (k, ap saidPlace (sym e ∙ ap checkSays (bad k h)), h .0)
-      go (inr (inr (inr (k, h)))) = (k, ap saidPlace (sym e ∙ ap checkSays (over k h)), h .0)
+      go (inr (inr (inr (k, h)))) = (k, ap saidPlace (sym e ∙ ap checkSays (over k h)), meaning.trailing-start c (f .count) (tailOf s f) k t-bytes h)
 
 module _ (s : List ℕ) (y : Bytes s) (f : Font) (passed : throughEntries s ≡ Sound f) where
   bare-rows : f .table ≡ false → Exact (checkSays (checkOf s)) (TailRows s f false)

@@ -1,4 +1,5 @@
--- "Small tables": document 01's cases P1 to P14, "one proved table under one statement about the grammar", places counted from the table's start.
+-- "Small tables and small fonts": document 01's cases P1 to P14, "one proved table under one statement about the grammar", places counted from the
+-- table's start; and what the calls say of its font of 45 bytes.
 use mathlib.Core.Path.{_≡_, refl}
 use mathlib.Core.Bool.{Bool, true, false, _&&_}
 use mathlib.Core.List.{List, [], _∷_}
@@ -8,7 +9,8 @@ use native.Mathlib.Omega.{arith}
 use lib.Dec.{ltb}
 use lib.ListN.{length}
 use borrow.Author.Tests.{ltb-true}
-use Rattle.base.specs.Meaning.{Bytes}
+use Rattle.base.specs.Meaning.{Bytes, le16, le32}
+use Rattle.base.specs.Reading.{when, startsWith}
 use Rattle.utf8.specs.Reading.{readUtf8, readValue, leadOf, conts}
 use Rattle.utf8.specs.Meaning.{utf8Bytes}
 use Rattle.ucs2.specs.Reading.{readUcs2, isWord}
@@ -18,8 +20,20 @@ use Rattle.coding.specs.Reading.{readToken, markLen}
 use Rattle.coding.specs.Meaning.{valueOf, valueBytes, startBytes, endBytes}
 use Rattle.table.specs.declared.TableAnswer.the-variants.{Cut, Bad, Trailing}
 use Rattle.table.specs.Meaning.{Seq, Desc, encode, Readable, Unfinished, BadAt, TrailingAt}
-use Rattle.table.specs.Reading.{stepsFrom, checkSteps, tableOf}
+use Rattle.table.specs.Reading.{stepsFrom, valueItem, stepItems, checkSteps, tableOf}
 use Rattle.table.proofs.Meaning as meaning
+use Rattle.header.specs.Meaning.{glyphBytes}
+use Rattle.header.specs.Reading.{kindOf, headOf, psf2Shaped, saysOf}
+use Rattle.stages.specs.Reading.{sized, entriesOf, tailed, throughBody, throughEntries, checkOf}
+use Rattle.stages.proofs.Small.{small}
+use Rattle.conversion.specs.declared.Conversion.the-variants.{Psf2ToVfont2}
+use Rattle.conversion.specs.Meaning.{frontLen}
+use Rattle.conversion.specs.Reading.{ofKind, openedOf, suitsOf, measuredOf, fitting, preparedOn, preparedOf}
+use Rattle.convert.specs.Reading.{convertedOf}
+use Rattle.lookup.specs.Reading.{findValue, goesOn, isWhole, findSequenceFrom}
+use Rattle.questions.specs.Reading.{anyHigh}
+use Rattle.fonts.specs.Reading.{valueGlyph, sequenceGlyph}
+use Rattle.laws.specs.Meaning.{gives, refuses, lookupSays, convertedSays}
 
 -- the column "Answer": a reading, or CUT, BAD or TRAILING at a place
 pub data Answer : Type 0 where
@@ -142,3 +156,13 @@ small-tables = (
     ),
   ),
 )
+
+-- "As vfont2 it takes 81 bytes; a buffer of 80 gives ROOM, place 81."
+pub small-as-vfont2 : (convertedSays (convertedOf Psf2ToVfont2 small 80) ≡ refuses 21 81) × (convertedSays (convertedOf Psf2ToVfont2 small 81) ≡ gives 81)
+unfolding when le16 le32 leadOf conts readValue readUtf8 markLen readToken stepsFrom checkSteps glyphBytes startsWith kindOf headOf psf2Shaped saysOf sized entriesOf tailed throughBody throughEntries checkOf convertedOf preparedOf preparedOn openedOf ofKind suitsOf measuredOf fitting frontLen
+small-as-vfont2 = (refl, refl)
+
+-- it maps 41 to glyph 0, C5 and the sequence 41 30A to glyph 1
+pub small-looked-up : (lookupSays (valueGlyph small 0x41) ≡ gives 0) × (lookupSays (valueGlyph small 0xC5) ≡ gives 1) × (lookupSays (sequenceGlyph small (0x41 ∷ 0x30A ∷ [])) ≡ gives 1)
+unfolding when le16 le32 leadOf conts readValue readUtf8 markLen readToken stepsFrom checkSteps glyphBytes startsWith kindOf headOf psf2Shaped saysOf sized entriesOf tailed throughBody throughEntries checkOf valueGlyph sequenceGlyph anyHigh valueItem stepItems findValue goesOn isWhole findSequenceFrom
+small-looked-up = (refl, refl, refl)

@@ -9,18 +9,13 @@ use Rattle.coding.specs.Reading.{markLen, readToken}
 use Rattle.table.specs.Reading.{stepsFrom, valueItem, stepItems, checkSteps}
 use Rattle.header.specs.Meaning.{glyphBytes}
 use Rattle.header.specs.Reading.{kindOf, headOf, psf2Shaped, saysOf}
+use Rattle.stages.proofs.Small.{small}
 use Rattle.stages.specs.Reading.{sized, entriesOf, tailed, throughBody, throughEntries, checkOf}
 use Rattle.listing.specs.Meaning.{firstLine}
 use Rattle.text.specs.Meaning.{numberText}
 use Rattle.text.specs.Reading.{digitOf, digits, numeral}
 use Rattle.listing.specs.Reading.{linesText, fontText, listingOf}
 use Rattle.lines.specs.Reading.{pieceOf, linesOf, tableText}
-
--- the header with header size 32, flags 1, n = 2, c = 2, height 2, width 3; bitmaps A0 40 E0 20; table 41 FF C3 85 FE 41 CC 8A FF
-abbrev pub small : List ℕ
-small =
-    0x72 ∷ 0xB5 ∷ 0x4A ∷ 0x86 ∷ 0 ∷ 0 ∷ 0 ∷ 0 ∷ 32 ∷ 0 ∷ 0 ∷ 0 ∷ 1 ∷ 0 ∷ 0 ∷ 0 ∷ 2 ∷ 0 ∷ 0 ∷ 0 ∷ 2 ∷ 0 ∷ 0 ∷ 0 ∷ 2 ∷ 0 ∷ 0 ∷ 0 ∷ 3 ∷ 0 ∷ 0 ∷ 0
-    ∷ 0xA0 ∷ 0x40 ∷ 0xE0 ∷ 0x20 ∷ 0x41 ∷ 0xFF ∷ 0xC3 ∷ 0x85 ∷ 0xFE ∷ 0x41 ∷ 0xCC ∷ 0x8A ∷ 0xFF ∷ []
 
 -- `psf2 2 2 3 table`, `0 41`, `1 C5 +41+30A`
 abbrev pub smallText : List ℕ

@@ -1,2 +1,3 @@
 -- Laws of the whole check.
 pub mod Cases
+pub mod Small

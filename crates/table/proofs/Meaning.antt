@@ -8,7 +8,7 @@ use Rattle.base.specs.Meaning.{Bytes}
 use Rattle.coding.specs.declared.Coding.{Coding}
 use Rattle.table.specs.declared.Item.{Item}
 use Rattle.table.specs.declared.TableAnswer.the-variants.{Complete, Cut, Bad, Trailing}
-use Rattle.table.specs.Meaning.{Desc, itemsOf, items, bytes, encode, startOf, Readable, IsTable, Unfinished, BadAt, TrailingAt, InGlyph}
+use Rattle.table.specs.Meaning.{Desc, itemsOf, items, bytes, encode, startOf, Readable, IsTable, LongestStart, Unfinished, BadAt, TrailingAt, InGlyph}
 use Rattle.table.specs.Reading.{endsIn, itemsIn, tableOf, tablePlace}
 use Rattle.table.proofs.Reading.{unique, items-back}
 use Rattle.table.proofs.EndToEnd.{described-append, encode-cons}
@@ -80,10 +80,13 @@ pub glyph-of-item : (c : Coding) (ds : List Desc) (is : List Item) (i : Item) (j
     (endsIn is < length ds) × InGlyph c (encode c ds) (length (bytes c is)) (endsIn is)
 glyph-of-item = item-glyph
 
--- TRAILING is given exactly when the longest completable start is a complete table and shorter than the tail; its place is the first byte after it
-pub trailing-exactly : (c : Coding) (n : ℕ) (s : List ℕ) (k : ℕ) → Bytes s →
-    (tableOf c n s ≡ Trailing k) ↔ TrailingAt c n s k
-trailing-exactly c n s k y = (trailing-over c n s k y, λ h. over-trailing c n s k (h .1) (h .2))
+-- TRAILING is given exactly when bytes stand after a complete table; its place is the first of them
+pub trailing-exactly : (c : Coding) (n : ℕ) (s : List ℕ) (k : ℕ) → Bytes s → (tableOf c n s ≡ Trailing k) ↔ TrailingAt c n s k
+trailing-exactly c n s k y = (λ e. let r = trailing-over c n s k y e in (r .1, r .2), λ h. over-trailing c n s k (h .0) (h .1))
+
+-- that table is then the longest start that could still be completed
+pub trailing-start : (c : Coding) (n : ℕ) (s : List ℕ) (k : ℕ) → Bytes s → TrailingAt c n s k → LongestStart c n s k
+trailing-start c n s k y h = trailing-over c n s k y (over-trailing c n s k (h .0) (h .1)) .0
 
 -- no place is past the tail's end
 pub place-within : (c : Coding) (n : ℕ) (s : List ℕ) → Bytes s → tablePlace (tableOf c n s) ≤ length s

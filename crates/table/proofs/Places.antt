@@ -14,7 +14,7 @@ use Rattle.coding.specs.declared.Coding.{Coding}
 use Rattle.table.specs.declared.Item.{Item}
 use Rattle.table.specs.declared.TableAnswer.{TableAnswer}
 use Rattle.table.specs.declared.TableAnswer.the-variants.{Complete, Cut as TableCut, Bad as TableBad, Trailing}
-use Rattle.table.specs.Meaning.{Desc, items, bytes, OfCoding, encode, Readable, IsTable, Completable, LongestStart, Unfinished, BadAt, TrailingAt}
+use Rattle.table.specs.Meaning.{Desc, items, bytes, OfCoding, encode, Readable, IsTable, Completable, LongestStart, Unfinished, BadAt}
 use Rattle.table.specs.Reading.{endsIn, stepsFrom, checkSteps, tableOf, tablePlace}
 use Rattle.table.proofs.Accepts.{singles, Accepts, accepts-items, accepted-items}
 use Rattle.table.proofs.Answers.{walk, Read, More, Stops, Says, answer-told, atOver, passes, stops-before}
@@ -110,7 +110,7 @@ module _ (c : Coding) (n : ℕ) where
         let r = stops-longest (TableBad k g) (λ q. let z : _≡_ {A = ℕ} 0 1 = cc in absurd (omega arith)) (More c n singles) is-completable k (says y (TableBad k g) e) in
         (r .0, r .1, λ t. let q = sym e ∙ over-trailing k (r .1) t in let z : _≡_ {A = ℕ} 0 1 = cc in absurd (omega arith))
 
-    pub trailing-over : (k : ℕ) → Bytes s → tableOf c n s ≡ Trailing k → TrailingAt c n s k
+    pub trailing-over : (k : ℕ) → Bytes s → tableOf c n s ≡ Trailing k → LongestStart c n s k × (k < length s) × IsTable c n (take k s)
     trailing-over k y e =
         let r = stops-longest (Trailing k) (λ q. let z : _≡_ {A = ℕ} 0 1 = cc in absurd (omega arith)) (Read c n singles) (λ t r. table-completable t (is-table t r)) k (says y (Trailing k) e) in
         (r .0, r .1, is-table (take k s) (r .2))

@@ -103,9 +103,9 @@ Unfinished c n s = Completable c n s × (IsTable c n s → ⊥)
 abbrev pub BadAt : Coding → ℕ → List ℕ → ℕ → Type 0
 BadAt c n s k = LongestStart c n s k × (k < length s) × (IsTable c n (take k s) → ⊥)
 
--- TRAILING at k: it is shorter than the tail, and complete
+-- TRAILING at k: "bytes after a complete table"
 abbrev pub TrailingAt : Coding → ℕ → List ℕ → ℕ → Type 0
-TrailingAt c n s k = LongestStart c n s k × (k < length s) × IsTable c n (take k s)
+TrailingAt c n s k = (k < length s) × IsTable c n (take k s)
 
 -- up to place k the first g descriptions are complete, and not one more: the place stands in the description of glyph g
 pub record InGlyph (c : Coding) (s : List ℕ) (k g : ℕ) : Type 0 where
