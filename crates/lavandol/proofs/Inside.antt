@@ -6,7 +6,7 @@ use native.Mathlib.Omega.{arith}
 use Rattle.bitmap.specs.declared.Part.{Part}
 use Rattle.bitmap.specs.declared.Part.the-variants.{At, Refused as NoPart}
 use Rattle.bitmap.specs.Bounds.{PartInside}
-use Rattle.lavandol.specs.Meaning.{partAnswer}
+use Rattle.answers.specs.Meaning.{partAnswer}
 
 pub told-inside : (s : List ℕ) (p : Part) → PartInside s p → partAnswer p .offset + partAnswer p .length ≤ length s
 told-inside s (At start len) h = h

@@ -94,13 +94,6 @@ checkSteps e g (suc n) opened at (StepBad k ∷ xs) = TableBad k g
 abbrev pub tableOf : Coding → ℕ → List ℕ → TableAnswer
 tableOf c n s = checkSteps (length s) 0 n false 0 (stepsFrom c 0 0 s)
 
--- the paper's number of a refusal, 0 where there is none
-abbrev pub tableNumber : TableAnswer → ℕ
-tableNumber Complete = 0
-tableNumber (TableCut k g) = 10
-tableNumber (TableBad k g) = 11
-tableNumber (Trailing k) = 12
-
 -- its place in the tail
 abbrev pub tablePlace : TableAnswer → ℕ
 tablePlace Complete = 0

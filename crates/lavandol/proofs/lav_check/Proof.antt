@@ -1,5 +1,5 @@
 -- `lavandol::lav_check` meets its contract: the public call's answer, as C reads it. Assumes nothing.
-use Rattle.lavandol.specs.Meaning.{fontAnswer}
+use Rattle.answers.specs.Meaning.{fontAnswer}
 use mathlib.Core.Path.{_∙_, ap}
 use borrow.Author.Needs.{needs}
 use Rattle.lavandol.proofs.lav_check.Statement.{statement}

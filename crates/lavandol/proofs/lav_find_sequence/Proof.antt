@@ -1,5 +1,5 @@
 -- `lavandol::lav_find_sequence` meets its contract: the public call's answer, as C reads it. Assumes nothing.
-use Rattle.lavandol.specs.Meaning.{lookupAnswer}
+use Rattle.answers.specs.Meaning.{lookupAnswer}
 use mathlib.Core.Path.{_∙_, ap}
 use borrow.Author.Needs.{needs}
 use Rattle.lavandol.proofs.lav_find_sequence.Statement.{statement}

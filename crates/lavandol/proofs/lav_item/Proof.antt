@@ -1,5 +1,5 @@
 -- `lavandol::lav_item` meets its contract: the public call's answer, as C reads it. Assumes nothing.
-use Rattle.lavandol.specs.Meaning.{walkAnswer}
+use Rattle.answers.specs.Meaning.{walkAnswer}
 use mathlib.Core.Path.{_∙_, ap}
 use borrow.Author.Needs.{needs}
 use Rattle.lavandol.proofs.lav_item.Statement.{statement}

@@ -1,6 +1,6 @@
 -- `lavandol::lav_metrics` meets its contract: the public call, as a struct. Assumes nothing.
 use mathlib.Core.Path.{_∙_, ap}
-use Rattle.lavandol.specs.Meaning.{metricsAnswer}
+use Rattle.answers.specs.Meaning.{metricsAnswer}
 use borrow.Author.Needs.{needs}
 use Rattle.lavandol.proofs.lav_metrics.Statement.{statement}
 use Rattle.lavandol.proofs.lav_metrics.Tie as tie

@@ -1,5 +1,5 @@
 -- `lavandol::lav_pixel` meets its contract: the public call's answer, as C reads it. Assumes nothing.
-use Rattle.lavandol.specs.Meaning.{pixelAnswer}
+use Rattle.answers.specs.Meaning.{pixelAnswer}
 use mathlib.Core.Path.{_∙_, ap}
 use borrow.Author.Needs.{needs}
 use Rattle.lavandol.proofs.lav_pixel.Statement.{statement}

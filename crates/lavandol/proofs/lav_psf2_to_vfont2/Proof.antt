@@ -1,6 +1,6 @@
 -- `lavandol::lav_psf2_to_vfont2` meets its contract: the public call, as a struct. Assumes nothing.
 use mathlib.Core.Path.{_∙_, ap}
-use Rattle.lavandol.specs.Meaning.{convertedAnswer}
+use Rattle.answers.specs.Meaning.{convertedAnswer}
 use borrow.Author.Needs.{needs}
 use Rattle.lavandol.proofs.lav_psf2_to_vfont2.Statement.{statement}
 use Rattle.lavandol.proofs.lav_psf2_to_vfont2.Tie as tie

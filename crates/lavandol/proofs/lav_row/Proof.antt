@@ -1,5 +1,5 @@
 -- `lavandol::lav_row` meets its contract: the public call's answer, as C reads it, inside the file. Assumes nothing.
-use Rattle.lavandol.specs.Meaning.{partAnswer}
+use Rattle.answers.specs.Meaning.{partAnswer}
 use mathlib.Core.Path.{_∙_, ap}
 use Rattle.lavandol.proofs.Inside.{told-inside}
 use borrow.Author.Needs.{needs}
