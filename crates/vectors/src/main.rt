@@ -14,7 +14,7 @@ use questions::Walk;
 use refusal::Refusal;
 use table::Item;
 ghost use mathlib.Core.Path.{_≡_};
-ghost use Prim.Native.Nat.{_<_};
+ghost use Prim.Native.Nat.{_<_, _≤_};
 ghost use lib.ListN.{length};
 
 // Where the script is read, how long the current file is, and how long the last good conversion's output.
@@ -24,35 +24,180 @@ struct Cursor {
     last: usize,
 }
 
+fn least(a: usize, b: usize) -> usize
+    ensures { λ r. ⌜ (r ≤ a) × (r ≤ b) ⌝ }
+{
+    if a < b {
+        return a;
+    }
+    b
+}
+
+// a + n, at most `most`.
+fn grown(most: usize, a: usize, n: usize) -> usize
+    ensures { λ r. ⌜ r ≤ most ⌝ }
+{
+    if most < a {
+        return most;
+    }
+    if most - a < n {
+        return most;
+    }
+    a + n
+}
+
+// The n bytes from `a` on, or as many as there are.
+fn part<'a>(s: &'a [u8], a: usize, n: usize) -> &'a [u8] {
+    let len = s.len();
+    let from = least(a, len);
+    let to = grown(len, from, n);
+    if to < from {
+        return &s[..0];
+    }
+    &s[from..to]
+}
+
+fn byte(s: &[u8], at: usize) -> u32
+    ensures { λ r. ⌜ r < 256 ⌝ }
+{
+    if at < s.len() {
+        return base::wide(s[at]);
+    }
+    0
+}
+
+fn short_at(s: &[u8], at: usize) -> u32
+    ensures { λ r. ⌜ r < 65536 ⌝ }
+{
+    let p = part(s, at, 2);
+    byte(p, 0) + 256 * byte(p, 1)
+}
+
+fn word_at(s: &[u8], at: usize) -> u32 {
+    let p = part(s, at, 4);
+    if p.len() < 4 {
+        return 0;
+    }
+    base::get32(p, 0)
+}
+
+fn wide(x: u32) -> u64
+    ensures { λ r. ⌜ (r ≡ x) × (r < 4294967296) ⌝ }
+{
+    x as u64
+}
+
+fn long_at(s: &[u8], at: usize) -> u64 {
+    let p = part(s, at, 8);
+    wide(word_at(p, 0)) + 4294967296 * wide(word_at(p, 4))
+}
+
+fn index_at(s: &[u8], at: usize) -> usize {
+    long_at(s, at) as usize
+}
+
+// Puts src's bytes at the start of out, as far as they fit.
+fn put(src: &[u8], out: &mut [u8]) {
+    let n = least(src.len(), out.len());
+    let mut i = 0;
+    while i < n {
+        out[i] = src[i];
+        i += 1;
+    }
+}
+
+// Puts n copies of b at the start of out, as far as they fit.
+fn fill(n: usize, b: u8, out: &mut [u8]) {
+    let most = least(n, out.len());
+    let mut i = 0;
+    while i < most {
+        out[i] = b;
+        i += 1;
+    }
+}
+
+fn say(text: &[u8]) {
+    io::write_all(1, text);
+}
+
+fn decimal(n: usize) {
+    io::print_decimal(1, n as u64);
+}
+
+fn upper(b: u8) -> u8 {
+    if 97 <= b {
+        return b - 32;
+    }
+    b
+}
+
+// A value: upper-case hexadecimal without leading zeros.
+fn value(v: u32) {
+    let mut text = [0u8; 16];
+    let k = io::hex(wide(v), 1, &mut text);
+    letters(&text[..k]);
+}
+
+fn letters(text: &[u8]) {
+    let mut i = 0;
+    while i < text.len() {
+        let one = [upper(text[i])];
+        say(&one);
+        i += 1;
+    }
+}
+
+fn digit(n: u8) -> u8 {
+    let d = n % 16;
+    if d < 10 {
+        return 48 + d;
+    }
+    55 + d
+}
+
+// Bytes, two upper-case digits each.
+fn bytes(p: &[u8]) {
+    if p.len() == 0 {
+        say(b"-");
+    }
+    let mut i = 0;
+    while i < p.len() {
+        let b = p[i];
+        let two = [digit(b / 16), digit(b % 16)];
+        say(&two);
+        i += 1;
+    }
+}
+
 fn refused(r: Refusal) {
     let reason = r.reason;
-    print::say(b"refused ");
-    print::decimal(base::size(refusal::number(reason)));
-    print::say(b" ");
-    print::decimal(r.place);
+    say(b"refused ");
+    decimal(base::size(refusal::number(reason)));
+    say(b" ");
+    decimal(r.place);
 }
 
 fn kind_name(k: Kind) {
     match k {
-        Kind::Psf1 => print::say(b"psf1 "),
-        Kind::Psf2 => print::say(b"psf2 "),
-        Kind::Vfont2 => print::say(b"vfont2 "),
+        Kind::Psf1 => say(b"psf1 "),
+        Kind::Psf2 => say(b"psf2 "),
+        Kind::Vfont2 => say(b"vfont2 "),
     }
 }
 
 fn sound(f: Font) {
-    print::say(b"sound ");
+    say(b"sound ");
     let k = f.kind;
     kind_name(k);
-    print::decimal(f.count);
-    print::say(b" ");
-    print::decimal(f.height);
-    print::say(b" ");
-    print::decimal(f.width);
+    decimal(f.count);
+    say(b" ");
+    decimal(f.height);
+    say(b" ");
+    decimal(f.width);
     if f.table {
-        print::say(b" table");
+        say(b" table");
     } else {
-        print::say(b" bare");
+        say(b" bare");
     }
 }
 
@@ -67,43 +212,43 @@ fn ask_check(file: &[u8]) {
 fn located(p: Part, view: &[u8]) {
     match p {
         Part::At(start, len) => {
-            print::decimal(start);
-            print::say(b" ");
-            print::decimal(len);
+            decimal(start);
+            say(b" ");
+            decimal(len);
         }
         Part::Refused(r) => refused(r),
     }
-    print::say(b" ");
-    print::bytes(view);
+    say(b" ");
+    bytes(view);
 }
 
 fn ask_glyph(file: &[u8], g: usize) {
-    print::say(b"glyph ");
-    print::decimal(g);
-    print::say(b" ");
+    say(b"glyph ");
+    decimal(g);
+    say(b" ");
     located(fonts::glyph_part(file, g), fonts::glyph(file, g));
 }
 
 fn ask_row(file: &[u8], g: usize, y: usize) {
-    print::say(b"row ");
-    print::decimal(g);
-    print::say(b" ");
-    print::decimal(y);
-    print::say(b" ");
+    say(b"row ");
+    decimal(g);
+    say(b" ");
+    decimal(y);
+    say(b" ");
     located(fonts::row_part(file, g, y), fonts::row(file, g, y));
 }
 
 fn ask_pixel(file: &[u8], g: usize, y: usize, x: usize) {
-    print::say(b"pixel ");
-    print::decimal(g);
-    print::say(b" ");
-    print::decimal(y);
-    print::say(b" ");
-    print::decimal(x);
-    print::say(b" ");
+    say(b"pixel ");
+    decimal(g);
+    say(b" ");
+    decimal(y);
+    say(b" ");
+    decimal(x);
+    say(b" ");
     let p = fonts::pixel(file, g, y, x);
     match p {
-        Pixel::Bit(b) => print::decimal(base::size(base::wide(b))),
+        Pixel::Bit(b) => decimal(base::size(base::wide(b))),
         Pixel::Refused(r) => refused(r),
     }
 }
@@ -137,27 +282,27 @@ fn is_same(m: Metrics, up: i32, down: i32, left: i32, right: i32, logical: i32) 
 
 fn told(is: bool) {
     if is {
-        print::say(b"is");
+        say(b"is");
     } else {
-        print::say(b"is not");
+        say(b"is not");
     }
 }
 
 fn asked(v: u32) {
-    print::decimal(base::size(v));
-    print::say(b" ");
+    decimal(base::size(v));
+    say(b" ");
 }
 
 // Whether glyph g has these metrics, each a number of two bytes.
 fn ask_metrics(file: &[u8], g: usize, a: &[u8]) {
-    print::say(b"metrics ");
-    print::decimal(g);
-    print::say(b" ");
-    let up = records::short_at(a, 9);
-    let down = records::short_at(a, 11);
-    let left = records::short_at(a, 13);
-    let right = records::short_at(a, 15);
-    let logical = records::short_at(a, 17);
+    say(b"metrics ");
+    decimal(g);
+    say(b" ");
+    let up = short_at(a, 9);
+    let down = short_at(a, 11);
+    let left = short_at(a, 13);
+    let right = short_at(a, 15);
+    let logical = short_at(a, 17);
     asked(up);
     asked(down);
     asked(left);
@@ -180,24 +325,24 @@ fn ask_metrics(file: &[u8], g: usize, a: &[u8]) {
 fn item_text(i: Item) {
     match i {
         Item::Single(v) => {
-            print::say(b"single ");
-            print::value(v);
+            say(b"single ");
+            value(v);
         }
-        Item::Start => print::say(b"start"),
+        Item::Start => say(b"start"),
         Item::Value(v) => {
-            print::say(b"value ");
-            print::value(v);
+            say(b"value ");
+            value(v);
         }
-        Item::End => print::say(b"end"),
+        Item::End => say(b"end"),
     }
 }
 
 fn ask_item(file: &[u8], g: usize, k: usize) {
-    print::say(b"item ");
-    print::decimal(g);
-    print::say(b" ");
-    print::decimal(k);
-    print::say(b" ");
+    say(b"item ");
+    decimal(g);
+    say(b" ");
+    decimal(k);
+    say(b" ");
     let w = fonts::item(file, g, k);
     match w {
         Walk::Is(i) => item_text(i),
@@ -208,17 +353,17 @@ fn ask_item(file: &[u8], g: usize, k: usize) {
 fn looked_up(l: Lookup) {
     match l {
         Lookup::Glyph(g) => {
-            print::say(b"glyph ");
-            print::decimal(g);
+            say(b"glyph ");
+            decimal(g);
         }
         Lookup::Refused(r) => refused(r),
     }
 }
 
 fn ask_value(file: &[u8], v: u32) {
-    print::say(b"value ");
-    print::value(v);
-    print::say(b" ");
+    say(b"value ");
+    value(v);
+    say(b" ");
     looked_up(fonts::find_value(file, v));
 }
 
@@ -228,10 +373,10 @@ fn sequence_at(script: &[u8], at: usize) -> [u32; 255]
 {
     let mut out = [0u32; 255];
     let mut i = 0;
-    let mut from = records::least(at, script.len());
+    let mut from = least(at, script.len());
     while i < 255 {
-        out[i] = records::word_at(script, from);
-        from = records::grown(script.len(), from, 4);
+        out[i] = word_at(script, from);
+        from = grown(script.len(), from, 4);
         i += 1;
     }
     out
@@ -239,75 +384,70 @@ fn sequence_at(script: &[u8], at: usize) -> [u32; 255]
 
 fn sequence_text(vs: &[u32]) {
     if vs.len() == 0 {
-        print::say(b"-");
+        say(b"-");
     }
     let mut i = 0;
     while i < vs.len() {
-        print::say(b"+");
-        print::value(vs[i]);
+        say(b"+");
+        value(vs[i]);
         i += 1;
     }
 }
 
 fn ask_sequence(file: &[u8], vs: &[u32]) {
-    print::say(b"sequence ");
+    say(b"sequence ");
     sequence_text(vs);
-    print::say(b" ");
+    say(b" ");
     looked_up(fonts::find_sequence(file, vs));
 }
 
 // The questions: each prints its line; the answer is the record's length.
 fn ask(script: &[u8], at: usize, op: u8, file: &[u8]) -> usize {
-    let a = records::part(script, at, 25);
+    let a = part(script, at, 25);
     match op {
         0x10 => {
             ask_check(file);
-            print::say(b"\n");
+            say(b"\n");
             1
         }
         0x11 => {
-            ask_glyph(file, records::index_at(a, 1));
-            print::say(b"\n");
+            ask_glyph(file, index_at(a, 1));
+            say(b"\n");
             9
         }
         0x12 => {
-            ask_row(file, records::index_at(a, 1), records::index_at(a, 9));
-            print::say(b"\n");
+            ask_row(file, index_at(a, 1), index_at(a, 9));
+            say(b"\n");
             17
         }
         0x13 => {
-            ask_pixel(
-                file,
-                records::index_at(a, 1),
-                records::index_at(a, 9),
-                records::index_at(a, 17),
-            );
-            print::say(b"\n");
+            ask_pixel(file, index_at(a, 1), index_at(a, 9), index_at(a, 17));
+            say(b"\n");
             25
         }
         0x14 => {
-            ask_item(file, records::index_at(a, 1), records::index_at(a, 9));
-            print::say(b"\n");
+            ask_item(file, index_at(a, 1), index_at(a, 9));
+            say(b"\n");
             17
         }
         0x15 => {
-            ask_value(file, records::word_at(a, 1));
-            print::say(b"\n");
+            ask_value(file, word_at(a, 1));
+            say(b"\n");
             5
         }
         0x16 => {
-            let n = base::size(records::byte(a, 1));
-            let from = records::grown(script.len(), at, 2);
+            let n = base::size(byte(a, 1));
+            let from = grown(script.len(), at, 2);
             let vs = sequence_at(script, from);
             if n <= 255 {
                 ask_sequence(file, &vs[..n]);
             }
-            print::say(b"\n");
+            say(b"\n");
             2 + 4 * n
         }
         0x17 => {
-            ask_metrics(file, records::index_at(a, 1), a);
-            print::say(b"\n");
+            ask_metrics(file, index_at(a, 1), a);
+            say(b"\n");
             19
         }
         _ => 1,
@@ -316,51 +456,51 @@ fn ask(script: &[u8], at: usize, op: u8, file: &[u8]) -> usize {
 
 // The records that make the current file: the answer is its new length.
 fn build(script: &[u8], at: usize, op: u8, file: &mut [u8], len: usize) -> usize {
-    let a = records::part(script, at, 8);
+    let a = part(script, at, 8);
     let most = file.len();
     match op {
         0x00 => {
-            print::say(b"# ");
-            let n = base::size(records::byte(a, 1));
-            let from = records::grown(script.len(), at, 2);
-            print::say(records::part(script, from, n));
-            print::say(b"\n");
+            say(b"# ");
+            let n = base::size(byte(a, 1));
+            let from = grown(script.len(), at, 2);
+            say(part(script, from, n));
+            say(b"\n");
             len
         }
         0x01 => 0,
         0x02 => {
-            let n = base::size(records::short_at(a, 1));
-            let from = records::grown(script.len(), at, 3);
-            let to = records::least(len, most);
-            records::put(records::part(script, from, n), &mut file[to..]);
-            records::grown(most, to, n)
+            let n = base::size(short_at(a, 1));
+            let from = grown(script.len(), at, 3);
+            let to = least(len, most);
+            put(part(script, from, n), &mut file[to..]);
+            grown(most, to, n)
         }
         0x03 => {
-            let n = base::size(records::word_at(a, 1));
-            let b = (records::byte(a, 5) % 256) as u8;
-            let to = records::least(len, most);
-            records::fill(n, b, &mut file[to..]);
-            records::grown(most, to, n)
+            let n = base::size(word_at(a, 1));
+            let b = (byte(a, 5) % 256) as u8;
+            let to = least(len, most);
+            fill(n, b, &mut file[to..]);
+            grown(most, to, n)
         }
         0x04 => {
-            let i = base::size(records::word_at(a, 1));
-            let b = (records::byte(a, 5) % 256) as u8;
+            let i = base::size(word_at(a, 1));
+            let b = (byte(a, 5) % 256) as u8;
             if i < most {
                 file[i] = b;
             }
             len
         }
-        _ => records::least(len, base::size(records::word_at(a, 1))),
+        _ => least(len, base::size(word_at(a, 1))),
     }
 }
 
 // How long a record that makes the file is.
 fn build_len(script: &[u8], at: usize, op: u8) -> usize {
-    let a = records::part(script, at, 8);
+    let a = part(script, at, 8);
     match op {
-        0x00 => 2 + base::size(records::byte(a, 1)),
+        0x00 => 2 + base::size(byte(a, 1)),
         0x01 => 1,
-        0x02 => 3 + base::size(records::short_at(a, 1)),
+        0x02 => 3 + base::size(short_at(a, 1)),
         0x05 => 5,
         _ => 6,
     }
@@ -379,7 +519,7 @@ fn checksum(p: &[u8]) -> u64 {
     let mut sum: u64 = 0;
     let mut i = 0;
     while i < p.len() {
-        sum = (sum * 31 + records::wide(base::wide(p[i]))) % 4294967291;
+        sum = (sum * 31 + wide(base::wide(p[i]))) % 4294967291;
         i += 1;
     }
     sum
@@ -387,48 +527,48 @@ fn checksum(p: &[u8]) -> u64 {
 
 // A conversion into a buffer of A5s: its line; the answer is the output's length, or 0.
 fn ask_convert(which: u8, file: &[u8], out: &mut [u8]) -> usize {
-    print::say(b"convert ");
-    print::decimal(base::size(base::wide(which)));
-    print::say(b" ");
+    say(b"convert ");
+    decimal(base::size(base::wide(which)));
+    say(b" ");
     let room = out.len();
-    print::decimal(room);
-    print::say(b" ");
-    records::fill(room, 0xA5, out);
+    decimal(room);
+    say(b" ");
+    fill(room, 0xA5, out);
     let c = converted(which, file, out);
     let mut len = 0;
     match c {
         Converted::Wrote(n) => {
-            print::say(b"wrote ");
-            print::decimal(n);
+            say(b"wrote ");
+            decimal(n);
             len = n;
         }
         Converted::Refused(r) => refused(r),
     }
-    print::say(b" sum ");
+    say(b" sum ");
     io::print_decimal(1, checksum(out));
-    print::say(b"\n");
+    say(b"\n");
     len
 }
 
 // The records of conversions: one more answer line, or the last output taken as the current file.
 fn exchange(script: &[u8], file: &mut [u8], out: &mut [u8], c: Cursor) -> Cursor {
-    let a = records::part(script, c.at, 6);
-    let op = (records::byte(a, 0) % 256) as u8;
+    let a = part(script, c.at, 6);
+    let op = (byte(a, 0) % 256) as u8;
     if op == 0x21 {
-        let last = records::least(c.last, out.len());
-        records::put(&out[..last], file);
+        let last = least(c.last, out.len());
+        put(&out[..last], file);
         return Cursor {
-            at: records::grown(script.len(), c.at, 1),
-            len: records::least(last, file.len()),
+            at: grown(script.len(), c.at, 1),
+            len: least(last, file.len()),
             last: c.last,
         };
     }
-    let which = (records::byte(a, 1) % 256) as u8;
-    let room = records::least(base::size(records::word_at(a, 2)), out.len());
-    let len = records::least(c.len, file.len());
+    let which = (byte(a, 1) % 256) as u8;
+    let room = least(base::size(word_at(a, 2)), out.len());
+    let len = least(c.len, file.len());
     let last = ask_convert(which, &file[..len], &mut out[..room]);
     Cursor {
-        at: records::grown(script.len(), c.at, 6),
+        at: grown(script.len(), c.at, 6),
         len: len,
         last: last,
     }
@@ -440,11 +580,11 @@ fn step(script: &[u8], file: &mut [u8], out: &mut [u8], c: Cursor) -> Cursor {
     if script.len() <= at {
         return c;
     }
-    let op = (records::byte(script, at) % 256) as u8;
+    let op = (byte(script, at) % 256) as u8;
     if op < 0x10 {
         let len = build(script, at, op, file, c.len);
         return Cursor {
-            at: records::grown(script.len(), at, build_len(script, at, op)),
+            at: grown(script.len(), at, build_len(script, at, op)),
             len: len,
             last: c.last,
         };
@@ -452,10 +592,10 @@ fn step(script: &[u8], file: &mut [u8], out: &mut [u8], c: Cursor) -> Cursor {
     if 0x20 <= op {
         return exchange(script, file, out, c);
     }
-    let len = records::least(c.len, file.len());
+    let len = least(c.len, file.len());
     let n = ask(script, at, op, &file[..len]);
     Cursor {
-        at: records::grown(script.len(), at, n),
+        at: grown(script.len(), at, n),
         len: len,
         last: c.last,
     }

@@ -1,10 +1,10 @@
--- `records::fill` is safe and ends: each turn of its loop is one step nearer the end. Assumes nothing.
+-- `vectors::fill` is safe and ends: each turn of its loop is one step nearer the end. Assumes nothing.
 use lib.ListN.{length}
 use mathlib.Core.Path.{_≡_}
 use Prim.Native.Nat.{_-_}
 use borrow.Author.Needs.{needs}
-use Rattle.records.proofs.fill.Statement.{statement}
-use Rattle.records.proofs.fill.Tie as tie
+use Rattle.vectors.proofs.fill.Statement.{statement}
+use Rattle.vectors.proofs.fill.Tie as tie
 
 abbrev Inv-loop : tie.InvT-loop
 Inv-loop n b out₀ most i₀ out i = length out ≡ length out₀

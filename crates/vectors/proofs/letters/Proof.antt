@@ -1,9 +1,9 @@
--- `print::letters` is safe and ends: each turn of its loop is one step nearer the end. Assumes nothing.
+-- `vectors::letters` is safe and ends: each turn of its loop is one step nearer the end. Assumes nothing.
 use lib.ListN.{length}
 use Prim.Native.Nat.{_-_}
 use borrow.Author.Needs.{needs}
-use Rattle.print.proofs.letters.Statement.{statement}
-use Rattle.print.proofs.letters.Tie as tie
+use Rattle.vectors.proofs.letters.Statement.{statement}
+use Rattle.vectors.proofs.letters.Tie as tie
 
 abbrev Inv-loop : tie.InvT-loop
 Inv-loop text i₀ i = Unit {0}

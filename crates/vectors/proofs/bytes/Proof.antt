@@ -1,9 +1,9 @@
--- `print::bytes` is safe and ends: each turn of its loop is one step nearer the end. Assumes nothing.
+-- `vectors::bytes` is safe and ends: each turn of its loop is one step nearer the end. Assumes nothing.
 use lib.ListN.{length}
 use Prim.Native.Nat.{_-_}
 use borrow.Author.Needs.{needs}
-use Rattle.print.proofs.bytes.Statement.{statement}
-use Rattle.print.proofs.bytes.Tie as tie
+use Rattle.vectors.proofs.bytes.Statement.{statement}
+use Rattle.vectors.proofs.bytes.Tie as tie
 
 abbrev Inv-loop : tie.InvT-loop
 Inv-loop p i₀ i = Unit {0}
