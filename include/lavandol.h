@@ -92,7 +92,7 @@ typedef struct {
     size_t count;   /* glyphs */
     size_t height;  /* greatest height and width of a glyph, in pixels */
     size_t width;
-    size_t table;   /* 1 where the font has a Unicode table, else 0 */
+    size_t table;   /* 1 where the font has a Unicode table, else 0. PSF1: where bit 1 or bit 2 of the mode is set, modes 2 to 5 */
     size_t entries; /* offset of the dispatch table (vfont2); of the bitmaps (PSF1, PSF2) */
     size_t bitmaps; /* offset of the bitmaps */
     size_t size;    /* bytes per glyph (PSF1, PSF2); bytes of all bitmaps (vfont2) */
@@ -238,7 +238,10 @@ lav_number lav_find_sequence(const uint8_t *file, size_t file_len, const uint32_
 /* GLYPHS does not occur. VALUE: a surrogate, which UTF-8 can't have. */
 lav_number lav_psf1_to_psf2(const uint8_t *file, size_t file_len, uint8_t *out, size_t out_len);
 
-/* GLYPHS: not 256 or 512 glyphs, or width not 8. VALUE: above FFFD. */
+/*
+ * GLYPHS: not 256 or 512 glyphs, or width not 8. VALUE: above FFFD. The mode written is 1 for 512 glyphs plus 2 for a table: a PSF1 file of
+ * mode 4 or 5 comes back from PSF2 as mode 2 or 3, with its other bytes as they were; one of mode 0 to 3 as it was.
+ */
 lav_number lav_psf2_to_psf1(const uint8_t *file, size_t file_len, uint8_t *out, size_t out_len);
 
 /* GLYPHS and VALUE do not occur. */

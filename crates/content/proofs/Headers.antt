@@ -200,18 +200,33 @@ mode-is (suc (suc zero)) h = refl
 mode-is (suc (suc (suc zero))) h = refl
 mode-is (suc (suc (suc (suc m)))) h = absurd (omega arith)
 
+-- and of 4 and 5: the mode that is written is 2 less
+pub mode-less : (m : ℕ) → 4 ≤ m → m ≤ 5 → modeOf (psf1Count m) (psf1Table m) + 2 ≡ m
+unfolding modeOf psf1Count psf1Table
+mode-less zero l h = absurd (omega arith)
+mode-less (suc zero) l h = absurd (omega arith)
+mode-less (suc (suc zero)) l h = absurd (omega arith)
+mode-less (suc (suc (suc zero))) l h = absurd (omega arith)
+mode-less (suc (suc (suc (suc zero)))) l h = refl
+mode-less (suc (suc (suc (suc (suc zero))))) l h = refl
+mode-less (suc (suc (suc (suc (suc (suc m)))))) l h = absurd (omega arith)
+
 two-bytes : (s : List ℕ) → 4 ≤ length s → take 2 (drop 2 s) ≡ getD s 2 0 ∷ getD s 3 0 ∷ []
 two-bytes s h =
     let a = drop-cons s 2 0 (omega arith) in
     let b = drop-cons s 3 0 (omega arith) in
     rw (a, b)
 
+-- PSF1's header, of any mode
+pub psf1-head : (s : List ℕ) → 4 ≤ length s → Begins (magicOf Psf1) s → take 4 s ≡ magicOf Psf1 ++ (getD s 2 0 ∷ getD s 3 0 ∷ [])
+psf1-head s l b = take-add 2 2 s ∙ λ i. b i ++ two-bytes s l i
+
 psf1-back : (s : List ℕ) (z w : ℕ) → 4 ≤ length s → Begins (magicOf Psf1) s → Plain s Psf1 →
     take 4 s ≡ headerBytes Psf1 (psf1Table (getD s 2 0)) (psf1Count (getD s 2 0)) z (getD s 3 0) w
 unfolding headerBytes
 psf1-back s z w l b p =
     let m = mode-is (getD s 2 0) p in
-    take-add 2 2 s ∙ (λ i. b i ++ two-bytes s l i) ∙ λ i. magicOf Psf1 ++ (m i ∷ getD s 3 0 ∷ [])
+    psf1-head s l b ∙ λ i. magicOf Psf1 ++ (m i ∷ getD s 3 0 ∷ [])
 
 -- the fields behind a magic of four bytes
 fields-back : (s m : List ℕ) → Bytes s → 32 ≤ length s → take 4 s ≡ m → le32 s 4 ≡ 0 → le32 s 12 ≤ 1 → le32 s 8 ≡ 32 →

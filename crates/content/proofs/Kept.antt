@@ -72,13 +72,17 @@ module _ (s : List ℕ) (f : Font) (y : Bytes s) (e : checkOf s ≡ Sound f) (v 
       same-content s f o font e (written-sound k (f .table) (f .count) (charSize f) (f .height) (f .width) xs b tl o r) (sym (w .1)) (sym (w .3)) kept-glyph
       (described-moved s f o font (sym (w .1)) kept-reading (f .table))
 
-  -- written back with the tail that it had, the font is the file that it was
-  pub kept-back : Bare (f .kind) → Plain s (f .kind) → (tl' : List ℕ) → tl' ≡ tailOf s f → rewritten o (fontOf k (f .table) (f .count) (charSize f) (f .height) (f .width) b) (f .kind) tl' ≡ s
-  kept-back p q tl' et =
+  -- written with the tail that the font had, it is what is written of the font
+  pub kept-again : (tl' : List ℕ) → tl' ≡ tailOf s f → rewritten o (fontOf k (f .table) (f .count) (charSize f) (f .height) (f .width) b) (f .kind) tl' ≡ rewritten s f (f .kind) (tailOf s f)
+  kept-again tl' et =
       let w = written-is k (f .table) (f .count) (fieldAt20 k (charSize f) b) (f .height) (f .width) in
       let ww = written-width k (f .table) (f .count) (fieldAt20 k (charSize f) b) (f .height) (f .width) (r .shape) in
       let z : charSize font ≡ charSize f = λ i. glyphBytes (w .2 i) (ww i) in
-      (λ i. fontBytes (f .kind) (w .3 i) (w .1 i) (z i) (w .2 i) (ww i) (evenly (z i) 0 (w .1 i)) (kept-glyphs i) (et i)) ∙ sym (self s f y e (evenly (charSize f) 0 (f .count)) p q)
+      λ i. fontBytes (f .kind) (w .3 i) (w .1 i) (z i) (w .2 i) (ww i) (evenly (z i) 0 (w .1 i)) (kept-glyphs i) (et i)
+
+  -- written back with the tail that it had, the font is the file that it was
+  pub kept-back : Bare (f .kind) → Plain s (f .kind) → (tl' : List ℕ) → tl' ≡ tailOf s f → rewritten o (fontOf k (f .table) (f .count) (charSize f) (f .height) (f .width) b) (f .kind) tl' ≡ s
+  kept-back p q tl' et = kept-again tl' et ∙ sym (self s f y e (evenly (charSize f) 0 (f .count)) p q)
 
 -- how many bytes it has, and that they are bytes
 module _ (s : List ℕ) (f : Font) (y : Bytes s) (e : checkOf s ≡ Sound f) (k : Kind) (tl : List ℕ) where
@@ -131,6 +135,10 @@ module _ (s : List ℕ) (f : Font) (y : Bytes s) (e : checkOf s ≡ Sound f) (v 
   -- it has the font's content
   pub rewritten-content : (m : Content) → HasContent s m → HasContent (rewritten s f k tl) m
   rewritten-content = kept-content s f y e v k (evenly (charSize f) 0 (f .count)) (glyphsIn s f) tl (rewritten s f k tl) rewritten-as in-place c
+
+  -- written with the tail that the font had, it is what is written of the font
+  pub rewritten-again : (tl' : List ℕ) → tl' ≡ tailOf s f → rewritten (rewritten s f k tl) (rewrittenFont s f k) (f .kind) tl' ≡ rewritten s f (f .kind) (tailOf s f)
+  rewritten-again = kept-again s f y e v k (evenly (charSize f) 0 (f .count)) (glyphsIn s f) tl (rewritten s f k tl) rewritten-as in-place c
 
   -- and, written back with the tail that it had, it is the file that it was
   pub rewritten-back : Bare (f .kind) → Plain s (f .kind) → (tl' : List ℕ) → tl' ≡ tailOf s f → rewritten (rewritten s f k tl) (rewrittenFont s f k) (f .kind) tl' ≡ s

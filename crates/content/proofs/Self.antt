@@ -1,18 +1,18 @@
--- A PSF1 or PSF2 file whose header has no extra bytes is what is written of its own parts.
+-- A PSF1 or PSF2 file whose header has no extra bytes is what is written of its own parts; a PSF1 file of any mode is so but for the mode.
 use mathlib.Core.Path.{_≡_, refl, sym, _∙_, ap, subst}
 use mathlib.Core.Logic.{_⊎_, inl, inr}
-use mathlib.Core.List.{List, [], _++_, append-assoc, append-nil}
+use mathlib.Core.List.{List, [], _∷_, _++_, append-assoc, append-nil}
 use Prim.Native.Nat.{ℕ, _+_, _*_}
 use native.Mathlib.Omega.{arith}
-use lib.ListN.{take, drop, take-append-drop}
+use lib.ListN.{getD, take, drop, take-append-drop}
 use lib.Seq.{drop-drop}
 use Rattle.base.specs.Meaning.{Bytes}
 use Rattle.header.specs.declared.Kind.{Kind}
 use Rattle.header.specs.declared.Kind.the-variants.{Psf1, Psf2, Vfont2}
 use Rattle.header.specs.declared.Font.{Font}
 use Rattle.header.specs.declared.Checked.the-variants.{Sound}
-use Rattle.header.specs.Meaning.{charSize, headerLen}
-use Rattle.header.specs.Reading.{headerBytes}
+use Rattle.header.specs.Meaning.{charSize, magicOf, headerLen}
+use Rattle.header.specs.Reading.{modeOf, headerBytes}
 use Rattle.header.specs.Bounds.{Even}
 use Rattle.header.proofs.Known.{source}
 use Rattle.layout.specs.Reading.{fontBytes, kindGlyphs, glyphsIn}
@@ -20,7 +20,8 @@ use Rattle.layout.proofs.Parts.{glyphs-of}
 use Rattle.stages.specs.Meaning.{tailOf}
 use Rattle.stages.specs.Reading.{checkOf}
 use Rattle.content.specs.Meaning.{Plain}
-use Rattle.content.proofs.Headers.{header-self}
+use Rattle.content.proofs.Magic.{magic-begins}
+use Rattle.content.proofs.Headers.{psf1-head, header-self}
 use Rattle.content.proofs.Source.{is-kind, says-font}
 
 -- three parts, end to end
@@ -73,3 +74,17 @@ module _ (s : List ℕ) (f : Font) (y : Bytes s) (e : checkOf s ≡ Sound f) (xs
   -- the file is its own parts, whatever the addresses, of which it has none
   pub self : Bare (f .kind) → Plain s (f .kind) → s ≡ fontBytes (f .kind) (f .table) (f .count) (charSize f) (f .height) (f .width) xs (glyphsIn s f) (tailOf s f)
   self b p = self-of (f .kind) refl b p
+
+  -- a PSF1 file's own parts written as PSF1: its bytes, with the mode that is written of its count and its table
+  pub psf1-self : f .kind ≡ Psf1 →
+      fontBytes Psf1 (f .table) (f .count) (charSize f) (f .height) (f .width) xs (glyphsIn s f) (tailOf s f) ≡ take 2 s ++ (modeOf (f .count) (f .table) ∷ drop 3 s)
+  unfolding fontBytes headerBytes
+  psf1-self q =
+      let r = source s f Psf1 q (says-font s f y e) in
+      let h = getD s 3 0 in
+      let hd = magicOf Psf1 ++ (getD s 2 0 ∷ h ∷ []) in
+      let eh : f .height ≡ h = sym (ap (λ (g : Font). g .height) (r .1 .0)) in
+      let p : s ≡ hd ++ [] ++ glyphsIn s f ++ tailOf s f = joined Psf1 hd 4 (sym (ap (λ (g : Font). g .bitmaps) (r .1 .0))) (is-kind s f y e Psf1 q)
+      (psf1-head s (r .1 .1) (magic-begins s Psf1 (r .0))) refl q in
+      (λ i. magicOf Psf1 ++ (modeOf (f .count) (f .table) ∷ eh i ∷ []) ++ [] ++ glyphsIn s f ++ tailOf s f)
+      ∙ sym (ap (λ (x : List ℕ). take 2 x ++ (modeOf (f .count) (f .table) ∷ drop 3 x)) p)

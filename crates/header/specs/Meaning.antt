@@ -1,7 +1,7 @@
 -- The three kinds of file: what each fixes, and what its header says (source document 000 for PSF1 and PSF2, 004 for vfont2).
 use Prim.Native.Nat.{ℕ, _+_, _*_, _/_, _%_}
 use mathlib.Core.List.{List, [], _∷_}
-use mathlib.Core.Bool.{Bool}
+use mathlib.Core.Bool.{Bool, _||_}
 use lib.Dec.{eqb}
 use Rattle.base.specs.Meaning.{pick, le32}
 use Rattle.header.specs.declared.Kind.{Kind}
@@ -30,9 +30,9 @@ entryLen Vfont2 = 18
 unfoldable pub psf1Count : ℕ → ℕ
 psf1Count mode = pick (eqb (mode % 2) 1) 512 256
 
--- "The table is there exactly when bit 1 of the mode is set."
+-- of bits 1 and 2 of the mode: "A table is there when either bit is set."
 unfoldable pub psf1Table : ℕ → Bool
-psf1Table mode = eqb (mode / 2 % 2) 1
+psf1Table mode = eqb (mode / 2 % 2) 1 || eqb (mode / 4 % 2) 1
 
 -- the file limit: "over 1,048,576 bytes" is too long
 abbrev pub limit : ℕ

@@ -46,7 +46,7 @@ use Rattle.content.proofs.Found.{glyph-found}
 use Rattle.content.proofs.Written.{evenly-place, written-width, written-plain, written-address, written-glyph}
 use Rattle.content.proofs.Same.{same-pixels}
 use Rattle.content.proofs.Self.{Bare}
-use Rattle.content.proofs.Kept.{rewritten, rewrittenFont, rewritten-length, rewritten-bytes, rewritten-as, rewritten-sound, rewritten-tail, rewritten-content, rewritten-back}
+use Rattle.content.proofs.Kept.{rewritten, rewrittenFont, rewritten-length, rewritten-bytes, rewritten-as, rewritten-sound, rewritten-tail, rewritten-content, rewritten-again, rewritten-back}
 use Rattle.conversion.specs.declared.Conversion.{Conversion}
 use Rattle.conversion.specs.declared.Conversion.the-variants.{Psf1ToPsf2, Psf2ToPsf1, Psf2ToVfont2, Vfont2ToPsf2}
 use Rattle.conversion.specs.declared.Prepared.{Prepared}
@@ -318,15 +318,31 @@ module _ (c d : Conversion) (s : List ℕ) (f : Font) (n : ℕ) (y : Bytes s) (e
       subst (λ (j : Kind). Readable (codingOf j) ds × (tableIn c (tailOf s f) ≡ encode (codingOf j) ds)) meets x in
       table-encodes d (tableIn c (tailOf s f)) ds (z .0) (z .1) ∙ ap (λ (j : Kind). encode (codingOf j) ds) same ∙ sym (from .1)
 
+  abbrev tail-again : List ℕ
+  tail-again = tableIn d (tailOf (rewritten s f (targetKind c) (tableIn c (tailOf s f))) (rewrittenFont s f (targetKind c)))
+
+  tail-same : tail-again ≡ tailOf s f
+  tail-same = ap (tableIn d) (out-tail c s f n y e) ∙ table-back
+
+  -- the second output is the first written anew, with the table that it was
+  twice-rewritten : outputOf d (outputOf c s f) g
+      ≡ rewritten (rewritten s f (targetKind c) (tableIn c (tailOf s f))) (rewrittenFont s f (targetKind c)) (f .kind) tail-again
+  twice-rewritten =
+      output-rewritten d out g k (output-bytes c s f n y e) q
+      ∙ λ i. rewritten (output-rewritten c s f n y e i) (the-font i) ((same ∙ sym (is-source c s f n y e)) i) (tableIn d (tailOf (output-rewritten c s f n y e i) (the-font i)))
+
+  -- which is what is written of the file's own parts
+  pub output-again : outputOf d (outputOf c s f) g ≡ rewritten s f (f .kind) (tailOf s f)
+  output-again =
+      twice-rewritten
+      ∙ rewritten-again s f y (is-sound c s f n y e) (ready-even c s f n y e) (targetKind c) (tableIn c (tailOf s f)) (shape c s f n y e) (carried c s f n y e) (short c s f n y e) tail-again tail-same
+
   pub output-back : Bare (sourceKind c) → Plain s (sourceKind c) → outputOf d (outputOf c s f) g ≡ s
   output-back b p =
       let src = is-source c s f n y e in
-      let o1 = rewritten s f (targetKind c) (tableIn c (tailOf s f)) in
-      let f1 = rewrittenFont s f (targetKind c) in
-      output-rewritten d out g k (output-bytes c s f n y e) q
-      ∙ (λ i. rewritten (output-rewritten c s f n y e i) (the-font i) ((same ∙ sym src) i) (tableIn d (tailOf (output-rewritten c s f n y e i) (the-font i))))
+      twice-rewritten
       ∙ rewritten-back s f y (is-sound c s f n y e) (ready-even c s f n y e) (targetKind c) (tableIn c (tailOf s f)) (shape c s f n y e) (carried c s f n y e) (short c s f n y e)
-      (subst Bare (sym src) b) (subst (Plain s) (sym src) p) (tableIn d (tailOf o1 f1)) (ap (tableIn d) (out-tail c s f n y e) ∙ table-back)
+      (subst Bare (sym src) b) (subst (Plain s) (sym src) p) tail-again tail-same
 
 -- what is kept twice is kept
 pub keeps-twice : (s o p : List ℕ) (f g : Font) (j k : Kind) → Keeps s f o j → checkOf o ≡ Sound g → Keeps o g p k → Keeps s f p k
@@ -442,13 +458,26 @@ module _ (c d : Conversion) (s xs ys : List ℕ) (n k : ℕ) (y : Bytes s) (e : 
       let b = means d (take n (convertedInto c s xs)) ys k (a .octets) q in
       (a .font, a .sound, keeps-twice s (take n (convertedInto c s xs)) _ (a .font) (b .font) (targetKind c) (targetKind d) (a .keeps) (b .sound) (b .keeps))
 
-  pub back-bytes : targetKind d ≡ sourceKind c → (sourceKind c ≡ Psf1) ⊎ (sourceKind c ≡ Psf2) → Plain s (sourceKind c) → take k (convertedInto d (take n (convertedInto c s xs)) ys) ≡ s
-  back-bytes same b p =
+  -- the second output is the first's, converted
+  back-is : (f g : Font) × (ready : preparedOf c s ≡ Ready f n) × (preparedOf d (outputOf c s f) ≡ Ready g k)
+      × (take k (convertedInto d (take n (convertedInto c s xs)) ys) ≡ outputOf d (outputOf c s f) g)
+  back-is =
       let w = readied c s xs n e in
       let f = w .0 in
       let o = outputOf c s f in
       let z : take n (convertedInto c s xs) ≡ o = output-is c s xs n y e in
       let q' : convertedOf d o (length ys) ≡ Written k = subst (λ (x : List ℕ). convertedOf d x (length ys) ≡ Written k) z q in
       let v = readied d o ys k q' in
-      ap (λ (x : List ℕ). take k (convertedInto d x ys)) z ∙ output-is d o ys k (output-bytes c s f n y (w .1)) q'
-      ∙ output-back c d s f n y (w .1) (v .0) k (v .1) same b p
+      (f, v .0, w .1, v .1, ap (λ (x : List ℕ). take k (convertedInto d x ys)) z ∙ output-is d o ys k (output-bytes c s f n y (w .1)) q')
+
+  pub back-bytes : targetKind d ≡ sourceKind c → (sourceKind c ≡ Psf1) ⊎ (sourceKind c ≡ Psf2) → Plain s (sourceKind c) → take k (convertedInto d (take n (convertedInto c s xs)) ys) ≡ s
+  back-bytes same b p =
+      let w = back-is in
+      w .4 ∙ output-back c d s (w .0) n y (w .2) (w .1) k (w .3) same b p
+
+  -- whatever its header, the file comes back as what is written of its own parts
+  pub back-again : targetKind d ≡ sourceKind c →
+      (f : Font) × (checkOf s ≡ Sound f) × (take k (convertedInto d (take n (convertedInto c s xs)) ys) ≡ rewritten s f (f .kind) (tailOf s f))
+  back-again same =
+      let w = back-is in
+      (w .0, is-sound c s (w .0) n y (w .2), w .4 ∙ output-again c d s (w .0) n y (w .2) (w .1) k (w .3) same)

@@ -1,11 +1,12 @@
--- What the public calls mean. To read first: Demands, and then the pages that it cites: Check, Tables, Bitmaps, Questions, Conversions, and
--- Vectors (the cases P1 to P14). The other files are the steps to them.
+-- What the public calls mean. To read first: Demands, and then the pages that it cites: Check, Tables, Bitmaps, Questions, Conversions;
+-- Modes (PSF1's modes) and Vectors (the cases P1 to P14). The other files are the steps to them.
 pub mod Demands
 pub mod Check
 pub mod Tables
 pub mod Bitmaps
 pub mod Questions
 pub mod Conversions
+pub mod Modes
 pub mod Vectors
 mod Exactly
 mod Deciding
@@ -16,3 +17,4 @@ mod WellFormed
 mod Located
 mod Converting
 mod Refusing
+mod Returning

@@ -352,6 +352,10 @@ no-above : (v : ℕ) → 0xFFFD < v → valueOf Ucs2 v → ⊥
 unfolding valueOf
 no-above v h w = omega (arith, h, w)
 
+-- descriptions of PSF1 have none
+pub none-above : (ds : List Desc) → Readable Ucs2 ds → (k : ℕ) → FirstValue Utf8 (λ v. 0xFFFD < v) (items ds) k → ⊥
+none-above ds o k u = no-above (u .value) (u .has) (held-value Ucs2 (u .item) (u .value) (u .holds) (item-of Ucs2 (u .before) (u .item) (u .after) (subst (OfCoding Ucs2) (u .same) o)))
+
 -- 19, by the conversion
 value-first : (c : Conversion) (ds : List Desc) (k : ℕ) → Readable (codingOf (sourceKind c)) ds →
     ValueAt c ds k ↔ FirstUncarried (codingOf (sourceKind c)) (codingOf (targetKind c)) (items ds) 0 k

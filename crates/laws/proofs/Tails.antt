@@ -1,11 +1,11 @@
 -- Rows 10 to 12 on a whole file, for a font that passed rows 1 to 9: from the check's answer to the laws of its tail.
-use mathlib.Core.Path.{_≡_, refl, sym, _∙_, ap}
+use mathlib.Core.Path.{_≡_, refl, sym, _∙_, ap, subst}
 use mathlib.Core.Logic.{_↔_, _⊎_, inl, inr}
 use mathlib.Core.Bool.{Bool, true, false}
-use mathlib.Core.List.{List}
-use Prim.Native.Nat.{ℕ, _+_}
+use mathlib.Core.List.{List, []}
+use Prim.Native.Nat.{ℕ, _+_, _≤_}
 use native.Mathlib.Omega.{arith}
-use lib.ListN.{length, length-drop}
+use lib.ListN.{length, take, length-drop, drop-of-length-le}
 use lib.Seq.{take-all}
 use Rattle.base.specs.Meaning.{Bytes}
 use Rattle.base.proofs.Parts.{bytes-drop, byte-at}
@@ -130,6 +130,35 @@ module _ (s : List ℕ) (y : Bytes s) (f : Font) (passed : throughEntries s ≡ 
       go (skipped n (given-at k h q)) = clash q (λ z. omega arith)
       go (skipped n (skipped-at m (given-at k h q))) = (k, ap saidPlace q, h)
       go (skipped n (skipped-at m (skipped-at l q))) = clash q (λ z. omega arith)
+
+  -- no bytes are no table, for a font has a glyph at least
+  no-table : IsTable c (f .count) [] → ⊥
+  no-table h =
+      let none : h .reading ≡ [] = meaning.one-reading c (h .reading) [] (h .values) tt (sym (h .same)) in
+      omega (arith, h .count, ap length none, placed s f (byte-at s y 3) passed .1)
+
+  -- where nothing follows the bitmaps, the table is cut
+  pub nothing-cut : length s ≡ f .end → checkSays (checkOf s) ≡ refuses 10 (length s)
+  nothing-cut l = go outcome
+    where
+      past : length s ≤ f .end
+      past = omega (arith, l)
+
+      none : tailOf s f ≡ []
+      none = drop-of-length-le s past
+
+      go : Outcome → checkSays (checkOf s) ≡ refuses 10 (length s)
+      go (inl h) = absurd (no-table (subst (IsTable c (f .count)) none h))
+      go (inr (inl h)) = ap checkSays (cut h)
+      go (inr (inr (inl (k, h)))) = absurd (omega (arith, h .1, ap length none))
+      go (inr (inr (inr (k, h)))) = absurd (omega (arith, h .0, ap length none))
+
+  -- no table ends where it begins
+  pub never-at-end : checkSays (checkOf s) ≡ refuses 12 (f .end) → ⊥
+  never-at-end e =
+      let r = trailing-exactly (f .end) .0 e in
+      let z : r .0 ≡ 0 = omega (arith, r .1) in
+      no-table (subst (λ (k : ℕ). IsTable c (f .count) (take k (tailOf s f))) z (r .2 .1))
 
   -- a tail that is cut is its own longest start
   whole-start : ofTail Completable s f → ofTail LongestStart s f (length (tailOf s f))

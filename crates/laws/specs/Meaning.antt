@@ -357,3 +357,17 @@ pub record Wrote (c : Conversion) (s : List ℕ) (n : ℕ) (xs out : List ℕ) :
   pub plain : Plain (take n out) (targetKind c)
   -- "Entry i has address i × c"
   pub addresses : targetKind c ≡ Vfont2 → (i : ℕ) → i < font .count → addressAt (take n out) (entryAt (headerLen Vfont2) i) ≡ i * charSize font
+
+-- a PSF1 file s, and o, what came back of it from PSF2: "Conversion still writes modes 0 to 3, so mode 4 or 5 comes back from PSF2 as 2 or 3
+-- with the same glyphs and mappings."
+pub record CameBack (s o : List ℕ) : Type 0 where
+  pub font : Font
+  pub sound : checkOf s ≡ Sound font
+  -- glyphs, metrics and mappings are kept
+  pub keeps : Keeps s font o Psf1
+  -- the bytes are the same exactly for modes 0 to 3
+  pub same : (o ≡ s) ↔ (getD s 2 0 ≤ 3)
+  -- and for 4 and 5 the same but for the mode byte, which is 2 less
+  pub modes : getD s 2 0 ≤ 5
+  pub mode : 4 ≤ getD s 2 0 → getD o 2 0 + 2 ≡ getD s 2 0
+  pub others : (length o ≡ length s) × ((i : ℕ) → (i ≡ 2 → ⊥) → getD o i 0 ≡ getD s i 0)

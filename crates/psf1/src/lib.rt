@@ -38,11 +38,14 @@ impl Psf1 {
         256
     }
 
-    // "exactly when bit 1 of the mode is set"
+    // of bits 1 and 2 of the mode: "A table is there when either bit is set."
     pub fn table_of(mode: u8) -> bool
         ensures { λ r. ⌜ r ≡ psf1Table mode ⌝ }
     {
-        mode / 2 % 2 == 1
+        if mode / 2 % 2 == 1 {
+            return true;
+        }
+        mode / 4 % 2 == 1
     }
 
     // What the header of a PSF1 file says: refusals 3, 4 and 7.

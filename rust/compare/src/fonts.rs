@@ -208,6 +208,38 @@ pub fn headers() -> Vec<Vec<u8>> {
     files
 }
 
+/// PSF1 fonts of modes 0 to 5, with and without a table: every start of it, bytes of it changed, bytes behind it, and
+/// a table for the other count of glyphs; and each that is sound as PSF2.
+pub fn modes() -> Vec<Vec<u8>> {
+    let mut files = Vec::new();
+    for mode in 0..=5 {
+        for n in [256, 512] {
+            let some = [(0, text(&[0x41], &[&[0x41, 0x30A]])), (255, text(&[0xC5, 0xFFFD], &[]))];
+            let table = units(&spread(n, &some));
+            let whole = psf1(mode, 1, 0x3C, &table);
+            let begin = whole.len() - table.len();
+            files.extend((begin..=whole.len()).map(|length| whole[..length].to_vec()));
+            for at in (begin..whole.len()).filter(|at| at % 16 < 2 || at - begin < 24) {
+                for b in [0x00, 0x41, 0xD8, 0xFE, 0xFF] {
+                    let mut file = whole.clone();
+                    file[at] = b;
+                    files.push(file);
+                }
+            }
+            for rest in
+                [&[0x00][..], &[0xFF], &[0xFF, 0xFF], &[0x41, 0x00], &[0xFE, 0xFF], &[0xFF; 512]]
+            {
+                files.push([&whole, rest].concat());
+            }
+            let mut other = vec![0; 32 + n + 2 * table.len()];
+            if let Ok(length) = second::psf1_to_psf2(&whole, &mut other) {
+                files.push(other[..length].to_vec());
+            }
+        }
+    }
+    files
+}
+
 /// One entry with every pair of edge metrics, its size right or nearly so.
 pub fn entries() -> Vec<Vec<u8>> {
     let mut files = Vec::new();

@@ -58,12 +58,13 @@ fn listed(series: u64, files: Vec<Vec<u8>>, tally: &mut Tally) {
     }
 }
 
-const SERIES: [Series; 8] = [
+const SERIES: [Series; 9] = [
     Series { name: "fonts", jobs: FONT_JOBS, run: |j, t| random(1, j, t, fonts::random_font) },
     Series { name: "tails", jobs: TAIL_JOBS, run: |j, t| random(2, j, t, fonts::random_tail) },
     Series { name: "junk", jobs: JUNK_JOBS, run: |j, t| random(3, j, t, fonts::junk) },
     Series { name: "headers", jobs: 1, run: |_, t| listed(4, fonts::headers(), t) },
     Series { name: "entries", jobs: 1, run: |_, t| listed(5, fonts::entries(), t) },
+    Series { name: "modes", jobs: 1, run: |_, t| listed(7, fonts::modes(), t) },
     Series {
         name: "large",
         jobs: LARGE,

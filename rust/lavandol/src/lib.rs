@@ -38,7 +38,8 @@ pub struct Font {
     /// The greatest height and width of a glyph.
     pub height: usize,
     pub width: usize,
-    /// Whether the font has a Unicode table.
+    /// Whether the font has a Unicode table. PSF1: where bit 1 or bit 2 of the mode is set,
+    /// modes 2 to 5.
     pub table: bool,
     /// Where the dispatch table begins (vfont2), else the bitmaps.
     pub entries: usize,
@@ -185,7 +186,8 @@ pub fn psf1_to_psf2(file: &[u8], out: &mut [u8]) -> Result<usize, Refusal> {
 
 /// PSF2 to PSF1, to the front of `out`: how many bytes were written. A refused call
 /// leaves `out` as it was; ROOM's place is the size needed. Refusals: 1 to 12, WRONG KIND,
-/// GLYPHS, VALUE, SIZE, ROOM.
+/// GLYPHS, VALUE, SIZE, ROOM. The mode written is 0 to 3: a PSF1 file of mode 4 or 5 comes
+/// back from PSF2 as mode 2 or 3, with its other bytes as they were.
 pub fn psf2_to_psf1(file: &[u8], out: &mut [u8]) -> Result<usize, Refusal> {
     number(unsafe { lav_psf2_to_psf1(file.as_ptr(), file.len(), out.as_mut_ptr(), out.len()) })
 }

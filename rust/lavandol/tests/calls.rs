@@ -136,6 +136,18 @@ fn conversions_write_the_samples() {
     assert_eq!(converted(psf2_to_psf1, &wide), LETTERS);
 }
 
+/// letters.psf1, of mode 2, as mode 4.
+#[test]
+fn bit_2_of_the_mode_marks_a_table_too() {
+    let mut four = LETTERS.to_vec();
+    four[2] = 4;
+    assert_eq!(check(&four), check(LETTERS));
+    assert_eq!(find_sequence(&four, &[0x41, 0x30A]), Ok(0xC5));
+    let wide = converted(psf1_to_psf2, &four);
+    assert_eq!(converted(psf2_to_psf1, &wide), LETTERS);
+    assert_eq!(refusal(check(&four[..2052])), (Reason::TableCut, 2052));
+}
+
 #[test]
 fn questions_are_refused() {
     for ask in [refusal(glyph(PSF2, 2)), refusal(row(PSF2, 0, 2)), refusal(pixel(PSF2, 0, 0, 3))] {

@@ -170,12 +170,14 @@ fn psf1(file: &[u8]) -> Result<Font, Refusal> {
         return refuse(SHAPE, 3);
     }
     let count = if mode & 1 != 0 { 512 } else { 256 };
+    // "A table is there when either bit is set": bit 1 or bit 2
+    let has_table = mode & 0b010 != 0 || mode & 0b100 != 0;
     let font = Font {
         kind: Kind::Psf1,
         count,
         height: size as usize,
         width: 8,
-        has_table: mode & 2 != 0,
+        has_table,
         header_end: 4,
         bitmaps_at: 4,
         table_at: 4 + count * size as usize,

@@ -382,10 +382,57 @@ fn psf1_values() {
     assert_eq!(convert(psf1_to_psf2, &file), Err(no(VALUE, table_at + 6)));
     file[2] = 6;
     assert_eq!(check(&file).map(|_| ()), Err(no(VERSION, 2)));
-    file[2] = 4;
-    assert_eq!(check(&file).map(|_| ()), Err(no(TRAILING, table_at)));
     file.truncate(table_at);
+    file[2] = 0;
     let psf2 = convert(psf1_to_psf2, &file).unwrap();
     assert_eq!(list(&psf2), "psf2 256 1 8 bare\n");
     assert_eq!(convert(psf2_to_psf1, &psf2).unwrap()[2], 0);
+}
+
+/// Bits 1 and 2 of the mode: a table is there when either bit is set.
+#[test]
+fn psf1_modes() {
+    for mode in 0..=7u8 {
+        let n = if mode & 1 == 1 { 512 } else { 256 };
+        let mut file = vec![0x36, 0x04, mode, 1];
+        file.resize(4 + n, 0x81);
+        let table_at = file.len();
+        let judged = |file: &[u8]| check(file).map(|font| font.has_table);
+        if mode > 5 {
+            assert_eq!(judged(&file), Err(no(VERSION, 2)));
+            continue;
+        }
+        let marked = mode > 1;
+        let bare = file.clone();
+        if marked {
+            assert_eq!(judged(&file), Err(no(TABLE_CUT, table_at)));
+        } else {
+            assert_eq!(judged(&file), Ok(false));
+        }
+        file.extend([0xFE, 0xFF, 0xFF, 0xFF]);
+        assert_eq!(
+            judged(&file),
+            Err(if marked { no(TABLE_BAD, table_at + 3) } else { no(TRAILING, table_at) })
+        );
+        file.truncate(table_at);
+        // the last glyph: C5 and sequence 41 30A
+        file.resize(table_at + 2 * (n - 1), 0xFF);
+        file.extend([0xC5, 0x00, 0xFE, 0xFF, 0x41, 0x00, 0x0A, 0x03, 0xFF, 0xFF]);
+        let length = file.len();
+        file.push(0xFF);
+        assert_eq!(judged(&file), Err(no(TRAILING, if marked { length } else { table_at })));
+        file.truncate(length);
+        if marked {
+            assert_eq!(judged(&file), Ok(true));
+            assert_eq!(find_value(&file, 0xC5), Ok(n - 1));
+            assert_eq!(find_sequence(&file, &[0x41, 0x30A]), Ok(n - 1));
+        }
+        // through PSF2 and back: modes 0 to 3 are written, and nothing else is changed
+        let mut expected = if marked { file } else { bare };
+        let psf2 = convert(psf1_to_psf2, &expected).unwrap();
+        let back = convert(psf2_to_psf1, &psf2).unwrap();
+        assert_eq!(list(&psf2), list(&expected).replace("psf1", "psf2"));
+        expected[2] = [0, 1, 2, 3, 2, 3][mode as usize];
+        assert_eq!(back, expected);
+    }
 }

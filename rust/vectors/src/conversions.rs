@@ -54,7 +54,7 @@ fn worked_font(s: &mut Script) {
 /// A PSF1 font: 256 or 512 glyphs of one row, a few descriptions.
 fn units_font(mode: u8, some: &[(usize, Text)]) -> Vec<u8> {
     let n = if mode & 1 == 1 { 512 } else { 256 };
-    let table = if mode & 2 == 2 { units(&spread(n, some)) } else { Vec::new() };
+    let table = if mode_has_table(mode) { units(&spread(n, some)) } else { Vec::new() };
     let mut file = psf1(mode, 1, 0x18, &table);
     file[4..8].copy_from_slice(&[0x81, 0x42, 0x24, 0xFF]);
     file[3 + n] = 0x7E;
@@ -166,7 +166,7 @@ fn psf2_to_psf1(s: &mut Script) {
 }
 
 fn psf1_to_psf2(s: &mut Script) {
-    s.label("psf1 to psf2: modes 0 to 5, the same way back");
+    s.label("psf1 to psf2: modes 0 to 5, and back as modes 0 to 3");
     for mode in 0..=5 {
         let some = [(0, text(&[0, 0x7F, 0x80], &[])), (255, text(&[0x7FF], &[&[0x800, 0xFFFD]]))];
         let file = units_font(mode, &some);

@@ -19,6 +19,7 @@ pub fn script() -> Vec<u8> {
     unit_tables(&mut s);
     cut_tables(&mut s);
     trailing(&mut s);
+    bit_two(&mut s);
     lookups(&mut s);
     counts(&mut s);
     no_table(&mut s);
@@ -943,8 +944,42 @@ fn trailing(s: &mut Script) {
         s.file(&vfont2(32, &[entry(0, 1, 0, 0, 1)], &[0x80], None));
         s.append(rest);
         s.check();
-        for mode in [0, 4, 5] {
+        for mode in [0, 1] {
             s.file(&psf1(mode, 1, 0x80, rest));
+            s.check();
+        }
+    }
+}
+
+/// PSF1 fonts whose mode has bit 2, and so a table.
+fn bit_two(s: &mut Script) {
+    for mode in [4, 5] {
+        let n = if mode == 5 { 512 } else { 256 };
+        s.label(&format!("psf1 of mode {mode}: no table, and bytes that are none"));
+        for rest in [&[][..], &[0x00], &[0xFF], &[0x41, 0xFF], &[0xFE, 0xFF, 0xFF], &[0xFF; 512]] {
+            s.file(&psf1(mode, 1, 0x80, rest));
+            s.check();
+            s.value(0x41);
+        }
+        s.label(&format!("psf1 of mode {mode}: its table, cut, bad and with bytes behind it"));
+        let some = [(0, text(&[0x41], &[])), (n - 1, text(&[0xC5], &[&[0x41, 0x30A]]))];
+        let whole = psf1(mode, 1, 0x80, &units(&spread(n, &some)));
+        s.file(&whole);
+        s.check();
+        s.walk_all(0..2);
+        s.walk_all(n - 1..n + 1);
+        s.values(&[0x41, 0xC5, 0x30A]);
+        s.sequence(&[0x41, 0x30A]);
+        for mark in [0xFE, 0xFF] {
+            s.set(whole.len() - 6, mark);
+            s.set(whole.len() - 5, 0xFF);
+            s.check();
+        }
+        s.file(&whole);
+        s.append(&[0x00]);
+        s.check();
+        for length in [whole.len() - 1, whole.len() - 2, whole.len() - 8, 5 + n, 4 + n] {
+            s.trim(length);
             s.check();
         }
     }
@@ -1151,7 +1186,7 @@ fn counts(s: &mut Script) {
 fn no_table(s: &mut Script) {
     let fonts = [
         ("psf1", psf1(0, 1, 0x80, &[])),
-        ("psf1 of mode 5", psf1(5, 1, 0x80, &[])),
+        ("psf1 of mode 1", psf1(1, 1, 0x80, &[])),
         ("psf2", psf2(2, 1, 8, &[1, 2], None)),
         ("vfont2", vfont2(32, &[entry(0, 1, 0, 0, 8), NONE], &[0x80], None)),
     ];

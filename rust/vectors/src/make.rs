@@ -104,6 +104,11 @@ pub fn psf1(mode: u8, size: u8, bitmap: u8, table: &[u8]) -> Vec<u8> {
     file
 }
 
+/// Whether a PSF1 font of a mode has a table: bit 1 or bit 2 is set.
+pub fn mode_has_table(mode: u8) -> bool {
+    mode & 6 != 0
+}
+
 /// A PSF2 font with header size 32.
 pub fn psf2(
     n: usize,
@@ -230,7 +235,7 @@ pub fn random_psf1(random: &mut Random) -> Vec<u8> {
         let g = random.of(&[0, 1, 2, 254, 255, n - 2, n - 1, 77]);
         texts[g] = random_text(random, true);
     }
-    let table = if mode & 2 == 2 { units(&texts) } else { Vec::new() };
+    let table = if mode_has_table(mode) { units(&texts) } else { Vec::new() };
     let size = 1 + random.below(3) as u8;
     let bitmap = random.byte();
     let mut file = psf1(mode, size, bitmap, &table);

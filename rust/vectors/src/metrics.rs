@@ -60,7 +60,7 @@ fn psf1_fonts(s: &mut Script) {
     for (mode, size) in [(0, 1), (1, 16), (2, 255), (3, 8), (5, 255)] {
         s.label(&format!("metrics, psf1 of mode {mode} and size {size}"));
         let count = if mode & 1 == 1 { 512 } else { 256 };
-        let table = if mode & 2 == 2 { vec![0xFF; 2 * count] } else { Vec::new() };
+        let table = if mode_has_table(mode) { vec![0xFF; 2 * count] } else { Vec::new() };
         s.file(&psf1(mode, size, 0x18, &table));
         s.check();
         let right = plain(size as i16, 8);
