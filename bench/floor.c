@@ -69,7 +69,7 @@ __attribute__((noinline)) Font check(const uint8_t *b, size_t n) {
         r.count = b[2] & 1 ? 512 : 256;
         r.size = b[3];
         r.bitmaps = 4;
-        r.has_table = !!(b[2] & 2);
+        r.has_table = !!(b[2] & 6);
     } else {
         if (n < 32) REFUSE(3, n);
         if (le32(b + 4)) REFUSE(4, 4);

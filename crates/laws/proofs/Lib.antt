@@ -17,4 +17,5 @@ mod WellFormed
 mod Located
 mod Converting
 mod Refusing
+mod Marked
 mod Returning
