@@ -17,7 +17,7 @@ use Rattle.header.specs.Meaning.{limit, glyphBytes, charSize, psf1Count, psf1Ta
 use Rattle.header.specs.Reading.{modeOf}
 use Rattle.header.specs.Bounds.{Even}
 use Rattle.header.proofs.Known.{source}
-use Rattle.layout.specs.Reading.{evenly, fontBytes, glyphsIn}
+use Rattle.layout.specs.Reading.{evenly}
 use Rattle.stages.specs.Meaning.{codingOf, tailOf}
 use Rattle.stages.specs.Reading.{checkOf}
 use Rattle.content.specs.Meaning.{Describes, Content, HasContent}
@@ -31,7 +31,7 @@ use Rattle.conversion.specs.declared.Conversion.the-variants.{Psf1ToPsf2, Psf2T
 use Rattle.conversion.specs.Meaning.{frontLen}
 use Rattle.convert.specs.declared.Converted.the-variants.{Wrote as Written}
 use Rattle.convert.specs.Reading.{convertedOf, convertedInto}
-use Rattle.laws.specs.Meaning.{GlyphsAt, needed, Keeps, Wrote, CameBack}
+use Rattle.laws.specs.Meaning.{GlyphsAt, needed, Wrote, CameBack}
 use Rattle.laws.proofs.Asking.{read-as}
 use Rattle.laws.proofs.Converting.{means, back-keeps, back-bytes, back-again}
 use Rattle.laws.proofs.Refusing.{none-above, wrote-given}
