@@ -286,6 +286,10 @@ module _ (c : Conversion) (s : List ℕ) (f : Font) (n : ℕ) (y : Bytes s) (e :
   pub output-bytes : Bytes (outputOf c s f)
   output-bytes = subst Bytes (sym output-rewritten) out-bytes
 
+-- a file is one font
+pub one-font : (x : List ℕ) (a b : Font) → checkOf x ≡ Sound a → checkOf x ≡ Sound b → a ≡ b
+one-font x a b p r = let z : Sound a ≡ Sound b = sym p ∙ r in cc
+
 -- written back as the kind that it was, it is the file that it was
 module _ (c d : Conversion) (s : List ℕ) (f : Font) (n : ℕ) (y : Bytes s) (e : preparedOf c s ≡ Ready f n) (g : Font) (k : ℕ) (q : preparedOf d (outputOf c s f) ≡ Ready g k)
     (same : targetKind d ≡ sourceKind c) where
@@ -295,11 +299,8 @@ module _ (c d : Conversion) (s : List ℕ) (f : Font) (n : ℕ) (y : Bytes s) (e
   out-font : checkOf (outputOf c s f) ≡ Sound (rewrittenFont s f (targetKind c))
   out-font = ap checkOf (output-rewritten c s f n y e) ∙ out-sound c s f n y e
 
-  one-font : (a b : Font) → checkOf (outputOf c s f) ≡ Sound a → checkOf (outputOf c s f) ≡ Sound b → a ≡ b
-  one-font a b p r = let z : Sound a ≡ Sound b = sym p ∙ r in cc
-
   the-font : g ≡ rewrittenFont s f (targetKind c)
-  the-font = one-font g (rewrittenFont s f (targetKind c)) (is-sound d out g k (output-bytes c s f n y e) q) out-font
+  the-font = one-font out g (rewrittenFont s f (targetKind c)) (is-sound d out g k (output-bytes c s f n y e) q) out-font
 
   -- the second step began where the first ended
   meets : targetKind c ≡ sourceKind d

@@ -33,7 +33,7 @@ use Rattle.convert.specs.declared.Converted.the-variants.{Wrote as Written}
 use Rattle.convert.specs.Reading.{convertedOf, convertedInto}
 use Rattle.laws.specs.Meaning.{GlyphsAt, needed, Wrote, CameBack}
 use Rattle.laws.proofs.Asking.{read-as}
-use Rattle.laws.proofs.Converting.{means, back-keeps, back-bytes, back-again}
+use Rattle.laws.proofs.Converting.{one-font, means, back-keeps, back-bytes, back-again}
 use Rattle.laws.proofs.Refusing.{none-above, wrote-given}
 
 -- the third byte of a list changed
@@ -67,10 +67,6 @@ module _ (s : List ℕ) (f : Font) (y : Bytes s) (e : checkOf s ≡ Sound f) (q 
       let b : f .bitmaps ≡ 4 = sym (ap (λ (g : Font). g .bitmaps) (r .1 .0)) in
       let z : f .count * f .size ≡ f .count * charSize f = ap (λ (x : ℕ). f .count * x) (v .1) in
       omega (arith, length-drop (f .end) s, is-placed s f y e .7, ap length t, v .0, b, z)
-
--- two fonts of one file are one
-one-font : (x : List ℕ) (a b : Font) → checkOf x ≡ Sound a → checkOf x ≡ Sound b → a ≡ b
-one-font x a b p r = let z : Sound a ≡ Sound b = sym p ∙ r in cc
 
 -- the descriptions of a content are the reading of the file
 described-in : (x : List ℕ) (a : Font) → Bytes x → checkOf x ≡ Sound a → (m : Content) → HasContent x m →
