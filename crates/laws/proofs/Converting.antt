@@ -348,12 +348,8 @@ module _ (c d : Conversion) (s : List ℕ) (f : Font) (n : ℕ) (y : Bytes s) (e
 -- what is kept twice is kept
 pub keeps-twice : (s o p : List ℕ) (f g : Font) (j k : Kind) → Keeps s f o j → checkOf o ≡ Sound g → Keeps o g p k → Keeps s f p k
 keeps-twice s o p f g j k a e b =
-    let same : g ≡ a .font = sound-same g (a .font) (sym e ∙ a .sound) in
-    join (subst (λ (x : Font). Keeps o x p k) same b)
+    join (subst (λ (x : Font). Keeps o x p k) (one-font o g (a .font) e (a .sound)) b)
   where
-    sound-same : (x z : Font) → Sound x ≡ Sound z → x ≡ z
-    sound-same x z q = cc
-
     join : Keeps o (a .font) p k → Keeps s f p k
     join b = record {
       font = b .font;
@@ -460,7 +456,7 @@ module _ (c d : Conversion) (s xs ys : List ℕ) (n k : ℕ) (y : Bytes s) (e : 
       (a .font, a .sound, keeps-twice s (take n (convertedInto c s xs)) _ (a .font) (b .font) (targetKind c) (targetKind d) (a .keeps) (b .sound) (b .keeps))
 
   -- the second output is the first's, converted
-  back-is : (f g : Font) × (ready : preparedOf c s ≡ Ready f n) × (preparedOf d (outputOf c s f) ≡ Ready g k)
+  back-is : (f g : Font) × (preparedOf c s ≡ Ready f n) × (preparedOf d (outputOf c s f) ≡ Ready g k)
       × (take k (convertedInto d (take n (convertedInto c s xs)) ys) ≡ outputOf d (outputOf c s f) g)
   back-is =
       let w = readied c s xs n e in

@@ -13,7 +13,7 @@ use Rattle.header.specs.declared.Font.{Font}
 use Rattle.stages.specs.Reading.{checkOf}
 use Rattle.conversion.specs.declared.Conversion.the-variants.{Psf1ToPsf2, Psf2ToPsf1}
 use Rattle.convert.specs.Reading.{convertedOf, convertedInto}
-use Rattle.laws.specs.Meaning.{gives, refuses, checkSays, convertedSays, RowsTo9, CameBack}
+use Rattle.laws.specs.Meaning.{gives, refuses, checkSays, convertedSays, RowsTo9, RoundTrip}
 use Rattle.laws.proofs.Check.{passed-9}
 use Rattle.laws.proofs.Marked.{mode-low, marked-exactly, marked-from-two}
 use Rattle.laws.proofs.Tails.{nothing-cut, never-at-end}
@@ -40,10 +40,10 @@ module _ (s : List ℕ) (y : Bytes s) (f : Font) (passes : RowsTo9 s (gives f)) 
 
 -- a PSF1 file that was converted to PSF2, into a buffer xs
 module _ (s xs : List ℕ) (n : ℕ) (y : Bytes s) (there : convertedSays (convertedOf Psf1ToPsf2 s (length xs)) ≡ gives n) where
-  -- comes back where there is room for the bytes that it had
-  pub returns : (m : ℕ) → length s ≤ m → convertedSays (convertedOf Psf2ToPsf1 (take n (convertedInto Psf1ToPsf2 s xs)) m) ≡ gives (length s)
-  returns m l = ap convertedSays (inner.returns s xs n y (wrote-said _ n there) m l)
+  -- the way back is accepted where there is room for as many bytes as it had
+  pub back-accepted : (m : ℕ) → length s ≤ m → convertedSays (convertedOf Psf2ToPsf1 (take n (convertedInto Psf1ToPsf2 s xs)) m) ≡ gives (length s)
+  back-accepted m l = ap convertedSays (inner.back-accepted s xs n y (wrote-said _ n there) m l)
 
-  -- with all that it had, and with its bytes but for a mode of 4 or 5, which is 2 less
-  pub comes-back : (ys : List ℕ) → length s ≤ length ys → CameBack s (take (length s) (convertedInto Psf2ToPsf1 (take n (convertedInto Psf1ToPsf2 s xs)) ys))
-  comes-back = inner.comes-back s xs n y (wrote-said _ n there)
+  -- and it comes back with all that it had, and with its bytes but for a mode of 4 or 5, which is 2 less
+  pub round-trip : (ys : List ℕ) → length s ≤ length ys → RoundTrip s (take (length s) (convertedInto Psf2ToPsf1 (take n (convertedInto Psf1ToPsf2 s xs)) ys))
+  round-trip = inner.round-trip s xs n y (wrote-said _ n there)

@@ -31,7 +31,7 @@ use Rattle.conversion.specs.declared.Conversion.the-variants.{Psf1ToPsf2, Psf2T
 use Rattle.conversion.specs.Meaning.{frontLen}
 use Rattle.convert.specs.declared.Converted.the-variants.{Wrote as Written}
 use Rattle.convert.specs.Reading.{convertedOf, convertedInto}
-use Rattle.laws.specs.Meaning.{GlyphsAt, needed, Wrote, CameBack}
+use Rattle.laws.specs.Meaning.{GlyphsAt, needed, Wrote, RoundTrip}
 use Rattle.laws.proofs.Asking.{read-as}
 use Rattle.laws.proofs.Converting.{one-font, means, back-keeps, back-bytes, back-again}
 use Rattle.laws.proofs.Refusing.{none-above, wrote-given}
@@ -126,8 +126,8 @@ module _ (s xs : List ℕ) (n : ℕ) (y : Bytes s) (there : Wrote Psf1ToPsf2 s n
 
 module _ (s xs : List ℕ) (n : ℕ) (y : Bytes s) (e : convertedOf Psf1ToPsf2 s (length xs) ≡ Written n) where
   -- the way back is refused for want of room alone
-  pub returns : (m : ℕ) → length s ≤ m → convertedOf Psf2ToPsf1 (take n (convertedInto Psf1ToPsf2 s xs)) m ≡ Written (length s)
-  returns = room-enough s xs n y (means Psf1ToPsf2 s xs n y e)
+  pub back-accepted : (m : ℕ) → length s ≤ m → convertedOf Psf2ToPsf1 (take n (convertedInto Psf1ToPsf2 s xs)) m ≡ Written (length s)
+  back-accepted = room-enough s xs n y (means Psf1ToPsf2 s xs n y e)
 
   module _ (ys : List ℕ) (l : length s ≤ length ys) where
     abbrev back : List ℕ
@@ -137,18 +137,18 @@ module _ (s xs : List ℕ) (n : ℕ) (y : Bytes s) (e : convertedOf Psf1ToPsf2 s
     changed : (f : Font) × (f .kind ≡ Psf1) × (checkOf s ≡ Sound f) × (back ≡ take 2 s ++ (modeOf (f .count) (f .table) ∷ drop 3 s))
     changed =
         let w = means Psf1ToPsf2 s xs n y e in
-        let a = back-again Psf1ToPsf2 Psf2ToPsf1 s xs ys n (length s) y e (returns (length ys) l) refl in
+        let a = back-again Psf1ToPsf2 Psf2ToPsf1 s xs ys n (length s) y e (back-accepted (length ys) l) refl in
         let f = a .0 in
         let q : f .kind ≡ Psf1 = ap (λ (x : Font). x .kind) (one-font s f (w .font) (a .1) (w .sound)) ∙ w .kind in
         (f, q, a .1, a .2 ∙ ap (λ (k : Kind). rewritten s f k (tailOf s f)) q ∙ psf1-self s f y (a .1) (evenly (charSize f) 0 (f .count)) q)
 
-    pub comes-back : CameBack s (take (length s) (convertedInto Psf2ToPsf1 (take n (convertedInto Psf1ToPsf2 s xs)) ys))
-    comes-back =
+    pub round-trip : RoundTrip s (take (length s) (convertedInto Psf2ToPsf1 (take n (convertedInto Psf1ToPsf2 s xs)) ys))
+    round-trip =
         let d = changed in
         let f = d .0 in
         let v = modeOf (f .count) (f .table) in
         let r = source s f Psf1 (d .1) (says-font s f y (d .2)) .1 in
-        let k = back-keeps Psf1ToPsf2 Psf2ToPsf1 s xs ys n (length s) y e (returns (length ys) l) in
+        let k = back-keeps Psf1ToPsf2 Psf2ToPsf1 s xs ys n (length s) y e (back-accepted (length ys) l) in
         let p = put s v (r .1) in
         let m : v ≡ modeOf (psf1Count (getD s 2 0)) (psf1Table (getD s 2 0)) = ap (λ (x : Font). modeOf (x .count) (x .table)) (sym (r .0)) in
         let o = take n (convertedInto Psf1ToPsf2 s xs) in
@@ -157,8 +157,8 @@ module _ (s xs : List ℕ) (n : ℕ) (y : Bytes s) (e : convertedOf Psf1ToPsf2 s
           sound = k .1;
           keeps = k .2;
           same = (
-            λ z. subst (λ (x : List ℕ). getD x 2 0 ≤ 3) z (means Psf2ToPsf1 o ys (length s) (means Psf1ToPsf2 s xs n y e .octets) (returns (length ys) l) .plain),
-            back-bytes Psf1ToPsf2 Psf2ToPsf1 s xs ys n (length s) y e (returns (length ys) l) refl (inl refl),
+            λ z. subst (λ (x : List ℕ). getD x 2 0 ≤ 3) z (means Psf2ToPsf1 o ys (length s) (means Psf1ToPsf2 s xs n y e .octets) (back-accepted (length ys) l) .plain),
+            back-bytes Psf1ToPsf2 Psf2ToPsf1 s xs ys n (length s) y e (back-accepted (length ys) l) refl (inl refl),
           );
           modes = r .2;
           mode = λ a. ap (λ (x : List ℕ). getD x 2 0 + 2) (d .3) ∙ ap (λ (x : ℕ). x + 2) (p .1 ∙ m) ∙ mode-less (getD s 2 0) a (r .2);

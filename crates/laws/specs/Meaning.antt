@@ -360,7 +360,7 @@ pub record Wrote (c : Conversion) (s : List ℕ) (n : ℕ) (xs out : List ℕ) :
 
 -- a PSF1 file s, and o, what came back of it from PSF2: "Conversion still writes modes 0 to 3, so mode 4 or 5 comes back from PSF2 as 2 or 3
 -- with the same glyphs and mappings."
-pub record CameBack (s o : List ℕ) : Type 0 where
+pub record RoundTrip (s o : List ℕ) : Type 0 where
   pub font : Font
   pub sound : checkOf s ≡ Sound font
   -- glyphs, metrics and mappings are kept
