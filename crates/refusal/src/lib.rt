@@ -1,8 +1,8 @@
-// Inner layer: every refusal of document 01: why, and where. Definitions: specs/Meaning.antt.
+// Inner layer: every refusal of documents 01 and 02: why, and where. Definitions: specs/Meaning.antt.
 ghost use mathlib.Core.Path.{_≡_};
 ghost use Rattle.refusal.specs.Meaning.{numberOf, refusal};
 
-// Why a call is refused: the rows of document 01's table.
+// Why a call is refused: the rows of document 01's table, then those that document 02 adds.
 pub enum Reason {
     TooLong,
     Kind,
@@ -25,9 +25,12 @@ pub enum Reason {
     Value,
     Size,
     Room,
+    Late,
+    Line,
 }
 
-// A refusal: the reason, and its place: an offset in the file, 0 where there is nothing to point at, the size needed (ROOM).
+// A refusal: the reason, and its place: an offset in the file, 0 where there is nothing to point at, the size needed (ROOM), a line's
+// number (LINE).
 pub struct Refusal {
     pub reason: Reason,
     pub place: usize,
@@ -43,7 +46,7 @@ pub fn refuse(reason: Reason, place: usize) -> Refusal
     }
 }
 
-// Document 01's number of a reason.
+// The number of a reason.
 pub fn number(reason: Reason) -> u32
     ensures { λ n. ⌜ n ≡ numberOf reason ⌝ }
 {
@@ -69,5 +72,7 @@ pub fn number(reason: Reason) -> u32
         Reason::Value => 19,
         Reason::Size => 20,
         Reason::Room => 21,
+        Reason::Late => 22,
+        Reason::Line => 23,
     }
 }
