@@ -1,0 +1,2 @@
+-- Laws of unfinished bytes.
+pub mod Holding

@@ -1,0 +1,2 @@
+-- Unfinished bytes.
+pub mod Meaning
