@@ -6,12 +6,15 @@ use lib.ListN.{length}
 use Rattle.token.proofs.Sized.{Sized}
 use Rattle.token.proofs.Coded.{Coded}
 use Rattle.token.proofs.Stopping.{Stopping}
+use Rattle.token.proofs.Growing.{Growing}
 use Rattle.utf8.proofs.Sizes as utf8-sizes
 use Rattle.utf8.proofs.Coding.{coded-utf8}
 use Rattle.utf8.proofs.Stops.{stopping-utf8}
+use Rattle.utf8.proofs.Growing.{growing-utf8}
 use Rattle.ucs2.proofs.Sizes as ucs2-sizes
 use Rattle.ucs2.proofs.Coding.{coded-ucs2}
 use Rattle.ucs2.proofs.Stops.{stopping-ucs2}
+use Rattle.ucs2.proofs.Growing.{growing-ucs2}
 use Rattle.coding.specs.declared.Coding.{Coding}
 use Rattle.coding.specs.declared.Coding.the-variants.{Utf8, Ucs2}
 use Rattle.coding.specs.Reading.{readToken, markLen}
@@ -28,6 +31,12 @@ pub stopping : (c : Coding) → Stopping (readToken c) (markLen c) (valueOf c) (
 unfolding readToken markLen valueOf valueBytes startBytes endBytes
 stopping Utf8 = stopping-utf8
 stopping Ucs2 = stopping-ucs2
+
+-- a token and the bytes behind it
+pub growing : (c : Coding) → Growing (readToken c)
+unfolding readToken
+growing Utf8 = growing-utf8
+growing Ucs2 = growing-ucs2
 
 -- a token is no longer than the bytes that it is read from
 pub token-sized : (c : Coding) (s : List ℕ) → Sized (markLen c) (length s) (readToken c s)

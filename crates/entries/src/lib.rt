@@ -94,7 +94,7 @@ pub fn cols_at(file: &[u8], at: usize) -> usize
 }
 
 // The larger of two.
-fn larger_of(a: usize, b: usize) -> usize
+pub fn larger_of(a: usize, b: usize) -> usize
     ensures { λ r. ⌜ r ≡ larger a b ⌝ }
 {
     if a < b {

@@ -2,3 +2,4 @@
 pub mod Sized
 pub mod Coded
 pub mod Stopping
+pub mod Growing

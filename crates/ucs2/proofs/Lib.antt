@@ -4,3 +4,4 @@ pub mod Pairs
 pub mod Sizes
 pub mod Coding
 pub mod Stops
+pub mod Growing

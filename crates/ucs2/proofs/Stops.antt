@@ -13,14 +13,14 @@ use Rattle.token.proofs.Stopping.{Begun, Stopping}
 use Rattle.ucs2.specs.Reading.{readUcs2, word, isWord}
 use Rattle.ucs2.specs.Meaning.{wordBytes, Word}
 
-abbrev NoStop : Token → Type 0
+abbrev pub NoStop : Token → Type 0
 NoStop (Value v l) = Unit {0}
 NoStop Start = Unit {0}
 NoStop End = Unit {0}
 NoStop Cut = ⊥
 NoStop (Bad k) = ⊥
 
-word-goes : (w : ℕ) → NoStop (word w)
+pub word-goes : (w : ℕ) → NoStop (word w)
 word-goes w = by-test NoStop (isWord w) _ _ (λ _. tt) (λ _. by-test NoStop (eqb w 0xFFFE) _ _ (λ _. tt) (λ _. tt))
 
 begun-one : (a : ℕ) → a < 256 → Begun Word wordBytes (a ∷ [])

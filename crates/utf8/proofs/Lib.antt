@@ -8,3 +8,4 @@ pub mod Writing
 pub mod Reading
 pub mod Coding
 pub mod Stops
+pub mod Growing

@@ -1,0 +1,2 @@
+-- Entries fed part by part.
+pub mod Reading
