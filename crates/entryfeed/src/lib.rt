@@ -74,7 +74,7 @@ fn from_entry(size: usize, at: usize, x: Sums, part: &[u8], start: usize) -> Fed
 // A part of the dispatch table, whose first byte stands at `at` in the file, behind the bytes held. Asks for less than an entry held, and for
 // a part within the file limit: the loader has tested both.
 pub fn feed(size: usize, at: usize, h: Held, x: Sums, part: &[u8]) -> Fed
-    requires { ⌜ (h .len < 18) × (h .len ≤ at) × (at + length (now part) ≤ 1048576) ⌝ }
+    requires { ⌜ (h .len < 18) × (h .len < at) × (at + length (now part) ≤ 1048576) ⌝ }
     ensures { λ r. ⌜ r ≡ entriesFed size at h x (now (part .entry)) ⌝ }
 {
     let k = h.len;
