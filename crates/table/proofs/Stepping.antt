@@ -75,7 +75,7 @@ module _ (c : Coding) where
   past-end s i h = (sym (ap (λ (x : List ℕ). stepOf (markLen c) i (readToken c x)) (drop-of-length-le s h) ∙ ap (stepOf (markLen c) i) (stopping c .nil-cut)), λ g. absurd (omega arith))
 
   -- bytes x in front, which are one step
-  front : (at : ℕ) (x y : List ℕ) (w : Step) → 1 ≤ length x → stepOf (markLen c) at (readToken c (x ++ y)) ≡ w →
+  pub front : (at : ℕ) (x y : List ℕ) (w : Step) → 1 ≤ length x → stepOf (markLen c) at (readToken c (x ++ y)) ≡ w →
       ((f : ℕ → List Step) → afterStep w f ≡ f (at + length x)) → stepsFrom c at 0 (x ++ y) ≡ w ∷ stepsFrom c (at + length x) 0 y
   front at [] y w h e f = absurd (omega arith)
   front at (b ∷ x) y w h e f =

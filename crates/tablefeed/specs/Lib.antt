@@ -1,0 +1,3 @@
+-- A table fed part by part.
+pub mod Reading
+pub mod Bounds
