@@ -83,7 +83,7 @@ fn run_through(c: Coding, s: &[u8], start: usize, n: usize, ended: usize, opened
     ensures { λ r. ⌜ r ≡ runOf ended (n - ended) opened start (stepsAt c (now (s .entry)) start) ⌝ }
 {
     let mut g = ended;
-    let mut open = opened;
+    let mut after = opened;
     let mut at = start;
     while at < s.len() {
         if n <= g {
@@ -92,28 +92,28 @@ fn run_through(c: Coding, s: &[u8], start: usize, n: usize, ended: usize, opened
         let t = table::next_step(c, s, at);
         match t {
             Step::Value(_, next) => {
-                open = false;
+                after = false;
                 at = next;
             }
             Step::Start(next) => {
-                if open {
+                if after {
                     return misplaced(g, next);
                 }
-                open = true;
+                after = true;
                 at = next;
             }
             Step::End(next) => {
-                if open {
+                if after {
                     return misplaced(g, next);
                 }
                 g += 1;
                 at = next;
             }
-            Step::Cut => return going_at(g, open, at),
+            Step::Cut => return going_at(g, after, at),
             Step::Bad(k) => return stopped_at(11, g, k),
         }
     }
-    going_at(g, open, at)
+    going_at(g, after, at)
 }
 
 fn flag_of(b: bool) -> usize

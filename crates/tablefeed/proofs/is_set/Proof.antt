@@ -1,0 +1,12 @@
+-- `tablefeed::is_set` meets its contract. Assumes nothing.
+use mathlib.Core.Path.{refl}
+use Rattle.tablefeed.specs.Reading.{isSet}
+use Rattle.tablefeed.proofs.is_set.Statement.{statement}
+use Rattle.tablefeed.proofs.is_set.Tie as tie
+
+returns : tie.Need-returns
+unfolding isSet
+returns c = refl
+
+pub is-set-spec : {M : Type 1} → statement M
+is-set-spec = tie.close (tie.spec returns)
