@@ -16,6 +16,7 @@ use Rattle.entries.specs.Meaning.{entryAt}
 use Rattle.entries.specs.Reading.{larger, scanOf}
 use Rattle.unfinished.specs.declared.Held.{Held}
 use Rattle.unfinished.specs.Meaning.{heldBytes, heldOf}
+use Rattle.unfinished.proofs.Holding.{held, held-len}
 use Rattle.entryfeed.specs.declared.Sums.{Sums}
 use Rattle.entryfeed.specs.declared.Fed.{Fed}
 use Rattle.entryfeed.specs.Reading.{afterScan, sumsOf, wholeIn, behindWhole, entriesRead, entriesFed}
@@ -155,5 +156,24 @@ fed-twice size at x q s there =
     ∙ read-split size at there x (take (wholeIn q * 18) q) (behindWhole q ++ s) (wholeIn q) l
     ∙ ap (λ (y : Sums). entriesRead size (at + wholeIn q * 18) y (behindWhole q ++ s)) e
 
+read-held : (size at : ℕ) (x : Sums) (q : List ℕ) → entriesRead size at x q .held ≡ heldOf (behindWhole q)
+unfolding entriesRead
+read-held size at x q = refl
+
 pub rest-short : (q : List ℕ) → length (behindWhole q) < 18
 rest-short q = let l = length-drop (wholeIn q * 18) q in omega arith
+
+-- a part in two goes, with the bytes held
+pub twice : (size at : ℕ) (h : Held) (x : Sums) (p s : List ℕ) → length (heldBytes h) ≡ h .len → h .len < at →
+    entriesFed size at h x (p ++ s) ≡ entriesFed size (at + length p) (entriesFed size at h x p .held) (entriesFed size at h x p .sums) s
+twice size at h x p s l b =
+    let q : List ℕ = heldBytes h ++ p in
+    let a = length-append (heldBytes h) p in
+    let m = length-drop (wholeIn q * 18) q in
+    let e : entriesFed size at h x p .held ≡ heldOf (behindWhole q) = read-held size (at - h .len) x q in
+    let g : entriesFed size at h x p .held .len ≡ length (behindWhole q) = ap (λ (y : Held). y .len) e ∙ held-len (behindWhole q) in
+    let d : heldBytes (entriesFed size at h x p .held) ≡ behindWhole q = ap heldBytes e ∙ held (behindWhole q) in
+    let o : at - h .len + wholeIn q * 18 ≡ at + length p - entriesFed size at h x p .held .len = omega arith in
+    ap (entriesRead size (at - h .len) x) (sym (append-assoc (heldBytes h) p s))
+    ∙ fed-twice size (at - h .len) x q s (omega arith)
+    ∙ rw (o, d)

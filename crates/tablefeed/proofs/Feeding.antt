@@ -1,7 +1,7 @@
 -- A table fed part by part: the code's cases, and in two goes.
 use mathlib.Core.Path.{_≡_, refl, sym, _∙_, ap, subst}
 use mathlib.Core.Bool.{Bool, true, false, not}
-use mathlib.Core.Logic.{_⊎_, inl, inr}
+use mathlib.Core.Logic.{_⊎_, inl, inr, ⊎-elim}
 use mathlib.Core.List.{List, [], _∷_, _++_, append-assoc}
 use Prim.Native.Nat.{ℕ, zero, suc, _+_, _-_, _≤_, _<_}
 use native.Mathlib.Omega.{arith}
@@ -134,6 +134,51 @@ module _ (c : Coding) (n at : ℕ) (t : Standing) where
         ∙ sym (settled-behind (heldBytes h) s at y (omega arith))
         ∙ sym (all ∙ ap (settled (q ++ rest) (at - h .len)) (u ∙ m) ∙ rw (← e, l))
 
+  -- in two goes
+  read-on : (q s : List ℕ) → first q .halted ≡ 0 →
+      tableRead c n at t (q ++ s) ≡ tableRead c n (at + first q .place) (tableRead c n at t q .standing) (drop (first q .place) q ++ s)
+  unfolding tableRead settled
+  read-on q s z =
+      let i = rests c q 0 (t .ended) (n - t .ended) (isSet (t .opened)) in
+      let l : length (take (first q .place) q) ≡ first q .place = length-take-le (first q .place) q (omega (arith, i .1)) in
+      let e : q ++ s ≡ take (first q .place) q ++ (drop (first q .place) q ++ s) =
+          ap (λ (x : List ℕ). x ++ s) (sym (take-append-drop (first q .place) q)) ∙ append-assoc (take (first q .place) q) (drop (first q .place) q) s in
+      let x : Run = runOf (first q .ended) (n - first q .ended) (first q .opened) 0 (stepsFrom c 0 0 (drop (first q .place) q ++ s)) in
+      let b : settled (take (first q .place) q ++ (drop (first q .place) q ++ s)) (at + first q .place - first q .place) (moved (first q .place) x) ≡ settled (drop (first q .place) q ++ s) (at + first q .place) x =
+          subst (λ (k : ℕ). settled (take (first q .place) q ++ (drop (first q .place) q ++ s)) (at + first q .place - k) (moved k x) ≡ settled (drop (first q .place) q ++ s) (at + first q .place) x) l
+          (settled-behind (take (first q .place) q) (drop (first q .place) q ++ s) (at + first q .place) x (omega arith)) in
+      let d : at + first q .place - first q .place ≡ at = omega arith in
+      ap (settled (q ++ s) at) (on q s z)
+      ∙ ap (λ (y : List ℕ). settled y at (moved (first q .place) x)) e
+      ∙ rw d at b
+      ∙ ap (λ (o : Bool). settled (drop (first q .place) q ++ s) (at + first q .place) (runOf (first q .ended) (n - first q .ended) o 0 (stepsFrom c 0 0 (drop (first q .place) q ++ s)))) (sym (flag-back (first q .opened)))
+
+  read-off : (q s : List ℕ) → (first q .halted ≡ 0 → ⊥) → tableRead c n at t (q ++ s) ≡ tableRead c n at t q
+  unfolding tableRead
+  read-off q s z = ap (settled (q ++ s) at) (off q s z) ∙ settled-stopped q s at (first q) z
+
+  -- what is held then
+  read-held : (q : List ℕ) → first q .halted ≡ 0 → (tableRead c n at t q .held ≡ heldOf (drop (first q .place) q)) × (tableRead c n at t q .standing .halted ≡ 0)
+  unfolding tableRead settled
+  read-held q z = (rw (eq-eqb (first q .halted) 0 z), z)
+
+  read-halted : (q : List ℕ) → tableRead c n at t q .standing .halted ≡ first q .halted
+  unfolding tableRead settled
+  read-halted q = refl
+
+  -- few bytes
+  pub read-short : (q : List ℕ) → tableRead c n at t q .held .len < 4
+  unfolding tableRead settled heldOf
+  read-short q =
+      let i = rests c q 0 (t .ended) (n - t .ended) (isSet (t .opened)) in
+      ⊎-elim
+      (λ (z : first q .halted ≡ 0).
+        let l = length-drop (first q .place) q in
+        let j = i .2 z in
+        rw (eq-eqb (first q .halted) 0 z) (omega (arith, l, j .1)))
+      (λ (z : first q .halted ≡ 0 → ⊥). rw (ne-eqb (first q .halted) 0 z) (omega arith))
+      (same (first q .halted) 0)
+
 -- already refused
 pub no-more : (c : Coding) (n at : ℕ) (h : Held) (t : Standing) (s : List ℕ) → (t .halted ≡ 0 → ⊥) → record { held = h; standing = t } ≡ tableFed c n at h t s
 unfolding tableFed
@@ -142,3 +187,53 @@ no-more c n at h t s z = rw (ne-eqb (t .halted) 0 z)
 -- the bytes held and the first m of a part, and the rest of it
 pub split : (u s : List ℕ) (m : ℕ) → u ++ s ≡ (u ++ take m s) ++ drop m s
 split u s m = ap (λ (z : List ℕ). u ++ z) (sym (take-append-drop m s)) ∙ sym (append-assoc u (take m s) (drop m s))
+
+-- a part in two goes
+module _ (c : Coding) (n at : ℕ) (h : Held) (t : Standing) (l : length (heldBytes h) ≡ h .len) (b : h .len ≤ at) where
+  reads : (s : List ℕ) → t .halted ≡ 0 → tableFed c n at h t s ≡ tableRead c n (at - h .len) t (heldBytes h ++ s)
+  unfolding tableFed
+  reads s z = rw (eq-eqb (t .halted) 0 z)
+
+  fed-reads : (at' : ℕ) (g : Held) (u : Standing) (s : List ℕ) → u .halted ≡ 0 → tableFed c n at' g u s ≡ tableRead c n (at' - g .len) u (heldBytes g ++ s)
+  unfolding tableFed
+  fed-reads at' g u s z = rw (eq-eqb (u .halted) 0 z)
+
+  pub twice : (p s : List ℕ) → tableFed c n at h t (p ++ s) ≡ tableFed c n (at + length p) (tableFed c n at h t p .held) (tableFed c n at h t p .standing) s
+  twice p s = go (same (t .halted) 0)
+    where
+      q : List ℕ
+      q = heldBytes h ++ p
+      F : Fed
+      F = tableRead c n (at - h .len) t q
+      r : Run
+      r = first c n (at - h .len) t q
+      assoc : heldBytes h ++ (p ++ s) ≡ q ++ s
+      assoc = sym (append-assoc (heldBytes h) p s)
+      on-going : t .halted ≡ 0 → r .halted ≡ 0 → tableFed c n at h t (p ++ s) ≡ tableFed c n (at + length p) (F .held) (F .standing) s
+      on-going z k =
+          let w = read-held c n (at - h .len) t q k in
+          let i = rests c q 0 (t .ended) (n - t .ended) (isSet (t .opened)) in
+          let a = length-append (heldBytes h) p in
+          let m = length-drop (r .place) q in
+          let g : F .held .len ≡ length (drop (r .place) q) = ap (λ (x : Held). x .len) (w .0) ∙ held-len (drop (r .place) q) in
+          let o : at + length p - F .held .len ≡ at - h .len + r .place = omega (arith, i .1) in
+          let d : heldBytes (F .held) ≡ drop (r .place) q = ap heldBytes (w .0) ∙ held (drop (r .place) q) in
+          reads (p ++ s) z
+          ∙ ap (tableRead c n (at - h .len) t) assoc
+          ∙ read-on c n (at - h .len) t q s k
+          ∙ sym (fed-reads (at + length p) (F .held) (F .standing) s (w .1) ∙ rw (o, d))
+      stopped : t .halted ≡ 0 → (r .halted ≡ 0 → ⊥) → tableFed c n at h t (p ++ s) ≡ tableFed c n (at + length p) (F .held) (F .standing) s
+      stopped z k =
+          reads (p ++ s) z ∙ ap (tableRead c n (at - h .len) t) assoc ∙ read-off c n (at - h .len) t q s k
+          ∙ no-more c n (at + length p) (F .held) (F .standing) s (λ i. k (sym (read-halted c n (at - h .len) t q) ∙ i))
+      go : (t .halted ≡ 0) ⊎ (t .halted ≡ 0 → ⊥) → tableFed c n at h t (p ++ s) ≡ tableFed c n (at + length p) (tableFed c n at h t p .held) (tableFed c n at h t p .standing) s
+      go (inl z) = rw (reads p z) (⊎-elim (on-going z) (stopped z) (same (r .halted) 0))
+      go (inr z) = sym (no-more c n at h t (p ++ s) z) ∙ rw (← no-more c n at h t p z) (no-more c n (at + length p) h t s z)
+
+  -- few bytes are held then
+  pub fed-short : (p : List ℕ) → h .len < 18 → tableFed c n at h t p .held .len < 18
+  fed-short p k = go (same (t .halted) 0)
+    where
+      go : (t .halted ≡ 0) ⊎ (t .halted ≡ 0 → ⊥) → tableFed c n at h t p .held .len < 18
+      go (inl z) = rw (reads p z) (let i = read-short c n (at - h .len) t (heldBytes h ++ p) in omega arith)
+      go (inr z) = rw (← no-more c n at h t p z) k
