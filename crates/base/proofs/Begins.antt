@@ -1,5 +1,5 @@
 -- What a list begins with: the test turn by turn, and that it means what it says.
-use mathlib.Core.Path.{_≡_, refl}
+use mathlib.Core.Path.{_≡_, refl, ap}
 use mathlib.Core.Bool.{Bool, true, false}
 use mathlib.Core.Logic.{_↔_}
 use mathlib.Core.List.{List, [], _∷_, _++_}
@@ -59,3 +59,10 @@ pub begins-front : (m s : List ℕ) → startsWith m (m ++ s) ≡ true
 unfolding startsWith when
 begins-front [] s = refl
 begins-front (b ∷ m) s = rw (eq-eqb b b refl) (begins-front m s)
+
+-- with more behind it
+pub begins-before : (m p s : List ℕ) → length m ≤ length p → startsWith m (p ++ s) ≡ startsWith m p
+unfolding startsWith
+begins-before [] p s h = refl
+begins-before (b ∷ m) [] s h = absurd (omega arith)
+begins-before (b ∷ m) (c ∷ p) s h = ap (λ (t : Bool). when (eqb c b) t false) (begins-before m p s (omega arith))

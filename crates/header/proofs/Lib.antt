@@ -2,3 +2,4 @@
 pub mod Cases
 pub mod Known
 pub mod Written
+pub mod Front

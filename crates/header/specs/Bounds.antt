@@ -39,3 +39,12 @@ abbrev pub Placed : List ℕ → Font → Type 0
 Placed s f =
     (length s ≤ limit) × (1 ≤ f .count) × (f .count ≤ 4096) × (f .height ≤ 255) × (f .width ≤ 255) × (f .entries ≤ f .bitmaps) × (f .bitmaps ≤ f .end)
     × (f .end ≤ length s) × KindPlaced f (f .kind)
+
+-- where the parts stand, whatever the file's length: no entries (PSF1, PSF2), or entries behind the first 32 bytes
+abbrev pub PartsOf : Font → Kind → Type 0
+PartsOf f Psf1 = f .bitmaps ≡ f .entries
+PartsOf f Psf2 = f .bitmaps ≡ f .entries
+PartsOf f Vfont2 = (32 ≤ f .entries) × (f .bitmaps ≡ f .entries + f .count * entryLen Vfont2)
+
+abbrev pub Parts : Font → Type 0
+Parts f = (1 ≤ f .entries) × (f .bitmaps ≤ f .end) × (32 ≤ f .end) × PartsOf f (f .kind)

@@ -1,0 +1,3 @@
+-- The loader.
+pub mod Reading
+pub mod Bounds
