@@ -177,3 +177,11 @@ twice size at h x p s l b =
     ap (entriesRead size (at - h .len) x) (sym (append-assoc (heldBytes h) p s))
     ∙ fed-twice size (at - h .len) x q s (omega arith)
     ∙ rw (o, d)
+
+-- few bytes are held then
+pub fed-short : (size at : ℕ) (h : Held) (x : Sums) (s : List ℕ) → entriesFed size at h x s .held .len < 18
+fed-short size at h x s =
+    let q : List ℕ = heldBytes h ++ s in
+    let e : entriesFed size at h x s .held .len ≡ length (behindWhole q) = ap (λ (y : Held). y .len) (read-held size (at - h .len) x q) ∙ held-len (behindWhole q) in
+    let k = rest-short q in
+    omega arith

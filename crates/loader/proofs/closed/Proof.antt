@@ -1,21 +1,18 @@
+-- `loader::closed` meets its contract. Assumes nothing.
+use mathlib.Core.Path.{sym, _∙_}
+use Rattle.loader.proofs.Cases.{closes, stays-closed}
 use borrow.Author.Needs.{needs}
 use Rattle.loader.proofs.closed.Statement.{statement}
 use Rattle.loader.proofs.closed.Tie as tie
-use Rattle.loader.proofs.closed.Reads as reads
-use Rattle.loader.proofs.closed.Lts as lts
-use Rattle.loader.proofs.is_open.Reads as is-open-reads
 
--- src/lib.rt:345:8
 is-open-requires : tie.Need-is-open-requires
 is-open-requires c κs = search needs
 
--- src/lib.rt:348:9
 returns : tie.Need-returns
-returns c = ?
+returns c = closes (c .before .before .args .l) (sym (c .before .is-open .ensures) ∙ c .if1 .taken)
 
--- src/lib.rt:342:1
 returns-2 : tie.Need-returns-2
-returns-2 c = ?
+returns-2 c = stays-closed (c .before .before .args .l) (sym (c .before .is-open .ensures) ∙ c .if1 .left)
 
 pub closed-spec : {M : Type 1} → statement M
 closed-spec = tie.close (tie.spec is-open-requires returns returns-2)

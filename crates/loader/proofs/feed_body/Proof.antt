@@ -1,42 +1,38 @@
+-- `loader::feed_body` meets its contract. Assumes a piece within the file limit, and few bytes held.
+use native.Mathlib.Omega.{arith}
+use mathlib.Core.Path.{_≡_, refl, sym, _∙_, ap}
+use Rattle.header.proofs.Front.{parts}
+use Rattle.header.specs.declared.Checked.the-variants.{Sound, Refused}
+use Rattle.loader.specs.Reading.{saidFed}
+use Rattle.header.specs.declared.Checked.{Checked}
+use Rattle.loader.proofs.Cases.{said-fed}
 use borrow.Author.Needs.{needs}
 use Rattle.loader.proofs.feed_body.Statement.{statement}
 use Rattle.loader.proofs.feed_body.Tie as tie
-use Rattle.loader.proofs.feed_body.Reads as reads
-use Rattle.loader.proofs.feed_body.Lts as lts
-use Rattle.loader.proofs.feed_font.Reads as feed-font-reads
-use Rattle.stages.proofs.says.Reads as says-reads
 
--- src/lib.rt:162:26
 slice-aggregate-says : tie.Need-slice-aggregate-says
 slice-aggregate-says c = search needs
 
--- src/lib.rt:162:9
 says-requires : tie.Need-says-requires
 says-requires c κs = search needs
 
--- src/lib.rt:164:24
 enum-known-c : tie.Need-enum-known-c
 enum-known-c c = search needs
 
--- src/lib.rt:164:30
 feed-font-requires : tie.Need-feed-font-requires
-feed-font-requires c κs = ?
+feed-font-requires c κs = (parts _ _ (sym (c .before .before .before .says .ensures) ∙ c .before .c .given .1), c .before .before .before .before .before .before .before .pre .0, c .before .before .before .before .before .before .before .pre .1)
 
--- src/lib.rt:166:17
 enum-told : tie.Need-enum-told
 enum-told c = search needs
 
--- src/lib.rt:167:26
 add-next : tie.Need-add-next
 add-next c = search needs
 
--- src/lib.rt:157:1
 returns : tie.Need-returns
-returns c = ?
+returns c = said-fed (c .before .before .before .before .before .before .before .before .args .l) (c .before .before .before .before .before .before .before .before .args .piece .now) _ (c .before .before .before .before .says .ensures) _ (c .feed-font .ensures ∙ ap (λ (x : Checked). saidFed x (c .before .before .before .before .before .before .before .before .args .l) (c .before .before .before .before .before .before .before .before .args .piece .now)) (sym (c .before .before .c .given .1)))
 
--- src/lib.rt:157:1
 returns-2 : tie.Need-returns-2
-returns-2 c = ?
+returns-2 c = said-fed (c .before .before .before .before .before .before .before .args .l) (c .before .before .before .before .before .before .before .args .piece .now) _ (c .before .before .before .says .ensures) _ (ap (λ (x : Checked). saidFed x (c .before .before .before .before .before .before .before .args .l) (c .before .before .before .before .before .before .before .args .piece .now)) (sym (c .before .enum-told .given .1)))
 
 pub feed-body-spec : {M : Type 1} → statement M
 feed-body-spec =

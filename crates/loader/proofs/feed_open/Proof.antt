@@ -1,39 +1,32 @@
+-- `loader::feed_open` meets its contract. Assumes an open record.
+use native.Mathlib.Omega.{arith}
+use mathlib.Core.Path.{_∙_}
+use Rattle.loader.proofs.Opening.{opened}
+use Rattle.loader.proofs.Cases.{too-long, grows-long, in-head, in-body}
 use borrow.Author.Needs.{needs}
 use Rattle.loader.proofs.feed_open.Statement.{statement}
 use Rattle.loader.proofs.feed_open.Tie as tie
-use Rattle.loader.proofs.feed_open.Reads as reads
-use Rattle.loader.proofs.feed_open.Lts as lts
-use Rattle.loader.proofs.feed_body.Reads as feed-body-reads
-use Rattle.loader.proofs.feed_header.Reads as feed-header-reads
-use Rattle.loader.proofs.past_limit.Reads as past-limit-reads
 
--- src/lib.rt:222:9
 returns : tie.Need-returns
-returns c = ?
+returns c = too-long (c .before .before .before .args .l) (c .before .before .before .args .piece .now) (omega arith)
 
--- src/lib.rt:225:9
 past-limit-requires : tie.Need-past-limit-requires
 past-limit-requires c κs = search needs
 
--- src/lib.rt:225:9
 returns-2 : tie.Need-returns-2
-returns-2 c = ?
+returns-2 c = c .past-limit .ensures ∙ grows-long (c .before .before .before .before .before .before .args .l) (c .before .before .before .before .before .before .args .piece .now) (omega arith, omega arith)
 
--- src/lib.rt:228:9
 feed-header-requires : tie.Need-feed-header-requires
-feed-header-requires c κs = ?
+feed-header-requires c κs = let o = opened (c .before .before .before .before .before .before .before .args .l) (c .before .before .before .before .before .before .before .pre) in (omega arith, o .1 (omega arith), omega arith)
 
--- src/lib.rt:228:9
 returns-3 : tie.Need-returns-3
-returns-3 c = ?
+returns-3 c = c .feed-header .ensures ∙ in-head (c .before .before .before .before .before .before .before .before .args .l) (c .before .before .before .before .before .before .before .before .args .piece .now) (omega arith, omega arith, omega arith)
 
--- src/lib.rt:230:5
 feed-body-requires : tie.Need-feed-body-requires
-feed-body-requires c κs = ?
+feed-body-requires c κs = let o = opened (c .before .before .before .before .before .before .before .args .l) (c .before .before .before .before .before .before .before .pre) in ((omega arith, o .2 (omega arith)), λ h. absurd (omega arith))
 
--- src/lib.rt:217:1
 returns-4 : tie.Need-returns-4
-returns-4 c = ?
+returns-4 c = c .feed-body .ensures ∙ in-body (c .before .before .before .before .before .before .before .before .args .l) (c .before .before .before .before .before .before .before .before .args .piece .now) (omega arith, omega arith, omega arith)
 
 pub feed-open-spec : {M : Type 1} → statement M
 feed-open-spec =

@@ -1,19 +1,17 @@
+-- `loader::is_open` meets its contract. Assumes nothing.
+use native.Mathlib.Omega.{arith}
+use Rattle.loader.proofs.Opening.{is-closed, in-header, in-body}
 use Rattle.loader.proofs.is_open.Statement.{statement}
 use Rattle.loader.proofs.is_open.Tie as tie
-use Rattle.loader.proofs.is_open.Reads as reads
-use Rattle.loader.proofs.is_open.Lts as lts
 
--- src/lib.rt:58:9
 returns : tie.Need-returns
-returns c = ?
+returns c = is-closed _ (c .if1 .taken)
 
--- src/lib.rt:62:9
 returns-2 : tie.Need-returns-2
-returns-2 c = ?
+returns-2 c = in-header (c .before .before .before .before .before .before .before .args .l) (c .before .before .before .before .before .if1 .left) (omega arith)
 
--- src/lib.rt:54:1
 returns-3 : tie.Need-returns-3
-returns-3 c = ?
+returns-3 c = in-body (c .before .before .before .before .before .before .args .l) (c .before .before .before .before .if1 .left) (omega arith)
 
 pub is-open-spec : {M : Type 1} → statement M
 is-open-spec = tie.close (tie.spec returns returns-2 returns-3)

@@ -1,64 +1,56 @@
+-- `loader::told_open` meets its contract. Assumes an open record.
+use native.Mathlib.Omega.{arith}
+use mathlib.Core.Path.{_≡_, sym, _∙_, ap}
+use Rattle.header.specs.declared.Checked.{Checked}
+use Rattle.header.specs.declared.Checked.the-variants.{Refused}
+use Rattle.stages.specs.Reading.{andThen}
+use lib.ListN.{length, length-map}
+use lib.Seq.{length-take-le}
+use Rattle.loader.specs.Reading.{fontTold}
+use Rattle.loader.proofs.Opening.{opened}
+use Rattle.loader.proofs.Cases.{answer-long, answer-short, answer-whole}
 use borrow.Author.Needs.{needs}
 use Rattle.loader.proofs.told_open.Statement.{statement}
 use Rattle.loader.proofs.told_open.Tie as tie
-use Rattle.loader.proofs.told_open.Reads as reads
-use Rattle.loader.proofs.told_open.Lts as lts
-use Rattle.loader.proofs.told_font.Reads as told-font-reads
-use Rattle.refusal.proofs.refuse.Reads as refuse-reads
-use Rattle.stages.proofs.check.Reads as check-reads
-use Rattle.stages.proofs.says.Reads as says-reads
 
--- src/lib.rt:315:33
 refuse-requires : tie.Need-refuse-requires
 refuse-requires c κs = search needs
 
--- src/lib.rt:315:9
 returns : tie.Need-returns
-returns c = ?
+returns c = ap Refused (c .refuse .ensures) ∙ answer-long (c .before .before .before .args .l) (omega arith)
 
--- src/lib.rt:322:30
 array-share-prefix-bytes : tie.Need-array-share-prefix-bytes
-array-share-prefix-bytes c = ?
+array-share-prefix-bytes c = let w : length (c .before .before .before .before .before .before .before .args .l .held .bytes) ≡ 32 = sym (length-map (c .before .before .before .before .before .before .before .args .l .held .bytes) _) ∙ c .before .before .before .before .before .before .before .good .0 .1 .1 .1 .1 .1 .0 .1 .1 .1 .0 .1 .0 .1 in let o = opened (c .before .before .before .before .before .before .before .args .l) (c .before .before .before .before .before .before .before .pre) .1 (omega arith) in omega arith
 
--- src/lib.rt:322:30
 slice-aggregate-check : tie.Need-slice-aggregate-check
-slice-aggregate-check c = ?
+slice-aggregate-check c = let w : length (c .before .before .before .before .before .before .before .before .args .l .held .bytes) ≡ 32 = sym (length-map (c .before .before .before .before .before .before .before .before .args .l .held .bytes) _) ∙ c .before .before .before .before .before .before .before .before .good .0 .1 .1 .1 .1 .1 .0 .1 .1 .1 .0 .1 .0 .1 in let o = opened (c .before .before .before .before .before .before .before .before .args .l) (c .before .before .before .before .before .before .before .before .pre) .1 (omega arith) in sym (length-take-le (c .before .before .before .before .before .before .before .before .args .l .held .len) (c .before .before .before .before .before .before .before .before .args .l .held .bytes) (omega arith))
 
--- src/lib.rt:322:9
 check-requires : tie.Need-check-requires
 check-requires c κs = search needs
 
--- src/lib.rt:322:9
 returns-2 : tie.Need-returns-2
-returns-2 c = ?
+returns-2 c = c .check .ensures .0 ∙ answer-short (c .before .before .before .before .before .before .before .before .before .args .l) (omega arith, omega arith)
 
--- src/lib.rt:324:26
 slice-aggregate-says : tie.Need-slice-aggregate-says
 slice-aggregate-says c = search needs
 
--- src/lib.rt:324:9
 says-requires : tie.Need-says-requires
 says-requires c κs = search needs
 
--- src/lib.rt:326:24
 enum-known-c : tie.Need-enum-known-c
 enum-known-c c = search needs
 
--- src/lib.rt:326:30
 told-font-requires : tie.Need-told-font-requires
 told-font-requires c κs = search needs
 
--- src/lib.rt:327:26
 enum-known-c-2 : tie.Need-enum-known-c-2
 enum-known-c-2 c = search needs
 
--- src/lib.rt:310:1
 returns-3 : tie.Need-returns-3
-returns-3 c = ?
+returns-3 c = c .told-font .ensures ∙ ap (λ (x : Checked). andThen x (λ f. fontTold f (c .before .before .before .before .before .before .before .before .before .before .before .args .l))) (sym (c .before .before .c .given .1) ∙ c .before .before .before .before .says .ensures) ∙ answer-whole (c .before .before .before .before .before .before .before .before .before .before .before .args .l) (omega arith, omega arith)
 
--- src/lib.rt:310:1
 returns-4 : tie.Need-returns-4
-returns-4 c = ?
+returns-4 c = ap (λ (x : Checked). andThen x (λ f. fontTold f (c .before .before .before .before .before .before .before .before .before .before .args .l))) (sym (c .before .c2 .given .1) ∙ c .before .before .before .says .ensures) ∙ answer-whole (c .before .before .before .before .before .before .before .before .before .before .args .l) (omega arith, omega arith)
 
 pub told-open-spec : {M : Type 1} → statement M
 told-open-spec =

@@ -1,49 +1,42 @@
+-- `loader::told_tail` meets its contract. Assumes nothing.
+use native.Mathlib.Omega.{arith}
+use mathlib.Core.Path.{_∙_, ap}
+use borrow.Author.Tests.{not-true, not-false}
+use Rattle.header.specs.declared.Checked.the-variants.{Refused}
+use Rattle.loader.proofs.Cases.{bare-over, bare-sound, table-cut, table-whole, table-over, table-bad}
 use borrow.Author.Needs.{needs}
 use Rattle.loader.proofs.told_tail.Statement.{statement}
 use Rattle.loader.proofs.told_tail.Tie as tie
-use Rattle.loader.proofs.told_tail.Reads as reads
-use Rattle.loader.proofs.told_tail.Lts as lts
-use Rattle.refusal.proofs.refuse.Reads as refuse-reads
 
--- src/lib.rt:276:37
 refuse-requires : tie.Need-refuse-requires
 refuse-requires c κs = search needs
 
--- src/lib.rt:276:13
 returns : tie.Need-returns
-returns c = ?
+returns c = ap Refused (c .refuse .ensures) ∙ bare-over _ _ _ (not-true _ (c .before .before .before .if1 .taken)) (omega arith)
 
--- src/lib.rt:278:9
 returns-2 : tie.Need-returns-2
-returns-2 c = ?
+returns-2 c = bare-sound _ _ _ (not-true _ (c .before .before .if1 .taken)) (omega arith)
 
--- src/lib.rt:282:37
 refuse-requires-2 : tie.Need-refuse-requires-2
 refuse-requires-2 c κs = search needs
 
--- src/lib.rt:282:13
 returns-3 : tie.Need-returns-3
-returns-3 c = ?
+returns-3 c = ap Refused (c .refuse2 .ensures) ∙ table-cut _ _ _ (not-false _ (c .before .before .before .before .before .before .if1 .left)) (c .before .before .before .before .if3 .taken) (omega arith)
 
--- src/lib.rt:284:9
 returns-4 : tie.Need-returns-4
-returns-4 c = ?
+returns-4 c = table-whole _ _ _ (not-false _ (c .before .before .before .before .before .if1 .left)) (c .before .before .before .if3 .taken) (omega arith)
 
--- src/lib.rt:287:33
 refuse-requires-3 : tie.Need-refuse-requires-3
 refuse-requires-3 c κs = search needs
 
--- src/lib.rt:287:9
 returns-5 : tie.Need-returns-5
-returns-5 c = ?
+returns-5 c = ap Refused (c .refuse3 .ensures) ∙ table-over _ _ _ (not-false _ (c .before .before .before .before .before .if1 .left)) (c .before .before .before .if3 .left) (c .before .if5 .taken)
 
--- src/lib.rt:289:22
 refuse-requires-4 : tie.Need-refuse-requires-4
 refuse-requires-4 c κs = search needs
 
--- src/lib.rt:271:1
 returns-6 : tie.Need-returns-6
-returns-6 c = ?
+returns-6 c = ap Refused (c .refuse4 .ensures) ∙ table-bad _ _ _ (not-false _ (c .before .before .before .before .before .if1 .left)) (c .before .before .before .if3 .left) (c .before .if5 .left)
 
 pub told-tail-spec : {M : Type 1} → statement M
 told-tail-spec =

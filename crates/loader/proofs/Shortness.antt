@@ -1,0 +1,30 @@
+-- Feeding leaves few bytes unfinished.
+use mathlib.Core.Path.{_≡_, refl, sym, _∙_, ap, subst}
+use mathlib.Core.Bool.{Bool, true, false}
+use mathlib.Core.List.{List, []}
+use Prim.Native.Nat.{ℕ, _<_, _≤_}
+use native.Mathlib.Omega.{arith}
+use lib.Dec.{ltb, eqb}
+use lib.ListN.{length}
+use Rattle.base.specs.Reading.{when}
+use Rattle.header.specs.declared.Font.{Font}
+use Rattle.unfinished.specs.declared.Held.{Held}
+use Rattle.unfinished.proofs.Holding.{held-len}
+use Rattle.entryfeed.specs.declared.Sums.{Sums}
+use Rattle.entryfeed.specs.declared.Fed as entries
+use Rattle.entryfeed.proofs.Feeding.{fed-short}
+use Rattle.loader.specs.Reading.{entriesIn}
+
+by-when : {A : Type 0} (P : A → Type 0) (t : Bool) (a b : A) → P a → P b → P (when t a b)
+unfolding when
+by-when P true a b f g = f
+by-when P false a b f g = g
+
+in-short : (f : Font) (total : ℕ) (h : Held) (x : Sums) (p : List ℕ) → h .len < 18 → entriesIn f total h x p .held .len < 18
+unfolding entriesIn
+in-short f total h x p k =
+    let P : entries.Fed → Type 0 = λ y. y .held .len < 18 in
+    by-when P _ _ _ k (by-when P _ _ _ (fed-short _ _ _ _ _) (fed-short _ _ _ _ _))
+
+pub entries-short : (f : Font) (total : ℕ) (h : Held) (x : Sums) (p : List ℕ) (r : entries.Fed) → r ≡ entriesIn f total h x p → h .len < 18 → r .held .len < 18
+entries-short f total h x p r e k = subst (λ (y : entries.Fed). y .held .len < 18) (sym e) (in-short f total h x p k)
