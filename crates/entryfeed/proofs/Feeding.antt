@@ -93,7 +93,7 @@ module _ (size at : ℕ) (there : 1 ≤ at) where
       go (inl e) =
           let d : drop (j * 18) (p ++ s) ≡ s = drop-at p s (j * 18) l in
           let f : scanOf (p ++ s) size 0 (j + k) 0 (x .height) (x .width) ≡ goesOn (λ a b. numbered j (scanOf s size 0 k 0 a b)) (scanOf p size 0 j 0 (x .height) (x .width)) =
-              rw (d, scan-front p s size j (x .height) (x .width) (omega arith)) at (scan-split (p ++ s) size j k (x .height) (x .width)) in
+          rw (d, scan-front p s size j (x .height) (x .width) (omega arith)) at (scan-split (p ++ s) size j k (x .height) (x .width)) in
           left size at x e (p ++ s) (j + k)
           ∙ ap (afterScan at) f
           ∙ told x p s j k l e (scanOf p size 0 j 0 (x .height) (x .width)) refl
@@ -106,10 +106,10 @@ module _ (size at : ℕ) (there : 1 ≤ at) where
       let a = length-append p s in
       let n : wholeIn (p ++ s) ≡ j + wholeIn s = omega arith in
       let d : drop (wholeIn (p ++ s) * 18) (p ++ s) ≡ drop (wholeIn s * 18) s =
-          let m : wholeIn (p ++ s) * 18 ≡ length p + wholeIn s * 18 = omega arith in
-          ap (λ (i : ℕ). drop i (p ++ s)) m ∙ sym (drop-drop (wholeIn s * 18) (length p) (p ++ s)) ∙ ap (λ (y : List ℕ). drop (wholeIn s * 18) y) (drop-at p s (length p) refl) in
+      let m : wholeIn (p ++ s) * 18 ≡ length p + wholeIn s * 18 = omega arith in
+      ap (λ (i : ℕ). drop i (p ++ s)) m ∙ sym (drop-drop (wholeIn s * 18) (length p) (p ++ s)) ∙ ap (λ (y : List ℕ). drop (wholeIn s * 18) y) (drop-at p s (length p) refl) in
       let e : sumsOf size at x (p ++ s) (wholeIn (p ++ s)) ≡ sumsOf size (at + j * 18) (sumsOf size at x p j) s (wholeIn s) =
-          ap (sumsOf size at x (p ++ s)) n ∙ sums-split x p s j (wholeIn s) l in
+      ap (sumsOf size at x (p ++ s)) n ∙ sums-split x p s j (wholeIn s) l in
       λ i. record { held = heldOf (d i); sums = e i }
 
 -- the code's cases of a part s behind k bytes held
@@ -133,7 +133,7 @@ module _ (size at : ℕ) (h : Held) (x : Sums) (s : List ℕ) (l : length (heldB
       let b = length-take-le (18 - h .len) s (omega arith) in
       let c : length p ≡ 1 * 18 = ap (λ (z : List ℕ). length z) e ∙ omega arith in
       let d : heldBytes h ++ s ≡ p ++ drop (18 - h .len) s =
-          ap (λ (z : List ℕ). heldBytes h ++ z) (sym (take-append-drop (18 - h .len) s)) ∙ sym (append-assoc (heldBytes h) (take (18 - h .len) s) (drop (18 - h .len) s)) ∙ ap (λ (z : List ℕ). z ++ drop (18 - h .len) s) (sym e) in
+      ap (λ (z : List ℕ). heldBytes h ++ z) (sym (take-append-drop (18 - h .len) s)) ∙ sym (append-assoc (heldBytes h) (take (18 - h .len) s) (drop (18 - h .len) s)) ∙ ap (λ (z : List ℕ). z ++ drop (18 - h .len) s) (sym e) in
       let g : at - h .len + 1 * 18 ≡ at + (18 - h .len) = omega arith in
       let w : at - h .len + 0 ≡ at - h .len = omega arith in
       let u : y ≡ sumsOf size (at - h .len) x p 1 = rw w at f in
@@ -149,9 +149,9 @@ fed-twice size at x q s there =
     let n : wholeIn q * 18 ≤ length q = omega arith in
     let l : length (take (wholeIn q * 18) q) ≡ wholeIn q * 18 = length-take-le (wholeIn q * 18) q n in
     let d : q ++ s ≡ take (wholeIn q * 18) q ++ (behindWhole q ++ s) =
-        ap (λ (z : List ℕ). z ++ s) (sym (take-append-drop (wholeIn q * 18) q)) ∙ append-assoc (take (wholeIn q * 18) q) (behindWhole q) s in
+    ap (λ (z : List ℕ). z ++ s) (sym (take-append-drop (wholeIn q * 18) q)) ∙ append-assoc (take (wholeIn q * 18) q) (behindWhole q) s in
     let e : sumsOf size at x (take (wholeIn q * 18) q) (wholeIn q) ≡ sumsOf size at x q (wholeIn q) =
-        sym (ap (λ (z : List ℕ). sumsOf size at x z (wholeIn q)) (sym (take-append-drop (wholeIn q * 18) q)) ∙ sums-front size at x (take (wholeIn q * 18) q) (behindWhole q) (wholeIn q) (omega arith)) in
+    sym (ap (λ (z : List ℕ). sumsOf size at x z (wholeIn q)) (sym (take-append-drop (wholeIn q * 18) q)) ∙ sums-front size at x (take (wholeIn q * 18) q) (behindWhole q) (wholeIn q) (omega arith)) in
     ap (entriesRead size at x) d
     ∙ read-split size at there x (take (wholeIn q * 18) q) (behindWhole q ++ s) (wholeIn q) l
     ∙ ap (λ (y : Sums). entriesRead size (at + wholeIn q * 18) y (behindWhole q ++ s)) e

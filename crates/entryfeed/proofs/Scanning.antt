@@ -56,7 +56,7 @@ alike s t total a b j (suc k) i f h w =
     let z : i + 0 ≡ i = omega arith in
     let f0 : entryOf s total (entryAt a (j + i)) ≡ entryOf t total (entryAt b i) = rw z at (f 0 (omega arith)) in
     let g : (n : ℕ) → n < k → entryOf s total (entryAt a (j + (suc i + n))) ≡ entryOf t total (entryAt b (suc i + n)) =
-        λ n l. let y : i + suc n ≡ suc i + n = omega arith in rw y at (f (suc n) (omega arith)) in
+    λ n l. let y : i + suc n ≡ suc i + n = omega arith in rw y at (f (suc n) (omega arith)) in
     go (entryOf t total (entryAt b i)) refl f0 (alike s t total a b j k (suc i) g)
   where
     go : (e : Entry) → entryOf t total (entryAt b i) ≡ e → entryOf s total (entryAt a (j + i)) ≡ entryOf t total (entryAt b i) →
@@ -125,6 +125,7 @@ scan-split s total j k h w =
         alike s (drop (j * 18) s) total 0 0 j k 0
         (λ n g. let e : entryAt 0 (j + (0 + n)) ≡ j * 18 + entryAt 0 (0 + n) = omega arith in rw e (entry-drop s total (j * 18) (entryAt 0 (0 + n))))
         a b
+
     go : (x : Scan) → goesOn (λ a b. scanOf s total 0 k (j + 0) a b) x ≡ goesOn (λ a b. numbered j (scanOf (drop (j * 18) s) total 0 k 0 a b)) x
     go (BrokenAt i) = refl
     go (Greatest a b) = next a b

@@ -41,8 +41,17 @@ module _ (p s : List ℕ) (h : 32 ≤ length p) where
   head-front : headOf (p ++ s) ≡ headOf p
   unfolding headOf when
   head-front =
-      rw (long 32 (omega arith), short 32 (omega arith), le32-before p s 4 (omega arith), le32-before p s 8 (omega arith), le32-before p s 12 (omega arith), le32-before p s 16 (omega arith),
-      le32-before p s 20 (omega arith), le32-before p s 24 (omega arith), le32-before p s 28 (omega arith))
+      rw (
+        long 32 (omega arith),
+        short 32 (omega arith),
+        le32-before p s 4 (omega arith),
+        le32-before p s 8 (omega arith),
+        le32-before p s 12 (omega arith),
+        le32-before p s 16 (omega arith),
+        le32-before p s 20 (omega arith),
+        le32-before p s 24 (omega arith),
+        le32-before p s 28 (omega arith),
+      )
 
   named-front : (k : Named) → namedSays (p ++ s) k ≡ namedSays p k
   named-front (Is Psf1) = psf1-front

@@ -90,8 +90,8 @@ module _ (l : Loader) (p : List ℕ) where
   unfolding headFed when
   head-whole h i k bytes e w g q r v =
       let a : bytes ≡ take 32 (heldBytes (l .held) ++ p) =
-          let o : length (heldBytes (l .held)) + (32 - l .total) ≡ 32 = omega arith in
-          sym (take-all 32 bytes (omega arith)) ∙ e ∙ sym (take-append-add (heldBytes (l .held)) p (32 - l .total)) ∙ ap (λ (n : ℕ). take n (heldBytes (l .held) ++ p)) o in
+      let o : length (heldBytes (l .held)) + (32 - l .total) ≡ 32 = omega arith in
+      sym (take-all 32 bytes (omega arith)) ∙ e ∙ sym (take-append-add (heldBytes (l .held)) p (32 - l .total)) ∙ ap (λ (n : ℕ). take n (heldBytes (l .held) ++ p)) o in
       v ∙ rw (le-ltb (length p) (32 - l .total) h, a, q)
 
   -- an open record

@@ -36,6 +36,7 @@ module _ (total start end : ℕ) (p : List ℕ) (a b : ℕ) where
       by-end : (b < length p) ⊎ (length p ≤ b) → take b p ≡ take (end - total) p
       by-end (inl h) = ap (λ (k : ℕ). take k p) (b2 h)
       by-end (inr h) = take-all b p h ∙ sym (take-all (end - total) p (omega arith))
+
       by-start : (a < b) ⊎ (b ≤ a) → drop a (take b p) ≡ drop (start - total) (take b p)
       by-start (inl h) = ap (λ (k : ℕ). drop k (take b p)) (a2 h)
       by-start (inr h) =

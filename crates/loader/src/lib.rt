@@ -94,10 +94,7 @@ fn feed_entries(f: Font, total: usize, h: Held, x: Sums, piece: &[u8]) -> entryf
 {
     let s = part(piece, total, f.entries, f.bitmaps);
     if s.len() == 0 {
-        return entryfeed::Fed {
-            held: h,
-            sums: x,
-        };
+        return entryfeed::Fed { held: h, sums: x };
     }
     if f.entries < total {
         return entryfeed::feed(f.size, total, h, x, s);
@@ -348,4 +345,24 @@ pub fn closed(l: Loader) -> Loader
         return next;
     }
     l
+}
+
+// A piece to a record that is lent, and changed there: LATE (22, place 0), and the record as it was, if it is not open. A record that these
+// calls can't have made is LATE where it is marked as closed or the number of its unfinished bytes is none that feeding leaves (`isOpen`);
+// any other is taken at its word.
+pub fn feed(state: &mut Loader, piece: &[u8]) -> Reply
+    ensures { λ r. ⌜ (r ≡ feedAnswer (now (state .entry))) × (now (state .exit) ≡ fedOf (now (state .entry)) (now (piece .entry))) ⌝ }
+{
+    let s = *state;
+    *state = fed(s, piece);
+    fed_answer(s)
+}
+
+// The close of a record that is lent: what the whole-file check says of all pieces joined, and the record closed; LATE as above.
+pub fn close(state: &mut Loader) -> Checked
+    ensures { λ r. ⌜ (r ≡ closeAnswer (now (state .entry))) × (now (state .exit) ≡ closedOf (now (state .entry))) ⌝ }
+{
+    let s = *state;
+    *state = closed(s);
+    closed_answer(s)
 }

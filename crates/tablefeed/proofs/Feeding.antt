@@ -117,19 +117,19 @@ module _ (c : Coding) (n at : ℕ) (t : Standing) where
     goes-on k i j y v x w =
         let place : r .place ≡ first q .place = ap (λ (a : Run). a .place) f in
         let d : drop (r .place) q ++ rest ≡ drop (r .place - h .len) s =
-            let o : length (heldBytes h) + (r .place - h .len) ≡ r .place = omega arith in
-            sym (drop-append-le (r .place) q rest j)
-            ∙ ap (λ (a : List ℕ). drop (r .place) a) (sym e)
-            ∙ ap (λ (a : ℕ). drop a (heldBytes h ++ s)) (sym o)
-            ∙ drop-append-add (heldBytes h) s (r .place - h .len) in
+        let o : length (heldBytes h) + (r .place - h .len) ≡ r .place = omega arith in
+        sym (drop-append-le (r .place) q rest j)
+        ∙ ap (λ (a : List ℕ). drop (r .place) a) (sym e)
+        ∙ ap (λ (a : ℕ). drop a (heldBytes h ++ s)) (sym o)
+        ∙ drop-append-add (heldBytes h) s (r .place - h .len) in
         let y0 : Run = runOf (r .ended) (n - r .ended) (r .opened) 0 (stepsFrom c 0 0 (drop (r .place - h .len) s)) in
         let v' : y ≡ moved (r .place - h .len) y0 =
-            let o : r .place - h .len + 0 ≡ r .place - h .len = omega arith in
-            v ∙ rw o at (shift c (drop (r .place - h .len) s) (r .place - h .len) 0 (r .ended) (n - r .ended) (r .opened)) in
+        let o : r .place - h .len + 0 ≡ r .place - h .len = omega arith in
+        v ∙ rw o at (shift c (drop (r .place - h .len) s) (r .place - h .len) 0 (r .ended) (n - r .ended) (r .opened)) in
         let u : first (q ++ rest) ≡ moved (r .place) y0 = rw (← f, d) at (on q rest (sym (ap (λ (a : Run). a .halted) f) ∙ k)) in
         let m : moved (r .place) y0 ≡ moved (length (heldBytes h)) y =
-            let o : r .place + y0 .place ≡ length (heldBytes h) + (r .place - h .len + y0 .place) = omega arith in
-            (λ a. record { ended = y0 .ended; opened = y0 .opened; halted = y0 .halted; place = o a }) ∙ ap (moved (length (heldBytes h))) (sym v') in
+        let o : r .place + y0 .place ≡ length (heldBytes h) + (r .place - h .len + y0 .place) = omega arith in
+        (λ a. record { ended = y0 .ended; opened = y0 .opened; halted = y0 .halted; place = o a }) ∙ ap (moved (length (heldBytes h))) (sym v') in
         w
         ∙ sym (settled-behind (heldBytes h) s at y (omega arith))
         ∙ sym (all ∙ ap (settled (q ++ rest) (at - h .len)) (u ∙ m) ∙ rw (← e, l))
@@ -142,11 +142,11 @@ module _ (c : Coding) (n at : ℕ) (t : Standing) where
       let i = rests c q 0 (t .ended) (n - t .ended) (isSet (t .opened)) in
       let l : length (take (first q .place) q) ≡ first q .place = length-take-le (first q .place) q (omega (arith, i .1)) in
       let e : q ++ s ≡ take (first q .place) q ++ (drop (first q .place) q ++ s) =
-          ap (λ (x : List ℕ). x ++ s) (sym (take-append-drop (first q .place) q)) ∙ append-assoc (take (first q .place) q) (drop (first q .place) q) s in
+      ap (λ (x : List ℕ). x ++ s) (sym (take-append-drop (first q .place) q)) ∙ append-assoc (take (first q .place) q) (drop (first q .place) q) s in
       let x : Run = runOf (first q .ended) (n - first q .ended) (first q .opened) 0 (stepsFrom c 0 0 (drop (first q .place) q ++ s)) in
       let b : settled (take (first q .place) q ++ (drop (first q .place) q ++ s)) (at + first q .place - first q .place) (moved (first q .place) x) ≡ settled (drop (first q .place) q ++ s) (at + first q .place) x =
-          subst (λ (k : ℕ). settled (take (first q .place) q ++ (drop (first q .place) q ++ s)) (at + first q .place - k) (moved k x) ≡ settled (drop (first q .place) q ++ s) (at + first q .place) x) l
-          (settled-behind (take (first q .place) q) (drop (first q .place) q ++ s) (at + first q .place) x (omega arith)) in
+      subst (λ (k : ℕ). settled (take (first q .place) q ++ (drop (first q .place) q ++ s)) (at + first q .place - k) (moved k x) ≡ settled (drop (first q .place) q ++ s) (at + first q .place) x) l
+      (settled-behind (take (first q .place) q) (drop (first q .place) q ++ s) (at + first q .place) x (omega arith)) in
       let d : at + first q .place - first q .place ≡ at = omega arith in
       ap (settled (q ++ s) at) (on q s z)
       ∙ ap (λ (y : List ℕ). settled y at (moved (first q .place) x)) e
@@ -173,9 +173,9 @@ module _ (c : Coding) (n at : ℕ) (t : Standing) where
       let i = rests c q 0 (t .ended) (n - t .ended) (isSet (t .opened)) in
       ⊎-elim
       (λ (z : first q .halted ≡ 0).
-        let l = length-drop (first q .place) q in
-        let j = i .2 z in
-        rw (eq-eqb (first q .halted) 0 z) (omega (arith, l, j .1)))
+      let l = length-drop (first q .place) q in
+      let j = i .2 z in
+      rw (eq-eqb (first q .halted) 0 z) (omega (arith, l, j .1)))
       (λ (z : first q .halted ≡ 0 → ⊥). rw (ne-eqb (first q .halted) 0 z) (omega arith))
       (same (first q .halted) 0)
 
@@ -203,12 +203,16 @@ module _ (c : Coding) (n at : ℕ) (h : Held) (t : Standing) (l : length (heldBy
     where
       q : List ℕ
       q = heldBytes h ++ p
+
       F : Fed
       F = tableRead c n (at - h .len) t q
+
       r : Run
       r = first c n (at - h .len) t q
+
       assoc : heldBytes h ++ (p ++ s) ≡ q ++ s
       assoc = sym (append-assoc (heldBytes h) p s)
+
       on-going : t .halted ≡ 0 → r .halted ≡ 0 → tableFed c n at h t (p ++ s) ≡ tableFed c n (at + length p) (F .held) (F .standing) s
       on-going z k =
           let w = read-held c n (at - h .len) t q k in
@@ -222,10 +226,12 @@ module _ (c : Coding) (n at : ℕ) (h : Held) (t : Standing) (l : length (heldBy
           ∙ ap (tableRead c n (at - h .len) t) assoc
           ∙ read-on c n (at - h .len) t q s k
           ∙ sym (fed-reads (at + length p) (F .held) (F .standing) s (w .1) ∙ rw (o, d))
+
       stopped : t .halted ≡ 0 → (r .halted ≡ 0 → ⊥) → tableFed c n at h t (p ++ s) ≡ tableFed c n (at + length p) (F .held) (F .standing) s
       stopped z k =
           reads (p ++ s) z ∙ ap (tableRead c n (at - h .len) t) assoc ∙ read-off c n (at - h .len) t q s k
           ∙ no-more c n (at + length p) (F .held) (F .standing) s (λ i. k (sym (read-halted c n (at - h .len) t q) ∙ i))
+
       go : (t .halted ≡ 0) ⊎ (t .halted ≡ 0 → ⊥) → tableFed c n at h t (p ++ s) ≡ tableFed c n (at + length p) (tableFed c n at h t p .held) (tableFed c n at h t p .standing) s
       go (inl z) = rw (reads p z) (⊎-elim (on-going z) (stopped z) (same (r .halted) 0))
       go (inr z) = sym (no-more c n at h t (p ++ s) z) ∙ rw (← no-more c n at h t p z) (no-more c n (at + length p) h t s z)

@@ -118,9 +118,11 @@ module _ (c : Coding) where
     where
       T : List ℕ → Turn
       T p = turnOf (markLen c) g n o (readToken c p)
+
       -- nothing is read yet
       waits : runOf g (suc n) o at (stepsFrom c at 0 (b ∷ (q ++ s))) ≡ onward (g + suc n) s at (b ∷ q) (going g o at)
       waits = let e : g + suc n - g ≡ suc n = omega arith in let d : at - at ≡ 0 = omega arith in rw (e, d)
+
       go : (x : Turn) → TurnIn (length (b ∷ q)) x → Keeps g (g + suc n) x →
           runOf g (suc n) o at (stepsFrom c at 0 (b ∷ (q ++ s))) ≡ runOn c g o at (b ∷ (q ++ s)) x →
           ((p : List ℕ) → length p ≤ fuel → (at g n : ℕ) (o : Bool) → runOf g n o at (stepsFrom c at 0 (p ++ s)) ≡ onward (g + n) s at p (runOf g n o at (stepsFrom c at 0 p))) →
@@ -131,16 +133,17 @@ module _ (c : Coding) where
           let r : Run = runOf g' n' o' (at + l) (stepsFrom c (at + l) 0 (drop l (b ∷ q))) in
           let i = rests (drop l (b ∷ q)) (at + l) g' n' o' in
           let f : onward (g' + n') s (at + l) (drop l (b ∷ q)) r ≡ onward (g + suc n) s at (b ∷ q) r =
-              ⊎-elim
-              (λ (y : r .halted ≡ 0).
-                let j : l + (r .place - (at + l)) ≡ r .place - at = omega (arith, i .2 y .0) in
-                let d : drop (r .place - (at + l)) (drop l (b ∷ q)) ≡ drop (r .place - at) (b ∷ q) = drop-drop (r .place - (at + l)) l (b ∷ q) ∙ ap (λ (m : ℕ). drop m (b ∷ q)) j in
-                rw (w .1, d))
-              (λ (y : r .halted ≡ 0 → ⊥). rw (ne-eqb (r .halted) 0 y))
-              (same (r .halted) 0) in
+          ⊎-elim
+          (λ (y : r .halted ≡ 0).
+          let j : l + (r .place - (at + l)) ≡ r .place - at = omega (arith, i .2 y .0) in
+          let d : drop (r .place - (at + l)) (drop l (b ∷ q)) ≡ drop (r .place - at) (b ∷ q) = drop-drop (r .place - (at + l)) l (b ∷ q) ∙ ap (λ (m : ℕ). drop m (b ∷ q)) j in
+          rw (w .1, d))
+          (λ (y : r .halted ≡ 0 → ⊥). rw (ne-eqb (r .halted) 0 y))
+          (same (r .halted) 0) in
           e ∙ rw a (ih (drop l (b ∷ q)) (omega (arith, z .0)) (at + l) g' n' o') ∙ f
       go (Stop k) z w e ih = e
       go Wait z w e ih = waits
+
       by : (readToken c (b ∷ q) ≡ Cut) ⊎ (readToken c (b ∷ (q ++ s)) ≡ readToken c (b ∷ q)) →
           ((p : List ℕ) → length p ≤ fuel → (at g n : ℕ) (o : Bool) → runOf g n o at (stepsFrom c at 0 (p ++ s)) ≡ onward (g + n) s at p (runOf g n o at (stepsFrom c at 0 p))) →
           runOf g (suc n) o at (stepsFrom c at 0 (b ∷ (q ++ s))) ≡ onward (g + suc n) s at (b ∷ q) (runOf g (suc n) o at (stepsFrom c at 0 (b ∷ q)))
@@ -149,7 +152,7 @@ module _ (c : Coding) where
           waits ∙ ap (onward (g + suc n) s at (b ∷ q)) (sym r)
       by (inr e) ih =
           let f : runOf g (suc n) o at (stepsFrom c at 0 (b ∷ (q ++ s))) ≡ runOn c g o at (b ∷ (q ++ s)) (T (b ∷ q)) =
-              turns c g n at b (q ++ s) o .0 ∙ ap (λ (x : Token). runOn c g o at (b ∷ (q ++ s)) (turnOf (markLen c) g n o x)) e in
+          turns c g n at b (q ++ s) o .0 ∙ ap (λ (x : Token). runOn c g o at (b ∷ (q ++ s)) (turnOf (markLen c) g n o x)) e in
           go (T (b ∷ q)) (turns c g n at b q o .2) (keeps (markLen c) g n o (readToken c (b ∷ q))) f ih
           ∙ ap (onward (g + suc n) s at (b ∷ q)) (sym (turns c g n at b q o .0))
 

@@ -51,7 +51,7 @@ pub put-held : (h : Held) (s bytes : List ℕ) → bytes ≡ over (heldBytes h +
     (take (h .len + length s) bytes ≡ heldBytes h ++ s) × (h .len + length s ≡ h .len + length s) × (length bytes ≡ 32)
 put-held h s bytes e k w =
     let l : length (heldBytes h ++ s) ≡ h .len + length s =
-        length-append (heldBytes h) s ∙ ap (λ (n : ℕ). n + length s) (length-take-le (h .len) (h .bytes) (omega arith)) in
+    length-append (heldBytes h) s ∙ ap (λ (n : ℕ). n + length s) (length-take-le (h .len) (h .bytes) (omega arith)) in
     (rw (e, ← l) (front (heldBytes h ++ s) (h .bytes)), refl, ap (λ (x : List ℕ). length x) e ∙ length-over (heldBytes h ++ s) (h .bytes) (omega arith) ∙ w)
 
 pub none-len : (h : Held) → h ≡ heldOf [] → h .len ≡ 0

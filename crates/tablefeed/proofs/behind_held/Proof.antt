@@ -79,7 +79,7 @@ settle-requires c κs =
     let l : length (heldBytes (a .h)) ≡ a .h .len = length-take-le (a .h .len) (a .h .bytes) (omega (arith, w, c .before .before .before .before .before .before .before .before .before .before .before .pre .1)) in
     let q : List ℕ = take (a .h .len + m) (c .before .before .before .before .before .before .before .put .result .bytes) in
     let e : heldBytes (a .h) ++ a .part .now ≡ q ++ drop m (a .part .now) =
-        split (heldBytes (a .h)) (a .part .now) m ∙ ap (λ (x : List ℕ). x ++ drop m (a .part .now)) (sym (rw n at (p .0))) in
+    split (heldBytes (a .h)) (a .part .now) m ∙ ap (λ (x : List ℕ). x ++ drop m (a .part .now)) (sym (rw n at (p .0))) in
     let f : c .before .before .before .run-through .result ≡ runOf (a .t .ended) (a .n - a .t .ended) (isSet (a .t .opened)) 0 (stepsFrom (a .c) 0 0 q) = rw (c .before .before .before .before .is-set .ensures) at (c .before .before .before .run-through .ensures) in
     let i = at-rest (a .c) q 0 _ _ _ _ (omega arith) f in
     (i, omega (arith, lq, c .before .before .before .before .before .before .before .before .before .least-of .ensures .0))
@@ -96,7 +96,7 @@ returns c =
     let l : length (heldBytes (a .h)) ≡ a .h .len = length-take-le (a .h .len) (a .h .bytes) (omega (arith, w, c .before .before .before .before .before .before .before .before .before .before .before .before .pre .1)) in
     let q : List ℕ = take (a .h .len + m) (c .before .before .before .before .before .before .before .before .put .result .bytes) in
     let e : heldBytes (a .h) ++ a .part .now ≡ q ++ drop m (a .part .now) =
-        split (heldBytes (a .h)) (a .part .now) m ∙ ap (λ (x : List ℕ). x ++ drop m (a .part .now)) (sym (rw n at (p .0))) in
+    split (heldBytes (a .h)) (a .part .now) m ∙ ap (λ (x : List ℕ). x ++ drop m (a .part .now)) (sym (rw n at (p .0))) in
     let f : c .before .before .before .before .run-through .result ≡ runOf (a .t .ended) (a .n - a .t .ended) (isSet (a .t .opened)) 0 (stepsFrom (a .c) 0 0 q) = rw (c .before .before .before .before .before .is-set .ensures) at (c .before .before .before .before .run-through .ensures) in
     stops (a .c) (a .n) (a .at) (a .t) (a .h) (a .part .now) q _ (c .before .before .before .before .before .before .before .before .before .before .before .before .pre .0) l (omega (arith, c .before .before .before .before .before .before .before .before .before .before .before .before .pre .2)) e _ f (c .before .before .if1 .taken) _ (c .settle .ensures)
 
@@ -128,7 +128,7 @@ settle-requires-2 c κs =
     let l : length (heldBytes (a .h)) ≡ a .h .len = length-take-le (a .h .len) (a .h .bytes) (omega (arith, w, c .before .before .before .before .before .before .before .before .before .before .before .before .before .pre .1)) in
     let q : List ℕ = take (a .h .len + m) (c .before .before .before .before .before .before .before .before .before .put .result .bytes) in
     let e : heldBytes (a .h) ++ a .part .now ≡ q ++ drop m (a .part .now) =
-        split (heldBytes (a .h)) (a .part .now) m ∙ ap (λ (x : List ℕ). x ++ drop m (a .part .now)) (sym (rw n at (p .0))) in
+    split (heldBytes (a .h)) (a .part .now) m ∙ ap (λ (x : List ℕ). x ++ drop m (a .part .now)) (sym (rw n at (p .0))) in
     let f : c .before .before .before .before .before .run-through .result ≡ runOf (a .t .ended) (a .n - a .t .ended) (isSet (a .t .opened)) 0 (stepsFrom (a .c) 0 0 q) = rw (c .before .before .before .before .before .before .is-set .ensures) at (c .before .before .before .before .before .run-through .ensures) in
     let i = at-rest (a .c) q 0 _ _ _ _ (omega arith) f in
     (i, omega (arith, lq, c .before .before .before .before .before .before .before .before .before .before .before .least-of .ensures .0))
@@ -145,7 +145,7 @@ returns-2 c =
     let l : length (heldBytes (a .h)) ≡ a .h .len = length-take-le (a .h .len) (a .h .bytes) (omega (arith, w, c .before .before .before .before .before .before .before .before .before .before .before .before .before .before .pre .1)) in
     let q : List ℕ = take (a .h .len + m) (c .before .before .before .before .before .before .before .before .before .before .put .result .bytes) in
     let e : heldBytes (a .h) ++ a .part .now ≡ q ++ drop m (a .part .now) =
-        split (heldBytes (a .h)) (a .part .now) m ∙ ap (λ (x : List ℕ). x ++ drop m (a .part .now)) (sym (rw n at (p .0))) in
+    split (heldBytes (a .h)) (a .part .now) m ∙ ap (λ (x : List ℕ). x ++ drop m (a .part .now)) (sym (rw n at (p .0))) in
     let f : c .before .before .before .before .before .before .run-through .result ≡ runOf (a .t .ended) (a .n - a .t .ended) (isSet (a .t .opened)) 0 (stepsFrom (a .c) 0 0 q) = rw (c .before .before .before .before .before .before .before .is-set .ensures) at (c .before .before .before .before .before .before .run-through .ensures) in
     let i = at-rest (a .c) q 0 _ _ _ _ (omega arith) f in
     let j = i .1 (c .before .before .before .before .if1 .left) in
@@ -168,7 +168,7 @@ settle-requires-3 c κs =
     let l : length (heldBytes (a .h)) ≡ a .h .len = length-take-le (a .h .len) (a .h .bytes) (omega (arith, w, c .before .before .before .before .before .before .before .before .before .before .before .before .before .before .pre .1)) in
     let q : List ℕ = take (a .h .len + m) (c .before .before .before .before .before .before .before .before .before .before .put .result .bytes) in
     let e : heldBytes (a .h) ++ a .part .now ≡ q ++ drop m (a .part .now) =
-        split (heldBytes (a .h)) (a .part .now) m ∙ ap (λ (x : List ℕ). x ++ drop m (a .part .now)) (sym (rw n at (p .0))) in
+    split (heldBytes (a .h)) (a .part .now) m ∙ ap (λ (x : List ℕ). x ++ drop m (a .part .now)) (sym (rw n at (p .0))) in
     let f : c .before .before .before .before .before .before .run-through .result ≡ runOf (a .t .ended) (a .n - a .t .ended) (isSet (a .t .opened)) 0 (stepsFrom (a .c) 0 0 q) = rw (c .before .before .before .before .before .before .before .is-set .ensures) at (c .before .before .before .before .before .before .run-through .ensures) in
     let i = at-rest (a .c) q 0 _ _ _ _ (omega arith) f in
     (at-rest (a .c) (a .part .now) (c .before .before .before .before .before .before .run-through .result .place - a .h .len) _ _ _ _ (omega (arith, lq, i .0, c .before .before .before .before .before .before .before .before .before .before .before .before .before .before .pre .1, c .before .before .before .before .before .before .before .before .before .before .before .before .least-of .ensures .0)) (c .run-through2 .ensures), omega (arith, c .before .before .before .before .before .before .before .before .before .before .before .before .before .before .pre .3))
@@ -185,7 +185,7 @@ returns-3 c =
     let l : length (heldBytes (a .h)) ≡ a .h .len = length-take-le (a .h .len) (a .h .bytes) (omega (arith, w, c .before .before .before .before .before .before .before .before .before .before .before .before .before .before .before .pre .1)) in
     let q : List ℕ = take (a .h .len + m) (c .before .before .before .before .before .before .before .before .before .before .before .put .result .bytes) in
     let e : heldBytes (a .h) ++ a .part .now ≡ q ++ drop m (a .part .now) =
-        split (heldBytes (a .h)) (a .part .now) m ∙ ap (λ (x : List ℕ). x ++ drop m (a .part .now)) (sym (rw n at (p .0))) in
+    split (heldBytes (a .h)) (a .part .now) m ∙ ap (λ (x : List ℕ). x ++ drop m (a .part .now)) (sym (rw n at (p .0))) in
     let f : c .before .before .before .before .before .before .before .run-through .result ≡ runOf (a .t .ended) (a .n - a .t .ended) (isSet (a .t .opened)) 0 (stepsFrom (a .c) 0 0 q) = rw (c .before .before .before .before .before .before .before .before .is-set .ensures) at (c .before .before .before .before .before .before .before .run-through .ensures) in
     let i = at-rest (a .c) q 0 _ _ _ _ (omega arith) f in
     goes-on (a .c) (a .n) (a .at) (a .t) (a .h) (a .part .now) q _ (c .before .before .before .before .before .before .before .before .before .before .before .before .before .before .before .pre .0) l (omega (arith, c .before .before .before .before .before .before .before .before .before .before .before .before .before .before .before .pre .2)) e _ f (c .before .before .before .before .before .if1 .left) (omega arith) (omega (arith, i .0)) _ (c .before .run-through2 .ensures) _ (c .settle3 .ensures)

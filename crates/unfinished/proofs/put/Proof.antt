@@ -59,7 +59,7 @@ returns c =
     let a = c .before .before .before .args in
     let w : length (a .h .bytes) ≡ 32 = c .before .loop .inv .2 in
     let e : c .before .loop .bytes ≡ over (take (a .h .len) (a .h .bytes) ++ a .s .now) (a .h .bytes) =
-        c .before .loop .inv .3 ∙ ap (λ (p : List ℕ). over (take (a .h .len) (a .h .bytes) ++ p) (a .h .bytes)) (take-all (c .before .loop .i) (a .s .now) (omega arith)) in
+    c .before .loop .inv .3 ∙ ap (λ (p : List ℕ). over (take (a .h .len) (a .h .bytes) ++ p) (a .h .bytes)) (take-all (c .before .loop .i) (a .s .now) (omega arith)) in
     (λ i. record { len = a .h .len + length (a .s .now); bytes = e i }, put-held (a .h) (a .s .now) _ e (omega arith) w)
 
 pub put-spec : {M : Type 1} → statement M
