@@ -91,6 +91,9 @@ impl Asking<'_> {
             self.fed(pieces.into_iter(), whole, &|| format!("cut at {a}"));
         }
         for a in (0..=length).step_by(length / SMALL + 1) {
+            if self.tally.differences > 20 {
+                break;
+            }
             for b in a..=length {
                 let pieces = [&file[..a], &file[a..b], &file[b..]];
                 self.fed(pieces.into_iter(), whole, &|| format!("cut at {a} and {b}"));
