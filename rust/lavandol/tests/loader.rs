@@ -55,6 +55,45 @@ fn a_line_that_breaks_off() {
     }
 }
 
+/// Each sample with one byte changed, in frames that its parts straddle.
+#[test]
+fn damage_is_told_as_of_the_whole_file() {
+    let mut reasons = Vec::new();
+    for file in [PSF2, VFONT2, &LETTERS[..2100]] {
+        for at in (0..file.len()).filter(|at| *at < 100 || *at > 2040) {
+            for byte in [0, 1, 3, 0x41, 0x80, 0xC3, 0xFE, 0xFF] {
+                let mut damaged = file.to_vec();
+                damaged[at] = byte;
+                let whole = check(&damaged);
+                assert_eq!(loaded(damaged.chunks(5)), whole, "byte {at} is {byte:X}");
+                reasons.extend(whole.err().map(|r| r.number()));
+            }
+        }
+    }
+    reasons.sort();
+    reasons.dedup();
+    assert_eq!(reasons, [2, 4, 5, 6, 7, 8, 9, 10, 11, 12]);
+}
+
+/// A start mark behind a start mark in PSF1: bad at its second byte. The vfont2 font with two
+/// broken entries: the first of them; with a wrong greatest width: 28.
+#[test]
+fn places_that_a_cut_could_move() {
+    let mut marks = LETTERS.to_vec();
+    marks[2052..2056].copy_from_slice(&[0xFE, 0xFF, 0xFE, 0xFF]);
+    let mut entries = VFONT2.to_vec();
+    (entries[36], entries[54]) = (9, 9); // the sizes of both
+    let mut width = VFONT2.to_vec();
+    width[28] = 4;
+    for (file, reason, place) in
+        [(marks, Reason::TableBad, 2055), (entries, Reason::Entry, 32), (width, Reason::Entry, 28)]
+    {
+        for length in 1..=64 {
+            assert_eq!(loaded(file.chunks(length)), Err(Refusal { reason, place }));
+        }
+    }
+}
+
 #[test]
 fn nothing_fed_is_the_empty_file() {
     let kind = Refusal { reason: Reason::Kind, place: 0 };
