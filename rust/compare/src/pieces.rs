@@ -25,13 +25,12 @@ impl Asking<'_> {
     /// Feeds the pieces, of which `how` tells, closes, and goes on after the close.
     fn fed<'p>(
         &mut self,
-        pieces: impl Iterator<Item = &'p [u8]>,
+        mut pieces: impl Iterator<Item = &'p [u8]>,
         whole: Answer<Shape>,
         how: &dyn Fn() -> String,
     ) {
         let mut loader = Loader::new();
-        // the first refusal, if there is one
-        let taken = pieces.fold(Ok(()), |so_far, piece| so_far.and(loader.feed(piece)));
+        let taken = pieces.try_for_each(|piece| loader.feed(piece));
         self.same(ours(taken), Ok(()), || format!("feed, {}", how()));
         self.same(ours(loader.close()).map(shape), whole, || format!("close, {}", how()));
         let closed = loader.clone();
@@ -147,7 +146,7 @@ type Part = (usize, fn(usize, &mut Tally));
 
 const PARTS: [Part; 8] = [
     (80, large),
-    (200, small),
+    (600, small),
     (LIST_JOBS, |j, t| listed(14, j, fonts::headers(), t)),
     (LIST_JOBS, |j, t| listed(15, j, fonts::entries(), t)),
     (LIST_JOBS, |j, t| listed(18, j, fonts::modes(), t)),

@@ -138,7 +138,9 @@ fn call(lent: &mut Lent, piece: Option<&[u8]>, tally: &mut Tally) {
     asking.same(around, Ok(([0xA5; 64], [0x5A; 64])), question);
     if before.is_closed() {
         asking.same(Ok((answer, lent.record)), Ok(((22, 0), before)), question);
-        asking.same(Ok(members.unwrap_or_default()), Ok((0, [0; 8])), question);
+        if let Some(members) = members {
+            asking.same(Ok(members), Ok((0, [0; 8])), question);
+        }
     } else if let Some((kind, numbers)) = members {
         asking.same(Ok(lent.record.is_closed()), Ok(true), question);
         if before.tells_a_refusal() {
