@@ -39,8 +39,9 @@ extern "C" {
 #endif
 
 /*
- * Refusals. The first member of each answer is `refusal`, a lav_refusal. Its number is 0 (LAV_OK) where the question is answered; then
- * its place is 0. Else its number is one of those below, its place tells where, and all other members of the answer are 0.
+ * Refusals. The first member of each answer is `refusal`, a lav_refusal (lav_loader_feed answers a lav_refusal alone, lav_loader_fresh a
+ * record without one). Its number is 0 (LAV_OK) where the question is answered; then its place is 0. Else its number is one of those
+ * below, its place tells where, and all other members of the answer are 0.
  *
  * Every call on a file gives the font's own refusal, 1 to 12, before any other. They are tried in this order and the first that applies
  * is given, so a font that is refused is refused by all calls alike. The places of 1 to 12 are offsets in the file; the place of 13 to
