@@ -1,8 +1,8 @@
 /*
  * Calls the library once for each figure of tools/bench, each from a function of its own whose instructions callgrind counts:
- *   driver FONT       prints the value of the last glyph that is looked up, and the stack that each call used
+ *   driver FONT       prints the value of the last glyph that is looked up, the size of a loader, and the stack that each call used
  *   driver FONT CALL OUT   converts by CALL (psf2_to_vfont2, ..) and writes the file OUT
- *   driver FONT ROUNDS     prints the best time of a check and of a lookup that finds nothing, in microseconds
+ *   driver FONT ROUNDS     prints the best time of a check, of a lookup that finds nothing and of a load in frames, in microseconds
  */
 #include <lavandol.h>
 #include <stdio.h>
@@ -17,8 +17,11 @@ static size_t length, bitmaps, bitmap_bytes;
 static uint32_t last;
 static volatile size_t kept; /* so that no call is left out */
 
-/* A library from before this call was there is measured without it. */
+/* A library from before these calls were there is measured without them; NO_LOADER: its header has no loader. */
 #pragma weak lav_metrics
+#pragma weak lav_loader_fresh
+#pragma weak lav_loader_feed
+#pragma weak lav_loader_close
 
 /* Whether an answer is a refusal; before version 2 its number stood in the answer itself. */
 #if LAVANDOL_VERSION + 0 < 2
@@ -45,13 +48,40 @@ __attribute__((noinline)) void bench_copy(void) { memcpy(out, file, length); kep
 __attribute__((noinline)) void bench_bitmaps(void) { memcpy(out, file + bitmaps, bitmap_bytes); kept += out[0]; }
 __attribute__((noinline)) void bench_empty(void) { kept += length; }
 
+/* The font as it arrives: a fresh loader, frames of FRAME bytes, the close. */
+#define FRAME 64
+#ifdef NO_LOADER
+#define HAS_LOADER 0
+#define LOADER_BYTES (size_t)0
+static size_t loaded;
+static void bench_loader_fresh(void) {}
+static void bench_loader_feed(void) {}
+static void bench_loader_close(void) {}
+static void bench_byte_by_byte(void) {}
+#else
+#define HAS_LOADER (lav_loader_fresh && lav_loader_feed && lav_loader_close)
+#define LOADER_BYTES sizeof(lav_loader)
+static lav_loader loader;
+static size_t loaded; /* glyphs by the last close */
+static void feed(size_t frame) {
+    for (size_t at = 0; at < length; at += frame) kept += lav_loader_feed(&loader, file + at, length - at < frame ? length - at : frame).number;
+}
+__attribute__((noinline)) void bench_loader_fresh(void) { loader = lav_loader_fresh(); }
+__attribute__((noinline)) void bench_loader_feed(void) { feed(FRAME); }
+__attribute__((noinline)) void bench_loader_close(void) { loaded = lav_loader_close(&loader).count; }
+__attribute__((noinline)) void bench_byte_by_byte(void) { loader = lav_loader_fresh(); feed(1); loaded = lav_loader_close(&loader).count; }
+#endif
+static void in_frames(void) { bench_loader_fresh(); bench_loader_feed(); bench_loader_close(); }
+
 static const struct { const char *name; void (*call)(void); } FIGURES[] = {
     {"check", bench_check}, {"find_value, nothing found", bench_none}, {"find_value, last glyph", bench_last},
     {"psf1_to_psf2", bench_psf1_to_psf2}, {"psf2_to_psf1", bench_psf2_to_psf1},
     {"psf2_to_vfont2", bench_psf2_to_vfont2}, {"vfont2_to_psf2", bench_vfont2_to_psf2},
     {"glyph", bench_glyph}, {"row", bench_row}, {"pixel", bench_pixel}, {"metrics", bench_metrics},
     {"item", bench_item}, {"find_sequence", bench_sequence},
+    {"loader_fresh", bench_loader_fresh}, {"loader_feed", bench_loader_feed}, {"loader_close", bench_loader_close},
 };
+#define LOADER_FIGURES 3 /* the last ones */
 
 static double best_of(void (*call)(void), int rounds) {
     double best = 1e9;
@@ -95,7 +125,9 @@ int main(int argc, char **argv) {
     bitmap_bytes = font.end - font.bitmaps;
     if (argc == 3) {
         int rounds = atoi(argv[2]);
-        printf("check %.2f us lookup %.2f us\n", best_of(bench_check, rounds), best_of(bench_none, rounds));
+        printf("check %.2f us lookup %.2f us", best_of(bench_check, rounds), best_of(bench_none, rounds));
+        if (HAS_LOADER) printf(" frames %.2f us", best_of(in_frames, rounds));
+        putchar('\n');
         return 0;
     }
     if (argc == 4) {
@@ -111,10 +143,20 @@ int main(int argc, char **argv) {
     printf("last %X\n", (unsigned)last);
     bench_copy();
     bench_bitmaps();
+    size_t figures = sizeof FIGURES / sizeof *FIGURES;
+    if (HAS_LOADER) {
+        printf("loader %zu\n", LOADER_BYTES);
+        bench_byte_by_byte();
+        if (loaded != font.count) return 1;
+        loaded = 0;
+    } else {
+        figures -= LOADER_FIGURES;
+    }
     size_t base = stack_of(bench_empty);
-    for (size_t i = 0; i < sizeof FIGURES / sizeof *FIGURES; i++) {
+    for (size_t i = 0; i < figures; i++) {
         size_t used = stack_of(FIGURES[i].call);
         printf("stack %zu %s\n", used - base, FIGURES[i].name);
     }
-    return 0;
+    /* the load in frames was a load */
+    return HAS_LOADER && loaded != font.count;
 }

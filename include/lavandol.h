@@ -9,14 +9,16 @@
  * - A slice is a pointer and a number of elements: `file, file_len` are bytes, `values, value_count` are uint32_t. So many elements can
  *   be read there (written, for a buffer). The pointer must not be NULL, not even where the length is 0: pass the address of any byte
  *   then (of a uint32_t for `values`); nothing is read or written there. A slice of uint32_t is aligned.
- * - A lent slice does not change during the call, and a buffer overlaps nothing else that the call is lent.
+ * - A lent slice does not change during the call; a buffer, or a record that is lent to be changed (lav_loader), overlaps nothing else
+ *   that the call is lent.
  * - The pointers are not kept: memory may be moved or freed after the call.
  *
  * The functions allocate nothing, have no global state and no locks, and call nothing: the archive needs no C library. So they may run
  * in several threads at once, and in an interrupt handler; but lav_check, lav_metrics and the four conversions use SSE registers (the
  * compiler's doing; tools/try-boundary reads it off the archive), so a handler that does not save them must not call these six. They
- * need at most about 600 bytes of stack (docs/BENCHMARK.md), whatever the font. Each call checks the font first, one pass over the
- * header, the vfont2 entries and the Unicode table; a walk or a lookup is another pass over the Unicode table at most, a conversion two.
+ * need at most about 600 bytes of stack (docs/BENCHMARK.md), whatever the font. Each call on a file checks the font first, one pass over
+ * the header, the vfont2 entries and the Unicode table; a walk or a lookup is another pass over the Unicode table at most, a conversion
+ * two. A font that arrives piece by piece is checked as it comes (lav_loader), in the same one pass.
  *
  * Numbers in the files are little endian. Glyphs, rows, columns and items are counted from 0.
  */
@@ -26,7 +28,10 @@
 #include <stddef.h>
 #include <stdint.h>
 
-/* The number of this interface: it grows when a declaration below changes. Since 2 every answer begins with a lav_refusal. */
+/*
+ * The number of this interface: it grows when a declaration below changes, not when one is added. Since 2 every answer begins with a
+ * lav_refusal.
+ */
 #define LAVANDOL_VERSION 2
 
 #ifdef __cplusplus
@@ -34,12 +39,13 @@ extern "C" {
 #endif
 
 /*
- * Refusals. The first member of each answer is `refusal`, a lav_refusal. Its number is 0 (LAV_OK) where the question is answered; then
- * its place is 0. Else its number is one of those below, its place tells where, and all other members of the answer are 0.
+ * Refusals. The first member of each answer is `refusal`, a lav_refusal (lav_loader_feed answers a lav_refusal alone, lav_loader_fresh a
+ * record without one). Its number is 0 (LAV_OK) where the question is answered; then its place is 0. Else its number is one of those
+ * below, its place tells where, and all other members of the answer are 0.
  *
- * Every call gives the font's own refusal, 1 to 12, before any other. They are tried in this order and the first that applies is
- * given, so a font that is refused is refused by all calls alike. The places of 1 to 12 are offsets in the file; the place of 13 to 16
- * is 0; those of 17 to 21 are said at each.
+ * Every call on a file gives the font's own refusal, 1 to 12, before any other. They are tried in this order and the first that applies
+ * is given, so a font that is refused is refused by all calls alike. The places of 1 to 12 are offsets in the file; the place of 13 to
+ * 16 is 0; those of 17 to 23 are said at each.
  */
 enum {
     LAV_OK = 0,
@@ -70,7 +76,10 @@ enum {
                             (greatest height, 0, 0, greatest width, greatest width) */
     LAV_VALUE = 19,      /* the target can't have a value: a surrogate (PSF1 to PSF2), above FFFD (to PSF1); place: its first byte */
     LAV_SIZE = 20,       /* the output would be over 1,048,576 bytes; place 0 */
-    LAV_ROOM = 21        /* the lent buffer is shorter than the output; place: the size needed */
+    LAV_ROOM = 21,       /* the lent buffer is shorter than the output; place: the size needed */
+
+    LAV_LATE = 22,       /* a piece or a close for a loader that is closed, which stays as it was; place 0 */
+    LAV_LINE = 23        /* no call gives it: the program fontload does, for a line that is no frame; place: the line's number, from 1 */
 };
 
 /* Kinds of font (`kind` of lav_font). */
@@ -81,7 +90,7 @@ enum { LAV_SINGLE = 1, LAV_START = 2, LAV_VALUE_IN_SEQUENCE = 3, LAV_END = 4 };
 
 /* A refusal, the first member of every answer. */
 typedef struct {
-    uint32_t number; /* LAV_OK where the question is answered, else LAV_TOO_LONG to LAV_ROOM */
+    uint32_t number; /* LAV_OK where the question is answered, else LAV_TOO_LONG to LAV_LATE */
     uint64_t place;
 } lav_refusal;
 
@@ -129,6 +138,37 @@ typedef struct {
     size_t number;
 } lav_number;
 
+/*
+ * The state of a font's check while the font arrives: see lav_loader_fresh. The caller owns the record and lends it; its members, and the
+ * three structs that it is made of, are the library's own, not to be read or set. Between calls it may be copied or moved like any struct.
+ */
+typedef struct {
+    size_t len; /* so many bytes of the header, of a vfont2 entry or of a value or mark have come, but not all */
+    uint8_t bytes[32];
+} lav_held;
+
+typedef struct {
+    size_t broken; /* where the first vfont2 entry that breaks a rule starts, or 0 */
+    size_t height; /* the greatest height and width of the entries so far */
+    size_t width;
+} lav_sums;
+
+typedef struct {
+    size_t ended;  /* descriptions of the Unicode table that are complete */
+    size_t opened; /* 1 just after a start mark, else 0 */
+    size_t halted; /* LAV_TABLE_BAD or LAV_TRAILING once that is sure, with its place; else 0 */
+    size_t place;
+} lav_standing;
+
+typedef struct {
+    size_t total;  /* bytes so far */
+    size_t closed; /* 0 until the close */
+    uint8_t header[32];
+    lav_held held;
+    lav_sums sums;
+    lav_standing standing;
+} lav_loader;
+
 /* The sizes that the library's own structs have, and where their members stand: a compiler that lays them out otherwise stops here. */
 #if defined __cplusplus && __cplusplus >= 201103L
 #define LAVANDOL_ASSERT static_assert
@@ -170,6 +210,25 @@ LAVANDOL_AT(lav_item_answer, value, 20);
 LAVANDOL_SIZE(lav_number, 24);
 LAVANDOL_AT(lav_number, refusal, 0);
 LAVANDOL_AT(lav_number, number, 16);
+LAVANDOL_SIZE(lav_held, 40);
+LAVANDOL_AT(lav_held, len, 0);
+LAVANDOL_AT(lav_held, bytes, 8);
+LAVANDOL_SIZE(lav_sums, 24);
+LAVANDOL_AT(lav_sums, broken, 0);
+LAVANDOL_AT(lav_sums, height, 8);
+LAVANDOL_AT(lav_sums, width, 16);
+LAVANDOL_SIZE(lav_standing, 32);
+LAVANDOL_AT(lav_standing, ended, 0);
+LAVANDOL_AT(lav_standing, opened, 8);
+LAVANDOL_AT(lav_standing, halted, 16);
+LAVANDOL_AT(lav_standing, place, 24);
+LAVANDOL_SIZE(lav_loader, 144);
+LAVANDOL_AT(lav_loader, total, 0);
+LAVANDOL_AT(lav_loader, closed, 8);
+LAVANDOL_AT(lav_loader, header, 16);
+LAVANDOL_AT(lav_loader, held, 48);
+LAVANDOL_AT(lav_loader, sums, 88);
+LAVANDOL_AT(lav_loader, standing, 112);
 #undef LAVANDOL_AT
 #undef LAVANDOL_SIZE
 #undef LAVANDOL_ASSERT
@@ -249,6 +308,36 @@ lav_number lav_psf2_to_vfont2(const uint8_t *file, size_t file_len, uint8_t *out
 
 /* GLYPHS: an entry without a glyph, or with other metrics than (greatest height, 0, 0, greatest width, greatest width). */
 lav_number lav_vfont2_to_psf2(const uint8_t *file, size_t file_len, uint8_t *out, size_t out_len);
+
+/*
+ * A font that arrives piece by piece, over a serial line say, is checked as it comes: a loader is fed any number of pieces of any length,
+ * in their order, and asked once at the end. It keeps none of the pieces: a program that wants the font stores them itself. The caller
+ * owns the record, 144 bytes wherever it likes, and lends it to each call, which changes it; nothing is allocated.
+ *     lav_loader loader = lav_loader_fresh();
+ *     while ((length = receive(frame, sizeof frame)) > 0) lav_loader_feed(&loader, frame, length);
+ *     lav_font font = lav_loader_close(&loader);                                   (font.refusal.number is 0 where the font is sound)
+ * Pieces are judged at the close alone: a bad font is fed to its end like a good one. A loader serves one font; for the next one, and to
+ * give one up, set the record to lav_loader_fresh() again. Two calls must not be lent the same record at once.
+ *
+ * Any 144 bytes may be lent. A record that the calls below did not make counts as closed where `closed` is not 0 or `held.len` is a number
+ * that feeding never leaves: other than `total` where that is below 32, else above 17. Any other is taken at its word. No call touches
+ * memory outside the record and the piece.
+ */
+
+/* A loader that has been fed nothing. */
+lav_loader lav_loader_fresh(void);
+
+/*
+ * Feeds the next piece, also one of length 0 (`piece` is not NULL even then). The answer's number is 0: the piece is taken, whatever its
+ * bytes are. Refusals: LATE (place 0), the loader is closed and stays as it was.
+ */
+lav_refusal lav_loader_feed(lav_loader *loader, const uint8_t *piece, size_t piece_len);
+
+/*
+ * What lav_check answers on all pieces joined, in every member, and closes the loader, whatever the answer. Refusals: 1 to 12, as the
+ * whole file's; LATE (place 0), the loader was closed before and stays as it was.
+ */
+lav_font lav_loader_close(lav_loader *loader);
 
 #ifdef __cplusplus
 }

@@ -15,6 +15,7 @@ static uint8_t file[1048577]; /* one byte over the limit, so that a longer file 
 static const char *const names[] = {
     "answered", "too long", "kind", "header cut", "version", "header size", "count", "shape", "body cut", "entry", "table cut",
     "table bad", "trailing", "ask", "no table", "unmapped", "no glyph", "wrong kind", "glyphs", "value", "size", "room",
+    "late", "line",
 };
 
 /* Tells a refusal by number, place and name: `C5: refused 15 0 (unmapped)`. */

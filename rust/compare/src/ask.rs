@@ -44,19 +44,22 @@ fn tell(question: String, file: &[u8], ours: String, theirs: String) {
 
 /// Kind, count, height, width, whether there is a table; offsets of entries, bitmaps
 /// and their end; size.
-type Shape = (&'static str, [usize; 3], bool, [usize; 4]);
+pub type Shape = (&'static str, [usize; 3], bool, [usize; 4]);
 
-/// What both say of a sound font.
-pub fn checked(file: &[u8]) -> (Answer<Shape>, Answer<Shape>, Option<second::Font>) {
-    let name = |kind| match kind {
+/// What the library says of a sound font.
+pub fn shape(f: lavandol::Font) -> Shape {
+    let name = match f.kind {
         lavandol::Kind::Psf1 => "psf1",
         lavandol::Kind::Psf2 => "psf2",
         lavandol::Kind::Vfont2 => "vfont2",
     };
-    let a = ours(lavandol::check(file)).map(|f| {
-        let places = [f.entries, f.bitmaps, f.end, f.size];
-        (name(f.kind), [f.count, f.height, f.width], f.table, places)
-    });
+    let places = [f.entries, f.bitmaps, f.end, f.size];
+    (name, [f.count, f.height, f.width], f.table, places)
+}
+
+/// What both say of a sound font.
+pub fn checked(file: &[u8]) -> (Answer<Shape>, Answer<Shape>, Option<second::Font>) {
+    let a = ours(lavandol::check(file)).map(shape);
     let font = second::check(file);
     let b = theirs(font.as_ref().map_err(|r| *r)).map(|f| {
         let bytes = f.table_at - f.bitmaps_at;

@@ -7,13 +7,13 @@ use std::io::Write;
 use std::process::{Command, Stdio};
 
 /// What the program at `path` writes for a file.
-fn listed(path: &str, file: &[u8]) -> Vec<u8> {
+pub fn listed(path: &str, file: &[u8]) -> Vec<u8> {
     let mut child = Command::new(path)
         .stdin(Stdio::piped())
         .stdout(Stdio::piped())
         .spawn()
-        .expect("fontlist runs");
-    // a file over 65,537 bytes is not read to its end
+        .expect("the program runs");
+    // a file over the program's limit is not read to its end
     let _ = child.stdin.take().unwrap().write_all(file);
     child.wait_with_output().unwrap().stdout
 }

@@ -156,12 +156,12 @@ pub fn junk(random: &mut Random) -> Vec<u8> {
     file
 }
 
-/// Every start of small fonts; every header field at every edge, alone and in pairs.
-pub fn headers() -> Vec<Vec<u8>> {
-    let mut files = Vec::new();
+/// Small fonts: PSF2 and vfont2 with and without a table, a wider header, no glyph; last
+/// two of PSF1.
+pub fn bases() -> [Vec<u8>; 8] {
     let two = [text(&[0x41], &[]), text(&[0xC5], &[&[0x41, 0x30A]])];
     let psf1_text = [(0, text(&[0x41, 0xDEAD], &[])), (255, text(&[0xFFFD], &[&[0xFE, 0xFF]]))];
-    let bases = [
+    [
         worked(),
         worked_vfont2(),
         psf2_wide(40, 2, 1, 9, &[1, 2, 3, 4], Some(&table(&two))),
@@ -170,7 +170,13 @@ pub fn headers() -> Vec<Vec<u8>> {
         vfont2(32, &[NONE, NONE], &[], None),
         psf1(2, 1, 0x55, &units(&spread(256, &psf1_text))),
         psf1(1, 1, 0x55, &[]),
-    ];
+    ]
+}
+
+/// Every start of small fonts; every header field at every edge, alone and in pairs.
+pub fn headers() -> Vec<Vec<u8>> {
+    let mut files = Vec::new();
+    let bases = bases();
     for base in &bases {
         for length in 0..=base.len() {
             files.push(base[..length].to_vec());

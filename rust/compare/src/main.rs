@@ -3,15 +3,20 @@
 //! and buffer. All fonts come from fixed seeds, so every run asks the same.
 //!
 //! A difference prints the question, both answers and the file in hexadecimal, and
-//! the run ends with status 1. `compare THREADS` sets how many threads share the work;
-//! `compare files FONTLIST FILE..` asks everything of the files named (tools/real-fonts).
+//! the run ends with status 1. `compare THREADS` sets how many threads share the work,
+//! `compare THREADS SERIES` runs one series alone;
+//! `compare files FONTLIST FILE..` asks everything of the files named (tools/real-fonts);
+//! `compare lines FONTLOAD FILE..` runs the loading program on them (tools/try-loader).
 
 mod ask;
 mod files;
 mod fonts;
+mod lines;
 #[allow(dead_code)]
 #[path = "../../vectors/src/make.rs"]
 mod make;
+mod pieces;
+mod records;
 mod tables;
 
 use ask::{Asking, Tally};
@@ -58,7 +63,7 @@ fn listed(series: u64, files: Vec<Vec<u8>>, tally: &mut Tally) {
     }
 }
 
-const SERIES: [Series; 9] = [
+const SERIES: [Series; 12] = [
     Series { name: "fonts", jobs: FONT_JOBS, run: |j, t| random(1, j, t, fonts::random_font) },
     Series { name: "tails", jobs: TAIL_JOBS, run: |j, t| random(2, j, t, fonts::random_tail) },
     Series { name: "junk", jobs: JUNK_JOBS, run: |j, t| random(3, j, t, fonts::junk) },
@@ -74,7 +79,10 @@ const SERIES: [Series; 9] = [
             Asking { file: &file, tally: t }.some(&mut random);
         },
     },
-    Series { name: "tables of 4 boundary bytes", jobs: 28, run: tables::run_edges },
+    Series { name: "pieces", jobs: pieces::JOBS, run: pieces::run },
+    Series { name: "tables in pieces", jobs: tables::EDGE_JOBS, run: tables::run_pieces },
+    Series { name: "records", jobs: records::JOBS, run: records::run },
+    Series { name: "tables of 4 boundary bytes", jobs: tables::EDGE_JOBS, run: tables::run_edges },
     Series { name: "tables of up to 3 bytes", jobs: tables::JOBS, run: tables::run },
 ];
 
@@ -105,11 +113,14 @@ fn main() {
     if words.first().is_some_and(|w| w == "files") {
         return report(files::run(&words[1], &words[2..]), Instant::now());
     }
+    if words.first().is_some_and(|w| w == "lines") {
+        return report(lines::run(&words[1], &words[2..]), Instant::now());
+    }
     let most = std::thread::available_parallelism().map_or(1, |n| n.get());
     let threads = std::env::args().nth(1).map_or(most, |n| n.parse().expect("a number of threads"));
     let start = Instant::now();
     let mut total = Tally::default();
-    for series in &SERIES {
+    for series in SERIES.iter().filter(|s| words.get(1).is_none_or(|name| s.name == name)) {
         let from = Instant::now();
         let t = run(series, threads);
         println!(

@@ -1,11 +1,20 @@
 //! All short tables: the check of every tail of up to 3 bytes, and of 4 boundary
 //! bytes and an end mark, in both codings, where 1 or 2 descriptions are missing.
-//! One buffer is reused and only its end is changed.
+//! One buffer is reused and only its end is changed. And such tables as they arrive, cut into
+//! pieces.
 
 use crate::ask::{checked, ours, Answer, Asking, Tally};
 use crate::fonts::{UNIT_EDGES, UTF8_EDGES};
 use crate::make::{psf1, psf2, Random};
+use lavandol::Loader;
 use second::table::{judge, Coding, Verdict};
+
+/// Boundary bytes and the end mark of each coding.
+const EDGE_PARTS: [(Coding, &[u8], &[u8]); 2] =
+    [(Coding::Utf8, &UTF8_EDGES, &[0xFF]), (Coding::Units, &UNIT_EDGES, &[0xFF, 0xFF])];
+
+/// Jobs of `run_pieces` and of `run_edges`: one for each boundary byte of UTF-8.
+pub const EDGE_JOBS: usize = UTF8_EDGES.len();
 
 /// A font up to its last `left` descriptions.
 struct Front {
@@ -24,6 +33,18 @@ fn front(coding: Coding, left: usize) -> Front {
 }
 
 impl Front {
+    /// What the check of the font with this tail must say, from the second
+    /// implementation's verdict on the tail alone.
+    fn verdict(&self, tail: &[u8]) -> Answer<()> {
+        let at = self.bytes.len();
+        match judge(self.coding, self.left, tail) {
+            Verdict::Complete => Ok(()),
+            Verdict::Cut => Err((10, at + tail.len())),
+            Verdict::Bad(k) => Err((11, at + k)),
+            Verdict::Trailing(k) => Err((12, at + k)),
+        }
+    }
+
     /// The check of the whole font against the second implementation's verdict on the
     /// tail alone, which is judged apart from the bytes before. Sound fonts, and one of
     /// about `each` others, picked by their bytes, are asked whole and all about.
@@ -31,12 +52,7 @@ impl Front {
         let at = self.bytes.len();
         file.truncate(at);
         file.extend_from_slice(tail);
-        let verdict: Answer<()> = match judge(self.coding, self.left, tail) {
-            Verdict::Complete => Ok(()),
-            Verdict::Cut => Err((10, file.len())),
-            Verdict::Bad(k) => Err((11, at + k)),
-            Verdict::Trailing(k) => Err((12, at + k)),
-        };
+        let verdict = self.verdict(tail);
         let a = ours(lavandol::check(file)).map(|_| ());
         let mut asking = Asking { file, tally };
         asking.same(a, verdict, || "check".into());
@@ -95,11 +111,79 @@ pub fn run(job: usize, tally: &mut Tally) {
     }
 }
 
+/// A font that arrives: the loader is fed all before the tail once, and a copy of it each
+/// tail in each of the ways that are asked for.
+struct Arriving {
+    front: Front,
+    fed: Loader,
+}
+
+impl Arriving {
+    fn new(coding: Coding, left: usize) -> Arriving {
+        let front = front(coding, left);
+        let mut fed = Loader::new();
+        fed.feed(&front.bytes).expect("the loader is open");
+        Arriving { front, fed }
+    }
+
+    /// The tail cut behind each byte whose bit is set in one of the `ways`.
+    fn try_tail(&self, tail: &[u8], ways: impl Iterator<Item = usize>, tally: &mut Tally) {
+        let verdict = self.front.verdict(tail);
+        tally.files += 1;
+        tally.sound += verdict.is_ok() as u64;
+        let mut asking = Asking { file: tail, tally };
+        for way in ways {
+            let mut loader = self.fed.clone();
+            let mut from = 0;
+            for end in (1..=tail.len()).filter(|&k| k == tail.len() || way >> (k - 1) & 1 == 1) {
+                asking.same(ours(loader.feed(&tail[from..end])), Ok(()), || "feed".into());
+                from = end;
+            }
+            let a = ours(loader.close()).map(|_| ());
+            asking.same(a, verdict, || {
+                let Front { coding, left, bytes } = &self.front;
+                format!("loader, {coding:?} {left}, after {} bytes, cut {way:b}", bytes.len())
+            });
+        }
+    }
+}
+
+/// Tails in pieces, one job for each of the first bytes: of up to 2 bytes all, and of 3
+/// boundary bytes and an end mark, cut in every way; of 4 boundary bytes byte by byte.
+pub fn run_pieces(job: usize, tally: &mut Tally) {
+    for coding in [Coding::Utf8, Coding::Units] {
+        for left in [1, 2] {
+            let arriving = Arriving::new(coding, left);
+            if job == 0 {
+                arriving.try_tail(&[], 0..1, tally);
+            }
+            for a in (0..=255u8).filter(|&a| a as usize % EDGE_JOBS == job) {
+                arriving.try_tail(&[a], 0..1, tally);
+                for b in 0..=255 {
+                    arriving.try_tail(&[a, b], 0..2, tally);
+                }
+            }
+        }
+    }
+    for (coding, edges, end) in EDGE_PARTS {
+        let Some(&a) = edges.get(job) else { continue };
+        let arriving = Arriving::new(coding, 1);
+        for &b in edges {
+            for &c in edges {
+                let tail = [&[a, b, c], end].concat();
+                arriving.try_tail(&tail, 0..1 << (tail.len() - 1), tally);
+                for &d in edges {
+                    let tail = [&[a, b, c, d], end].concat();
+                    arriving.try_tail(&tail, std::iter::once(usize::MAX), tally);
+                }
+            }
+        }
+    }
+}
+
 /// Four boundary bytes and an end mark; one job for each of the first bytes.
 pub fn run_edges(job: usize, tally: &mut Tally) {
-    let parts: [(Coding, &[u8], &[u8]); 2] =
-        [(Coding::Utf8, &UTF8_EDGES, &[0xFF]), (Coding::Units, &UNIT_EDGES, &[0xFF, 0xFF])];
-    for (coding, edges, end) in parts {
+    for (coding, edges, end) in EDGE_PARTS {
         let Some(&a) = edges.get(job) else { continue };
         let front = front(coding, 1);
         let mut file = front.bytes.clone();

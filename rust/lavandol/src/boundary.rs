@@ -54,6 +54,43 @@ pub struct LavNumber {
     pub number: usize,
 }
 
+/// The bytes of a header, an entry, a value or a mark that has not come whole.
+#[repr(C)]
+#[derive(Debug, Clone, PartialEq, Eq)]
+pub struct LavHeld {
+    pub len: usize,
+    pub bytes: [u8; 32],
+}
+
+#[repr(C)]
+#[derive(Debug, Clone, PartialEq, Eq)]
+pub struct LavSums {
+    pub broken: usize,
+    pub height: usize,
+    pub width: usize,
+}
+
+#[repr(C)]
+#[derive(Debug, Clone, PartialEq, Eq)]
+pub struct LavStanding {
+    pub ended: usize,
+    pub opened: usize,
+    pub halted: usize,
+    pub place: usize,
+}
+
+/// A loader's state; the library's own, and no field of it is read or set here.
+#[repr(C)]
+#[derive(Debug, Clone, PartialEq, Eq)]
+pub struct LavLoader {
+    pub total: usize,
+    pub closed: usize,
+    pub header: [u8; 32],
+    pub held: LavHeld,
+    pub sums: LavSums,
+    pub standing: LavStanding,
+}
+
 /// A struct's size and where its fields stand.
 macro_rules! laid_out {
     ($($kind:ty: $size:literal bytes, $($field:ident $at:literal),*;)*) => {
@@ -73,6 +110,10 @@ laid_out! {
     LavMetrics: 40 bytes, refusal 0, up 16, down 20, left 24, right 28, logical 32;
     LavItem: 24 bytes, refusal 0, kind 16, value 20;
     LavNumber: 24 bytes, refusal 0, number 16;
+    LavHeld: 40 bytes, len 0, bytes 8;
+    LavSums: 24 bytes, broken 0, height 8, width 16;
+    LavStanding: 32 bytes, ended 0, opened 8, halted 16, place 24;
+    LavLoader: 144 bytes, total 0, closed 8, header 16, held 48, sums 88, standing 112;
 }
 
 extern "C" {
@@ -93,4 +134,7 @@ extern "C" {
     pub fn lav_psf2_to_psf1(file: *const u8, len: usize, out: *mut u8, room: usize) -> LavNumber;
     pub fn lav_psf2_to_vfont2(file: *const u8, len: usize, out: *mut u8, room: usize) -> LavNumber;
     pub fn lav_vfont2_to_psf2(file: *const u8, len: usize, out: *mut u8, room: usize) -> LavNumber;
+    pub fn lav_loader_fresh() -> LavLoader;
+    pub fn lav_loader_feed(loader: *mut LavLoader, piece: *const u8, len: usize) -> LavRefusal;
+    pub fn lav_loader_close(loader: *mut LavLoader) -> LavFont;
 }

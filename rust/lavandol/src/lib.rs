@@ -19,8 +19,10 @@
 use core::ops::Range;
 
 mod boundary;
+mod loader;
 mod refusal;
 use boundary::*;
+pub use loader::Loader;
 pub use refusal::{Reason, Refusal};
 
 #[derive(Debug, Clone, Copy, PartialEq, Eq)]
@@ -80,21 +82,8 @@ fn unless_refused<T>(r: LavRefusal, answer: T) -> Result<T, Refusal> {
     }
 }
 
-/// A part's end is no greater than the file's length, so the sum can't overflow.
-fn part(p: LavPart) -> Result<Range<usize>, Refusal> {
-    unless_refused(p.refusal, p.offset..p.offset + p.length)
-}
-
-fn number(n: LavNumber) -> Result<usize, Refusal> {
-    unless_refused(n.refusal, n.number)
-}
-
-/// Checks a font. Refusals: 1 to 12, in their order.
-pub fn check(file: &[u8]) -> Result<Font, Refusal> {
-    // SAFETY (here and below): the library reads the slices it is lent, writes to
-    // none but a conversion's `out`, within their lengths and during the call only,
-    // and asks nothing of its arguments.
-    let f = unsafe { lav_check(file.as_ptr(), file.len()) };
+/// What a check of a font answers.
+fn font(f: LavFont) -> Result<Font, Refusal> {
     let kind = match f.kind {
         1 => Kind::Psf1,
         2 => Kind::Psf2,
@@ -112,6 +101,23 @@ pub fn check(file: &[u8]) -> Result<Font, Refusal> {
         end: f.end,
     };
     unless_refused(f.refusal, font)
+}
+
+/// A part's end is no greater than the file's length, so the sum can't overflow.
+fn part(p: LavPart) -> Result<Range<usize>, Refusal> {
+    unless_refused(p.refusal, p.offset..p.offset + p.length)
+}
+
+fn number(n: LavNumber) -> Result<usize, Refusal> {
+    unless_refused(n.refusal, n.number)
+}
+
+/// Checks a font. Refusals: 1 to 12, in their order.
+pub fn check(file: &[u8]) -> Result<Font, Refusal> {
+    // SAFETY (here and below): the library reads the slices it is lent, writes to
+    // none but a conversion's `out`, within their lengths and during the call only,
+    // and asks nothing of its arguments.
+    font(unsafe { lav_check(file.as_ptr(), file.len()) })
 }
 
 /// Where glyph g's bytes stand in the file. Refusals: 1 to 12, ASK, NO GLYPH.

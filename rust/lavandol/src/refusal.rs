@@ -6,7 +6,7 @@ use core::fmt;
 macro_rules! reasons {
     ($($(#[$words:meta])* $number:literal $reason:ident $name:literal,)*) => {
         /// Why a call is refused: the refusals of include/lavandol.h. A font's own, 1 to
-        /// 12, are tried in this order, and every call gives them before any other.
+        /// 12, are tried in this order, and every call on a file gives them before any other.
         #[derive(Debug, Clone, Copy, PartialEq, Eq, Hash)]
         pub enum Reason {
             $($(#[$words])* $reason,)*
@@ -93,6 +93,11 @@ reasons! {
     20 Size "size",
     /// The lent buffer is shorter than the output; place: the size needed.
     21 Room "room",
+    /// A piece or a close for a loader that is closed, which stays as it was; place 0.
+    22 Late "late",
+    /// No call gives it: the program `fontload` does, for a line that is no frame; place: the
+    /// line's number, from 1.
+    23 Line "line",
 }
 
 /// Why a call is refused, and where: `place` is an offset in the file, 0 where there is

@@ -1,5 +1,5 @@
 //! A second implementation of the readers and converters for the bitmap fonts
-//! PSF1, PSF2 and vfont2, written from document 01 alone. It is meant to be
+//! PSF1, PSF2 and vfont2, written from documents 01 and 02 alone. It is meant to be
 //! compared with another one, so it prefers the definitions over speed.
 //!
 //! - `font`: the checks on a font, refusals 1 to 9 and 12 of a bare font
@@ -7,17 +7,21 @@
 //! - `ask`: questions on glyphs and on the table, refusals 13 to 16
 //! - `convert`: the four conversions, refusals 17 to 21
 //! - `lister`: the text of the listing program
+//! - `loader`: the check of a font that arrives in pieces, refusals 22 and 23, and the
+//!   text of the program that reads them
 
 mod ask;
 mod convert;
 mod font;
 mod lister;
+mod loader;
 pub mod table;
 
 pub use ask::{find_sequence, find_value, glyph, metrics, pixel, row, walk};
 pub use convert::{psf1_to_psf2, psf2_to_psf1, psf2_to_vfont2, vfont2_to_psf2};
 pub use font::{check, Entry, Font, Kind};
 pub use lister::{first_line, list};
+pub use loader::{fontload, Loader};
 pub use table::Item;
 
 /// The longest file read or written.
@@ -25,6 +29,9 @@ pub const LIMIT: usize = 1_048_576;
 
 /// The longest input of the lister.
 pub const LISTER_LIMIT: usize = 65_536;
+
+/// The longest input of the loading program that is read whole.
+pub const LOADER_LIMIT: usize = 4_194_304;
 
 /// The number said back and its place.
 #[derive(Debug, Clone, Copy, PartialEq, Eq)]
@@ -54,6 +61,8 @@ pub const GLYPHS: u32 = 18;
 pub const VALUE: u32 = 19;
 pub const SIZE: u32 = 20;
 pub const ROOM: u32 = 21;
+pub const LATE: u32 = 22;
+pub const LINE: u32 = 23;
 
 /// A refusal as the error of a call.
 pub(crate) fn refuse<T>(number: u32, place: usize) -> Result<T, Refusal> {
