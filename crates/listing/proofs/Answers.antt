@@ -20,7 +20,8 @@ use Rattle.stages.specs.Meaning.{codingOf}
 use Rattle.stages.specs.Reading.{checkOf}
 use Rattle.listing.specs.declared.Listed.{Listed}
 use Rattle.listing.specs.declared.Listed.the-variants.{Wrote, Refused as Unlisted}
-use Rattle.listing.specs.Meaning.{firstLine, bigText}
+use Rattle.words.specs.Meaning.{bigText}
+use Rattle.listing.specs.Meaning.{firstLine}
 use Rattle.listing.specs.Reading.{linesText, fontText, answerText, listingOf, listedOf, leftOf}
 use Rattle.lines.specs.Reading.{tableText}
 

@@ -15,7 +15,8 @@ use Rattle.stages.specs.Meaning.{codingOf, tailOf}
 use Rattle.stages.specs.Reading.{checkOf}
 use Rattle.base.specs.Reading.{over}
 use Rattle.listing.specs.declared.Listed.the-variants.{Wrote}
-use Rattle.listing.specs.Meaning.{firstLine, refusedText, bigText}
+use Rattle.words.specs.Meaning.{refusedText, bigText}
+use Rattle.listing.specs.Meaning.{firstLine}
 use Rattle.lines.specs.Meaning.{glyphLines}
 use Rattle.text.specs.Meaning.{numberIn, NoLeadingZero}
 use Rattle.text.specs.Reading.{digitOf, digits, numeral}

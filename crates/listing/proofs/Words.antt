@@ -5,13 +5,11 @@ use mathlib.Core.List.{[], _∷_, _++_}
 use Prim.Native.Nat.{ℕ, _≤_}
 use native.Mathlib.Omega.{arith}
 use lib.ListN.{length}
-use Rattle.refusal.specs.declared.Refusal.{Refusal}
-use Rattle.refusal.specs.Meaning.{numberOf}
 use Rattle.header.specs.declared.Kind.{Kind}
 use Rattle.header.specs.declared.Kind.the-variants.{Psf1, Psf2, Vfont2}
 use Rattle.header.specs.declared.Font.{Font}
 use Rattle.text.specs.Meaning.{numberText}
-use Rattle.listing.specs.Meaning.{kindText, tableWord, firstLine, refusedText}
+use Rattle.listing.specs.Meaning.{kindText, tableWord, firstLine}
 
 -- no kind's name is longer than 7 bytes, and no word at the line's end than 6
 pub kind-7 : (k : Kind) → length (kindText k) ≤ 7
@@ -26,7 +24,3 @@ word-6 false = omega arith
 pub first-line : (f : Font) → firstLine f ≡ kindText (f .kind) ++ numberText (f .count) 32 ++ numberText (f .height) 32 ++ numberText (f .width) 32 ++ tableWord (f .table)
 unfolding firstLine
 first-line f = refl
-
-pub refused-text : (r : Refusal) (n p : ℕ) → n ≡ numberOf (r .reason) → p ≡ r .place → (114 ∷ 101 ∷ 102 ∷ 117 ∷ 115 ∷ 101 ∷ 100 ∷ 32 ∷ []) ++ numberText n 32 ++ numberText p 10 ≡ refusedText r
-unfolding refusedText
-refused-text r n p e q = rw (e, q)

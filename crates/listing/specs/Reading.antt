@@ -15,7 +15,8 @@ use Rattle.stages.specs.Meaning.{codingOf, tailOf}
 use Rattle.stages.specs.Reading.{checkOf}
 use Rattle.listing.specs.declared.Listed.{Listed}
 use Rattle.listing.specs.declared.Listed.the-variants.{Wrote, Refused as Unlisted}
-use Rattle.listing.specs.Meaning.{firstLine, refusedText, bigText}
+use Rattle.words.specs.Meaning.{refusedText, bigText}
+use Rattle.listing.specs.Meaning.{firstLine}
 
 -- the lines after the first; "A bare font has that line only."
 unfoldable pub linesText : List ℕ → Font → List ℕ

@@ -9,7 +9,8 @@ ghost use Prim.Native.Nat.{_+_, _≤_, _<_};
 ghost use lib.ListN.{length};
 ghost use Rattle.base.specs.Reading.{over};
 ghost use Rattle.header.specs.Bounds.{Placed};
-ghost use Rattle.listing.specs.Meaning.{kindText, tableWord, firstLine, refusedText};
+ghost use Rattle.words.specs.Meaning.{refusedText};
+ghost use Rattle.listing.specs.Meaning.{kindText, tableWord, firstLine};
 ghost use Rattle.listing.specs.Reading.{linesText, fontText, listingOf, listedOf, leftOf};
 
 // How many bytes of text stand in front of the buffer; or ROOM with the bytes needed, and the buffer is untouched.
@@ -52,17 +53,6 @@ fn put_first(f: Font, out: &mut [u8]) -> usize
     let d = b + text::put_number(f.height, 32, &mut out[b..]);
     let e = d + text::put_number(f.width, 32, &mut out[d..]);
     e + put_word(f.table, &mut out[e..])
-}
-
-// The line of a refusal. Asks for room for the longest.
-fn put_refused(r: Refusal, out: &mut [u8]) -> usize
-    requires { ⌜ 96 ≤ length (now out) ⌝ }
-    ensures { λ n. ⌜ (n ≡ length (refusedText r)) × (now (out .exit) ≡ over (refusedText r) (now (out .entry))) × (n ≤ 96) ⌝ }
-{
-    let reason = r.reason;
-    let a = text::put_text(b"refused ", out);
-    let b = a + text::put_number(base::size(refusal::number(reason)), 32, &mut out[a..]);
-    b + text::put_number(r.place, 10, &mut out[b..])
 }
 
 // How many bytes the lines of a font's table are, none for a bare one. Asks that the header passed and the file is one that is listed.
@@ -108,7 +98,7 @@ fn list_refused(r: Refusal, out: &mut [u8]) -> Listed
     ensures bounded { λ _. ⌜ length (refusedText r) ≤ 96 ⌝ }
 {
     let mut line = [0u8; 96];
-    let n = put_refused(r, &mut line);
+    let n = words::put_refused(r, &mut line);
     list_text(&line[..n], out)
 }
 

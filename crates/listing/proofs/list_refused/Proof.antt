@@ -3,7 +3,7 @@ use native.Mathlib.Omega.{arith}
 use mathlib.Core.Path.{sym, _∙_, ap}
 use lib.ListN.{length}
 use Rattle.listing.proofs.Answers.{same-text, in-front}
-use Rattle.listing.specs.Meaning.{refusedText}
+use Rattle.words.specs.Meaning.{refusedText}
 use borrow.Author.Needs.{needs}
 use Rattle.listing.proofs.list_refused.Statement.{statement}
 use Rattle.listing.proofs.list_refused.Tie as tie

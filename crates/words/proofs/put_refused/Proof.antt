@@ -1,4 +1,4 @@
--- `listing::put_refused` meets its contract: each part stands behind those before it. Assumes nothing.
+-- `words::put_refused` meets its contract: each part stands behind those before it. Assumes nothing.
 use native.Mathlib.Omega.{arith}
 use mathlib.Core.Path.{_∙_, ap, refl}
 use mathlib.Core.List.{List, [], _∷_, _++_}
@@ -6,12 +6,12 @@ use Prim.Native.Nat.{ℕ}
 use lib.ListN.{length}
 use Rattle.text.proofs.Putting.{first-stands, behind-room, behind-stands}
 use Rattle.text.proofs.Digits.{number-21}
-use Rattle.listing.proofs.Words.{refused-text}
+use Rattle.words.proofs.Words.{refused-text}
 use Rattle.text.specs.Meaning.{numberText}
 use Rattle.base.specs.Reading.{over}
 use borrow.Author.Needs.{needs}
-use Rattle.listing.proofs.put_refused.Statement.{statement}
-use Rattle.listing.proofs.put_refused.Tie as tie
+use Rattle.words.proofs.put_refused.Statement.{statement}
+use Rattle.words.proofs.put_refused.Tie as tie
 
 slice-aggregate-put-text : tie.Need-slice-aggregate-put-text
 slice-aggregate-put-text c = search needs

@@ -1,0 +1,2 @@
+-- The line of a refusal.
+pub mod Words

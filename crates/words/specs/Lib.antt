@@ -1,0 +1,2 @@
+-- The lines that both programs write.
+pub mod Meaning
