@@ -1,0 +1,3 @@
+-- One line of hexadecimal.
+pub mod Meaning
+pub mod Reading
