@@ -1,12 +1,12 @@
 -- One turn of reading a line: two digits, a digit alone, no byte, the end.
-use mathlib.Core.Path.{_≡_, ap}
+use mathlib.Core.Path.{_≡_, _∙_, ap}
 use mathlib.Core.Bool.{true}
 use mathlib.Core.List.{List, _∷_}
 use Prim.Native.Nat.{ℕ, suc, _+_, _≤_, _<_}
 use native.Mathlib.Numerals.{add-one}
 use native.Mathlib.Omega.{arith}
 use lib.Dec.{ltb}
-use lib.ListN.{length, drop, getD, set, replicate, drop-of-length-le}
+use lib.ListN.{length, drop, getD, set, replicate, drop-of-length-le, length-replicate}
 use lib.Seq.{drop-cons}
 use borrow.Author.Tests.{lt-ltb, le-ltb}
 use Rattle.base.specs.Reading.{when}
@@ -54,5 +54,7 @@ unfolding frameOf when
 not-long s h = rw (le-ltb 128 (length s) h)
 
 -- a bad line has no bytes
-pub bad-short : (f : Frame) → f ≡ badFrame → f .len ≤ 64
-bad-short f e = let q : f .len ≡ 0 = ap (λ (g : Frame). g .len) e in omega arith
+pub bad-bounded : (f : Frame) → f ≡ badFrame → (f .len ≤ 64) × (length (f .bytes) ≡ 64)
+bad-bounded f e =
+    let q : f .len ≡ 0 = ap (λ (g : Frame). g .len) e in
+    (omega arith, ap (λ (g : Frame). length (g .bytes)) e ∙ length-replicate {A = ℕ} 64 0)

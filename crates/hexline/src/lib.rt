@@ -2,6 +2,7 @@
 // specs/Reading.antt (how a line is read).
 ghost use mathlib.Core.Path.{_≡_};
 ghost use Prim.Native.Nat.{_≤_};
+ghost use lib.ListN.{length};
 ghost use Rattle.hexline.specs.Meaning.{badFrame};
 ghost use Rattle.hexline.specs.Reading.{hexValue, pairValue, frameOf};
 
@@ -60,7 +61,7 @@ fn pair_value(a: u8, b: u8) -> u32
 // A line, of any length, as a frame.
 pub fn read_line(line: &[u8]) -> Frame
     ensures equal { λ r. ⌜ r ≡ frameOf (now (line .entry)) ⌝ }
-    ensures bounded { λ r. ⌜ r .len ≤ 64 ⌝ }
+    ensures bounded { λ r. ⌜ (r .len ≤ 64) × (length (r .bytes) ≡ 64) ⌝ }
 {
     if 128 < line.len() {
         return bad();
