@@ -1,0 +1,4 @@
+-- The laws of the program's input: Meaning says what is answered.
+pub mod Feeding
+pub mod Held
+pub mod Ended

@@ -1,0 +1,3 @@
+-- The program's input and its answer.
+pub mod Reading
+pub mod Meaning
