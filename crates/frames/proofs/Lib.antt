@@ -2,3 +2,6 @@
 pub mod Feeding
 pub mod Held
 pub mod Ended
+pub mod Lines
+pub mod Judged
+pub mod Meaning

@@ -12,10 +12,11 @@ use Rattle.words.specs.Meaning.{refusedText, bigText}
 use Rattle.hexline.specs.Meaning.{IsFrame, NoFrame}
 use Rattle.loader.specs.declared.Loader.{Loader}
 use Rattle.loader.specs.Reading.{freshOf, fedOf, answerOf}
+use Rattle.frames.specs.declared.Frames.{Frames}
 use Rattle.frames.specs.declared.Output.{Output}
 use Rattle.frames.specs.declared.Outcome.{Outcome}
 use Rattle.frames.specs.declared.Outcome.the-variants.{Sound, Refused, TooBig}
-use Rattle.frames.specs.Reading.{answeredOf}
+use Rattle.frames.specs.Reading.{answeredOf, fedOf as chunkFed}
 
 abbrev pub limit : ℕ
 limit = 4194304
@@ -61,6 +62,16 @@ pub data Answers (s : List ℕ) (o : Outcome) : Type 0 where
   bad-line : (before : List (List ℕ)) (line : List ℕ) (after ps : List (List ℕ)) → Reads s (before ++ (line ∷ after)) → AreFrames before ps → NoFrame line → o ≡ Refused (refusal Line (length before + 1)) → Answers s o
   too-big : (ls ps : List (List ℕ)) → Reads s ls → AreFrames ls ps → limit < length s → o ≡ TooBig → Answers s o
   closed : (ls ps : List (List ℕ)) → Reads s ls → AreFrames ls ps → length s ≤ limit → o ≡ answeredOf (answerOf (fedAll freshOf ps)) → Answers s o
+
+-- chunks as one input
+abbrev pub together : List (List ℕ) → List ℕ
+together [] = []
+together (c ∷ cs) = c ++ together cs
+
+-- a state fed by chunks, in order
+abbrev pub fedChunks : Frames → List (List ℕ) → Frames
+fedChunks f [] = f
+fedChunks f (c ∷ cs) = fedChunks (chunkFed f c) cs
 
 -- `sound`
 abbrev pub soundText : List ℕ
