@@ -4,4 +4,5 @@ pub mod Held
 pub mod Ended
 pub mod Lines
 pub mod Judged
+pub mod Texts
 pub mod Meaning

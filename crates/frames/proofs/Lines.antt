@@ -98,7 +98,7 @@ cut-lines : (k : ℕ) (s : List ℕ) (ls : List (List ℕ)) (rest : List ℕ) �
 cut-lines k s ls rest h is =
     let d : drop k s ≡ getD s k 0 ∷ drop (suc k) s = drop-cons s k 0 h in
     let e : s ≡ (unlines ls ++ rest) ++ (getD s k 0 ∷ drop (suc k) s) =
-        sym (take-append-drop k s) ∙ ap (λ (z : List ℕ). z ++ drop k s) (is .0) ∙ ap (λ (z : List ℕ). (unlines ls ++ rest) ++ z) d in
+    sym (take-append-drop k s) ∙ ap (λ (z : List ℕ). z ++ drop k s) (is .0) ∙ ap (λ (z : List ℕ). (unlines ls ++ rest) ++ z) d in
     let l : length (take k s) ≡ k = length-take-le k s (omega arith) in
     ap (λ (t : List ℕ). linesIn [] k t) (e ∙ append-assoc (unlines ls) rest (getD s k 0 ∷ drop (suc k) s))
     ∙ cut ls rest (getD s k 0) (drop (suc k) s) k (is .1) (is .2) (omega (arith, l, ap length (is .0)))
@@ -120,6 +120,7 @@ split (b ∷ s) = go (same b 10) (split s)
     longer : (b ≡ 10 → ⊥) → (ls : List (List ℕ)) (r : List ℕ) → IsLines s ls r → Split (b ∷ s)
     longer n [] r i = record { ended = []; rest = b ∷ r; is = (ap (λ (z : List ℕ). b ∷ z) (i .0), tt, (n, i .2)) }
     longer n (l ∷ ls) r i = record { ended = (b ∷ l) ∷ ls; rest = r; is = (ap (λ (z : List ℕ). b ∷ z) (i .0), ((n, i .1 .0), i .1 .1), i .2) }
+
     go : (b ≡ 10) ⊎ ((b ≡ 10) → ⊥) → Split s → Split (b ∷ s)
     go (inl e) f =
         let q : s ≡ unlines (f .ended) ++ f .rest = f .is .0 in

@@ -59,12 +59,14 @@ said s = go (lines.read s)
   where
     so : (o : Outcome) → Answers s o → Answers s (closedOf (fedOf freshOf s))
     so o a = subst (λ (x : Outcome). Answers s x) (sym (says s o a)) a
+
     by : (ls : List (List ℕ)) → Reads s ls → Pieces ls ⊎ FirstBad ls → (limit < length s) ⊎ (length s ≤ limit) → Answers s (closedOf (fedOf freshOf s))
     by ls r (inl p) (inl h) = so TooBig (too-big ls (p .ps) r (p .are) h refl)
     by ls r (inl p) (inr h) = so (answeredOf (answerOf (fedAll noPiece (p .ps)))) (closed ls (p .ps) r (p .are) h refl)
     by ls r (inr b) h =
         so (Refused (refusal Line (length (b .before) + 1)))
         (bad-line (b .before) (b .line) (b .after) (b .ps) (subst (λ (x : List (List ℕ)). Reads s x) (b .all) r) (b .are) (b .none) refl)
+
     go : lines.Read s → Answers s (closedOf (fedOf freshOf s))
     go f = by (f .ls) (f .reads) (pieces (f .ls)) (below limit (length s))
 

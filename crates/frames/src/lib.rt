@@ -181,7 +181,7 @@ pub fn close(f: Frames) -> Outcome
 fn output_of(text: &[u8]) -> Output
     requires { ⌜ length (now text) ≤ 96 ⌝ }
     ensures equal { λ r. ⌜ r ≡ outputOf (now (text .entry)) ⌝ }
-    ensures bounded { λ r. ⌜ r .len ≤ 96 ⌝ }
+    ensures bounded { λ r. ⌜ (r .len ≤ 96) × (length (r .bytes) ≡ 96) ⌝ }
 {
     let mut bytes = [0u8; 96];
     let n = text::put_text(text, &mut bytes);
@@ -194,7 +194,7 @@ fn output_of(text: &[u8]) -> Output
 // The line of a refusal.
 fn refused_output(r: Refusal) -> Output
     ensures equal { λ l. ⌜ l ≡ outputOf (refusedText r) ⌝ }
-    ensures bounded { λ l. ⌜ l .len ≤ 96 ⌝ }
+    ensures bounded { λ l. ⌜ (l .len ≤ 96) × (length (l .bytes) ≡ 96) ⌝ }
 {
     let mut bytes = [0u8; 96];
     let n = words::put_refused(r, &mut bytes);
@@ -207,7 +207,7 @@ fn refused_output(r: Refusal) -> Output
 // An answer as the program's line.
 pub fn written(o: Outcome) -> Output
     ensures equal { λ r. ⌜ r ≡ outputOf (outcomeText o) ⌝ }
-    ensures bounded { λ r. ⌜ r .len ≤ 96 ⌝ }
+    ensures bounded { λ r. ⌜ (r .len ≤ 96) × (length (r .bytes) ≡ 96) ⌝ }
 {
     match o {
         Outcome::Sound => output_of(b"sound\n"),

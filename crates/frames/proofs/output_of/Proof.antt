@@ -1,3 +1,5 @@
+use Rattle.frames.proofs.Texts.{output-bounded}
+use lib.ListN.{length}
 -- `frames::output_of` meets its contract: the text stands in front. Assumes nothing.
 use native.Mathlib.Omega.{arith}
 use borrow.Author.Needs.{needs}
@@ -11,7 +13,7 @@ put-text-requires : tie.Need-put-text-requires
 put-text-requires c κs = search needs
 
 returns : tie.Need-returns
-returns c = (λ i. record { len = c .before .put-text .ensures .0 i; bytes = c .before .put-text .ensures .1 i }, omega (arith, c .before .put-text .ensures .0))
+returns c = (λ i. record { len = c .before .put-text .ensures .0 i; bytes = c .before .put-text .ensures .1 i }, output-bounded (c .before .before .before .before .args .text .now) _ (c .before .before .before .before .pre) (λ i. record { len = c .before .put-text .ensures .0 i; bytes = c .before .put-text .ensures .1 i }))
 
 pub output-of-spec : {M : Type 1} → statement M
 output-of-spec = tie.close (tie.spec slice-aggregate-put-text put-text-requires returns)
