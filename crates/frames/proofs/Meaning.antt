@@ -9,12 +9,13 @@ use lib.ListN.{length}
 use Rattle.base.specs.Meaning.{pick}
 use Rattle.base.proofs.Tests.{below}
 use Rattle.refusal.specs.declared.Reason.the-variants.{Line}
+use Rattle.refusal.specs.declared.Refusal.{Refusal}
 use Rattle.refusal.specs.Meaning.{refusal}
 use Rattle.loader.specs.Reading.{freshOf as noPiece, answerOf}
 use Rattle.frames.specs.declared.Frames.{Frames}
 use Rattle.frames.specs.declared.Outcome.{Outcome}
-use Rattle.frames.specs.declared.Outcome.the-variants.{Refused, TooBig}
-use Rattle.frames.specs.Meaning.{limit, fedAll, Reads, Answers, bad-line, too-big, closed, together, fedChunks}
+use Rattle.frames.specs.declared.Outcome.the-variants.{Sound, Refused, TooBig}
+use Rattle.frames.specs.Meaning.{limit, AreFrames, fedAll, Reads, BadLine, first-bad, Answers, bad-line, too-big, closed, together, fedChunks}
 use Rattle.frames.specs.Reading.{freshOf, fedOf, answeredOf, closedOf}
 use Rattle.frames.proofs.Feeding.{joined, bad-stays}
 use Rattle.frames.proofs.Lines as lines
@@ -36,8 +37,8 @@ judged-lines s ls r = judged s ∙ ap (λ (z : List (List ℕ)). judge 0 noPiece
 
 -- what the paper says is answered
 says : (s : List ℕ) (o : Outcome) → Answers s o → closedOf (fedOf freshOf s) ≡ o
-says s o (bad-line before line after ps r are none e) =
-    let n : 0 + length before + 1 ≡ length before + 1 = omega arith in
+says s o (bad-line i (first-bad before line after ps r are none q) e) =
+    let n : 0 + length before + 1 ≡ i = omega (arith, q) in
     judged-lines s (before ++ (line ∷ after)) r
     ∙ judge-first before ps line after 0 noPiece (moreThan limit s) are none
     ∙ ap (λ (m : ℕ). Refused (refusal Line m)) n
@@ -65,7 +66,7 @@ said s = go (lines.read s)
     by ls r (inl p) (inr h) = so (answeredOf (answerOf (fedAll noPiece (p .ps)))) (closed ls (p .ps) r (p .are) h refl)
     by ls r (inr b) h =
         so (Refused (refusal Line (length (b .before) + 1)))
-        (bad-line (b .before) (b .line) (b .after) (b .ps) (subst (λ (x : List (List ℕ)). Reads s x) (b .all) r) (b .are) (b .none) refl)
+        (bad-line (length (b .before) + 1) (first-bad (b .before) (b .line) (b .after) (b .ps) (subst (λ (x : List (List ℕ)). Reads s x) (b .all) r) (b .are) (b .none) refl) refl)
 
     go : lines.Read s → Answers s (closedOf (fedOf freshOf s))
     go f = by (f .ls) (f .reads) (pieces (f .ls)) (below limit (length s))
@@ -76,6 +77,26 @@ exactly cs o = (
   λ (e : closedOf (fedChunks freshOf cs) ≡ o). subst (λ (x : Outcome). Answers (together cs) x) (sym (ap closedOf (chunks-joined freshOf cs)) ∙ e) (said (together cs)),
   λ (a : Answers (together cs) o). ap closedOf (chunks-joined freshOf cs) ∙ says (together cs) o a,
 )
+
+abbrev placeOf : Outcome → ℕ
+placeOf Sound = 0
+placeOf (Refused r) = r .place
+placeOf TooBig = 0
+
+not-big : (r : Refusal) → TooBig ≡ Refused r → ⊥
+not-big r e = let z : _≡_ {A = ℕ} 0 1 = cc in omega (arith, z)
+
+-- LINE is answered for the first bad line, and for nothing else unless the loader answers it
+pub line-exactly : ((ls ps : List (List ℕ)) (i : ℕ) → AreFrames ls ps → answeredOf (answerOf (fedAll noPiece ps)) ≡ Refused (refusal Line i) → ⊥) → (cs : List (List ℕ)) (i : ℕ) → (closedOf (fedChunks freshOf cs) ≡ Refused (refusal Line i)) ↔ BadLine (together cs) i
+line-exactly never cs i = (
+  λ (e : closedOf (fedChunks freshOf cs) ≡ Refused (refusal Line i)). back (Refused (refusal Line i)) refl (exactly cs (Refused (refusal Line i)) .0 e),
+  λ (b : BadLine (together cs) i). exactly cs (Refused (refusal Line i)) .1 (bad-line i b refl),
+)
+  where
+    back : (o : Outcome) → o ≡ Refused (refusal Line i) → Answers (together cs) o → BadLine (together cs) i
+    back o e (bad-line j b q) = let n : j ≡ i = ap placeOf (sym q ∙ e) in subst (λ (x : ℕ). BadLine (together cs) x) n b
+    back o e (too-big ls ps r are h q) = absurd (not-big (refusal Line i) (sym q ∙ e))
+    back o e (closed ls ps r are h q) = absurd (never ls ps i are (sym q ∙ e))
 
 -- where the program may stop reading: behind a bad line nothing changes the state
 pub stops-bad : (f : Frames) (cs : List (List ℕ)) → 0 < f .bad → fedChunks f cs ≡ f

@@ -56,10 +56,14 @@ abbrev pub fedAll : Loader → List (List ℕ) → Loader
 fedAll l [] = l
 fedAll l (p ∷ ps) = fedAll (fedOf l p) ps
 
+-- "the line's number from 1": the first line that is read and is no frame is the i-th
+pub data BadLine (s : List ℕ) (i : ℕ) : Type 0 where
+  first-bad : (before : List (List ℕ)) (line : List ℕ) (after ps : List (List ℕ)) → Reads s (before ++ (line ∷ after)) → AreFrames before ps → NoFrame line → i ≡ length before + 1 → BadLine s i
+
 -- what the program answers on an input: "LINE (23, place the line's number from 1) for a bad line, where the program stops"; `too big` if
--- none is bad; and what the loader's close answers on the pieces
+-- none is bad; and else what the loader's close answers on the pieces
 pub data Answers (s : List ℕ) (o : Outcome) : Type 0 where
-  bad-line : (before : List (List ℕ)) (line : List ℕ) (after ps : List (List ℕ)) → Reads s (before ++ (line ∷ after)) → AreFrames before ps → NoFrame line → o ≡ Refused (refusal Line (length before + 1)) → Answers s o
+  bad-line : (i : ℕ) → BadLine s i → o ≡ Refused (refusal Line i) → Answers s o
   too-big : (ls ps : List (List ℕ)) → Reads s ls → AreFrames ls ps → limit < length s → o ≡ TooBig → Answers s o
   closed : (ls ps : List (List ℕ)) → Reads s ls → AreFrames ls ps → length s ≤ limit → o ≡ answeredOf (answerOf (fedAll freshOf ps)) → Answers s o
 
