@@ -25,11 +25,19 @@ Holds line len p = (length line ≡ 128) × (((len ≤ 128) × (length p ≡ len
 pub nothing-held : (line : List ℕ) → length line ≡ 128 → Holds line 0 []
 nothing-held line h = (h, inl (omega arith, refl, refl))
 
+-- what is read of it
+pub held-long : (line : List ℕ) (len : ℕ) → 128 < len → heldFrame line len ≡ badFrame
+unfolding heldFrame when
+held-long line len h = rw (lt-ltb 128 len h)
+
+pub held-short : (line : List ℕ) (len : ℕ) → len ≤ 128 → heldFrame line len ≡ frameOf (take len line)
+unfolding heldFrame when
+held-short line len h = rw (le-ltb 128 len h)
+
 -- it is read as the line
 pub held-read : (line : List ℕ) (len : ℕ) (p : List ℕ) → Holds line len p → heldFrame line len ≡ frameOf p
-unfolding heldFrame when
-held-read line len p (l, inl (h, n, e)) = rw (le-ltb 128 len h) (ap frameOf e)
-held-read line len p (l, inr (h, n)) = let g : 128 < len = omega arith in rw (lt-ltb 128 len g) (sym (too-long p n))
+held-read line len p (l, inl (h, n, e)) = held-short line len h ∙ ap frameOf e
+held-read line len p (l, inr (h, n)) = held-long line len (omega arith) ∙ sym (too-long p n)
 
 -- one more character
 with-short : (f : Frames) (b : ℕ) → f .len < 128 → withOf f b ≡ record { loader = f .loader; line = set (f .line) (f .len) b; len = f .len + 1; ended = f .ended; bad = f .bad; taken = f .taken }
