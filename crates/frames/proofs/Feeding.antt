@@ -1,10 +1,9 @@
 -- Feeding: the next byte, the end of a chunk, chunks one after the other; behind a bad line and behind the limit nothing changes the answer.
 use mathlib.Core.Path.{_≡_, refl, _∙_, ap}
 use mathlib.Core.List.{List, [], _∷_, _++_}
-use Prim.Native.Nat.{ℕ, suc, _+_, _<_, _≤_}
+use Prim.Native.Nat.{ℕ, _+_, _<_, _≤_}
 use native.Mathlib.Numerals.{add-one}
 use native.Mathlib.Omega.{arith}
-use lib.Dec.{ltb}
 use lib.ListN.{length, drop, getD, drop-of-length-le}
 use lib.Seq.{drop-cons}
 use borrow.Author.Tests.{lt-ltb, le-ltb, eq-eqb, ne-eqb}
@@ -12,7 +11,6 @@ use Rattle.base.specs.Reading.{when}
 use Rattle.refusal.specs.declared.Reason.the-variants.{Line}
 use Rattle.refusal.specs.Meaning.{refusal}
 use Rattle.frames.specs.declared.Frames.{Frames}
-use Rattle.frames.specs.declared.Outcome.{Outcome}
 use Rattle.frames.specs.declared.Outcome.the-variants.{Refused, TooBig}
 use Rattle.frames.specs.Reading.{countedOf, endedOf, withOf, tookOf, byteOf, fedOf, lastOf, closedOf}
 

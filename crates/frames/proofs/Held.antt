@@ -2,16 +2,14 @@
 use mathlib.Core.Path.{_≡_, refl, sym, _∙_, ap, subst}
 use mathlib.Core.Logic.{_⊎_, inl, inr}
 use mathlib.Core.List.{List, [], _∷_, _++_}
-use Prim.Native.Nat.{ℕ, suc, _+_, _<_, _≤_}
+use Prim.Native.Nat.{ℕ, _+_, _<_, _≤_}
 use native.Mathlib.Numerals.{add-one}
 use native.Mathlib.Omega.{arith}
-use lib.Dec.{ltb}
-use lib.ListN.{length, take, set, replicate, length-append, length-set, length-replicate}
+use lib.ListN.{length, take, set, length-append, length-set}
 use lib.Seq.{take-suc-set}
 use borrow.Author.Tests.{lt-ltb, le-ltb}
 use Rattle.base.specs.Reading.{when}
 use Rattle.base.proofs.Tests.{below}
-use Rattle.hexline.specs.declared.Frame.{Frame}
 use Rattle.hexline.specs.Meaning.{badFrame}
 use Rattle.hexline.specs.Reading.{frameOf}
 use Rattle.hexline.proofs.Steps.{too-long}
@@ -40,7 +38,7 @@ held-read line len p (l, inl (h, n, e)) = held-short line len h ∙ ap frameOf e
 held-read line len p (l, inr (h, n)) = held-long line len (omega arith) ∙ sym (too-long p n)
 
 -- one more character
-with-short : (f : Frames) (b : ℕ) → f .len < 128 → withOf f b ≡ record { loader = f .loader; line = set (f .line) (f .len) b; len = f .len + 1; ended = f .ended; bad = f .bad; taken = f .taken }
+pub with-short : (f : Frames) (b : ℕ) → f .len < 128 → withOf f b ≡ record { loader = f .loader; line = set (f .line) (f .len) b; len = f .len + 1; ended = f .ended; bad = f .bad; taken = f .taken }
 unfolding withOf when
 with-short f b h = rw (lt-ltb (f .len) 128 h)
 

@@ -1,7 +1,7 @@
 -- What is answered line by line: feeding an input byte by byte answers on its lines.
-use mathlib.Core.Path.{_≡_, refl, sym, _∙_, ap, subst}
+use mathlib.Core.Path.{_≡_, refl, sym, _∙_, ap}
 use mathlib.Core.Logic.{_⊎_, inl, inr}
-use mathlib.Core.Bool.{Bool, true, false}
+use mathlib.Core.Bool.{Bool, false}
 use mathlib.Core.List.{List, [], _∷_, _++_}
 use Prim.Native.Nat.{ℕ, zero, suc, _+_, _≤_, _<_}
 use native.Mathlib.Omega.{arith}
@@ -13,16 +13,16 @@ use Rattle.base.proofs.Tests.{same}
 use Rattle.refusal.specs.declared.Reason.the-variants.{Line}
 use Rattle.refusal.specs.Meaning.{refusal}
 use Rattle.hexline.specs.declared.Frame.{Frame}
-use Rattle.hexline.specs.Meaning.{IsFrame, NoFrame, goodFrame, badFrame}
+use Rattle.hexline.specs.Meaning.{NoFrame, goodFrame, badFrame}
 use Rattle.hexline.specs.Reading.{frameOf}
 use Rattle.hexline.proofs.Meaning.{Read, decided, frame-read, bad-read, front}
 use Rattle.loader.specs.declared.Loader.{Loader}
-use Rattle.loader.specs.Reading.{freshOf as noPiece, fedOf as pieceFed, answerOf}
+use Rattle.loader.specs.Reading.{fedOf as pieceFed, answerOf}
 use Rattle.frames.specs.declared.Frames.{Frames}
 use Rattle.frames.specs.declared.Outcome.{Outcome}
 use Rattle.frames.specs.declared.Outcome.the-variants.{Refused, TooBig}
 use Rattle.frames.specs.Meaning.{limit, AreFrames, fedAll}
-use Rattle.frames.specs.Reading.{countedOf, heldFrame, freshOf, endedOf, withOf, tookOf, byteOf, fedOf, answeredOf, lastOf, closedOf}
+use Rattle.frames.specs.Reading.{countedOf, freshOf, endedOf, withOf, tookOf, byteOf, fedOf, answeredOf, lastOf, closedOf}
 use Rattle.frames.proofs.Feeding.{counted-more, byte-full, byte-newline, byte-char, last-bad, closed-last, bad-answered, full-answered}
 use Rattle.frames.proofs.Held.{Holds, nothing-held, held-read, Longer, longer}
 use Rattle.frames.proofs.Ended.{fedLine, badLine, good-ended, bad-ended}

@@ -2,6 +2,7 @@
 pub mod Feeding
 pub mod Held
 pub mod Ended
+pub mod Chars
 pub mod Lines
 pub mod Judged
 pub mod Texts

@@ -1,6 +1,5 @@
 -- The state of the input, byte by byte, and what is answered where it ends.
 use Prim.Native.Nat.{ℕ, _+_}
-use mathlib.Core.Bool.{Bool, true, false}
 use mathlib.Core.List.{List, [], _∷_}
 use lib.Dec.{ltb, eqb}
 use lib.ListN.{replicate, set, take}

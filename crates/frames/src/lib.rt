@@ -6,7 +6,8 @@ use loader::Loader;
 use refusal::Reason;
 use refusal::Refusal;
 ghost use mathlib.Core.Path.{_≡_};
-ghost use Prim.Native.Nat.{_≤_};
+ghost use mathlib.Core.Bool.{true};
+ghost use Prim.Native.Nat.{_≤_, _<_};
 ghost use lib.ListN.{length};
 ghost use Rattle.words.specs.Meaning.{refusedText};
 ghost use Rattle.frames.specs.Meaning.{outcomeText, outputOf};
@@ -131,16 +132,52 @@ fn byte(f: Frames, b: u8) -> Frames
     with_char(next, b)
 }
 
-// A chunk of input, of any length.
+// Whether a byte is surely one more character of the line that is held.
+fn is_char(b: u8, len: usize, bad: usize, taken: usize) -> bool
+    ensures { λ r. ⌜ (r ≡ true → (bad ≤ 0) × (taken < 4194304) × (len < 128) × (b ≡ 10 → ⊥)) ⌝ }
+{
+    if 0 < bad {
+        return false;
+    }
+    if LIMIT <= taken {
+        return false;
+    }
+    if 128 <= len {
+        return false;
+    }
+    b != 10
+}
+
+// A chunk of input, of any length. The line that is held goes by variables, so that a character costs one store.
 pub fn fed(f: Frames, chunk: &[u8]) -> Frames
     ensures { λ r. ⌜ r ≡ fedOf f (now (chunk .entry)) ⌝ }
 {
     let mut state = f;
+    let mut line = f.line;
+    let mut len = f.len;
+    let mut taken = f.taken;
     let mut i = 0;
     while i < chunk.len() {
-        state = byte(state, chunk[i]);
+        let b = chunk[i];
         i += 1;
+        if is_char(b, len, state.bad, taken) {
+            line[len] = b;
+            len += 1;
+            taken += 1;
+        } else {
+            state.line = line;
+            state.len = len;
+            state.taken = taken;
+            state = byte(state, b);
+            let next = state.line;
+            line = next;
+            len = state.len;
+            taken = state.taken;
+        }
     }
+    state.line = line;
+    state.len = len;
+    state.taken = taken;
     state
 }
 

@@ -1,11 +1,9 @@
 -- Digits: a character that is one is the digit of its number, and a digit's number is the number.
-use mathlib.Core.Path.{_≡_, refl, sym, _∙_, ap}
+use mathlib.Core.Path.{_≡_, _∙_, ap}
 use mathlib.Core.Logic.{_⊎_, inl, inr}
 use Prim.Native.Nat.{ℕ, _+_, _-_, _*_, _/_, _%_, _≤_, _<_}
 use native.Mathlib.Omega.{arith}
-use lib.Dec.{ltb}
 use borrow.Author.Tests.{lt-ltb, le-ltb}
-use Rattle.base.specs.Meaning.{pick}
 use Rattle.base.specs.Reading.{when}
 use Rattle.base.proofs.Tests.{below}
 use Rattle.text.specs.Reading.{digitOf}

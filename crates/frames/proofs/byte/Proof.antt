@@ -1,5 +1,4 @@
 -- `frames::byte` meets its contract: a bad line and the limit come first. Assumes nothing.
-use native.Mathlib.Omega.{arith}
 use mathlib.Core.Path.{sym, _∙_, ap}
 use Rattle.frames.specs.declared.Frames.{Frames}
 use Rattle.frames.specs.Reading.{endedOf, withOf}

@@ -1,5 +1,4 @@
 -- `frames::fresh` meets its contract: nothing is held. Assumes nothing.
-use mathlib.Core.Path.{ap}
 use Rattle.frames.specs.Reading.{freshOf}
 use borrow.Author.Needs.{needs}
 use Rattle.frames.proofs.fresh.Statement.{statement}

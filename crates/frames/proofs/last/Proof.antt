@@ -1,5 +1,5 @@
 -- `frames::last` meets its contract: a bad line comes first. Assumes nothing.
-use mathlib.Core.Path.{_∙_, sym, ap}
+use mathlib.Core.Path.{_∙_, ap}
 use borrow.Author.Tests.{lt-ltb, le-ltb}
 use Rattle.base.specs.Reading.{when}
 use Rattle.frames.specs.declared.Outcome.the-variants.{Refused}

@@ -1,7 +1,5 @@
-use Rattle.frames.proofs.Texts.{output-bounded}
-use lib.ListN.{length}
 -- `frames::output_of` meets its contract: the text stands in front. Assumes nothing.
-use native.Mathlib.Omega.{arith}
+use Rattle.frames.proofs.Texts.{output-bounded}
 use borrow.Author.Needs.{needs}
 use Rattle.frames.proofs.output_of.Statement.{statement}
 use Rattle.frames.proofs.output_of.Tie as tie

@@ -1,8 +1,7 @@
+-- `frames::refused_output` meets its contract: the line stands in front. Assumes nothing.
 use Rattle.frames.proofs.Texts.{output-bounded}
 use Rattle.words.specs.Meaning.{refusedText}
-use mathlib.Core.Path.{sym}
 use lib.ListN.{length}
--- `frames::refused_output` meets its contract: the line stands in front. Assumes nothing.
 use native.Mathlib.Omega.{arith}
 use Prim.Native.Nat.{_≤_}
 use borrow.Author.Needs.{needs}

@@ -1,5 +1,4 @@
 -- `frames::written` meets its contract: a text for each answer. Assumes nothing.
-use native.Mathlib.Omega.{arith}
 use borrow.Author.Needs.{needs}
 use Rattle.frames.proofs.written.Statement.{statement}
 use Rattle.frames.proofs.written.Tie as tie

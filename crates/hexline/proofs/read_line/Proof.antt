@@ -2,7 +2,7 @@
 use native.Mathlib.Omega.{arith}
 use mathlib.Core.Path.{_≡_, refl, sym, _∙_}
 use Prim.Native.Nat.{_≤_, _-_, _+_}
-use lib.ListN.{length, drop, getD, length-set}
+use lib.ListN.{length, drop, length-set}
 use Rattle.hexline.specs.Reading.{bytesFrom, frameOf}
 use Rattle.hexline.proofs.Steps.{goes-on, no-byte, alone, ended, too-long, not-long, bad-bounded}
 use borrow.Author.Needs.{needs}
