@@ -7,3 +7,4 @@ pub mod Lines
 pub mod Judged
 pub mod Texts
 pub mod Meaning
+pub mod Vectors

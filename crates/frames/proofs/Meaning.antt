@@ -5,7 +5,7 @@ use mathlib.Core.Bool.{Bool}
 use mathlib.Core.List.{List, [], _∷_, _++_}
 use Prim.Native.Nat.{ℕ, _+_, _≤_, _<_}
 use native.Mathlib.Omega.{arith}
-use lib.ListN.{length}
+use lib.ListN.{length, take}
 use Rattle.base.specs.Meaning.{pick}
 use Rattle.base.proofs.Tests.{below}
 use Rattle.refusal.specs.declared.Reason.the-variants.{Line}
@@ -15,11 +15,12 @@ use Rattle.loader.specs.Reading.{freshOf as noPiece, answerOf}
 use Rattle.frames.specs.declared.Frames.{Frames}
 use Rattle.frames.specs.declared.Outcome.{Outcome}
 use Rattle.frames.specs.declared.Outcome.the-variants.{Sound, Refused, TooBig}
-use Rattle.frames.specs.Meaning.{limit, AreFrames, fedAll, Reads, BadLine, first-bad, Answers, bad-line, too-big, closed, together, fedChunks}
+use Rattle.frames.specs.Meaning.{limit, AreFrames, fedAll, Reads, BadLine, first-bad, Answers, bad-line, too-big, closed, together, fedChunks, outcomeText, outputOf}
 use Rattle.frames.specs.Reading.{freshOf, fedOf, answeredOf, closedOf}
 use Rattle.frames.proofs.Feeding.{joined, bad-stays}
 use Rattle.frames.proofs.Lines as lines
 use Rattle.frames.proofs.Lines.{linesIn, moreThan, more, no-more, reads-lines, behind-limit}
+use Rattle.frames.proofs.Texts.{text-in-front}
 use Rattle.frames.proofs.Judged.{judge, judge-frames, judge-first, fresh-fine, loads, Pieces, FirstBad, pieces}
 
 -- chunks are one input
@@ -97,6 +98,10 @@ line-exactly never cs i = (
     back o e (bad-line j b q) = let n : j ≡ i = ap placeOf (sym q ∙ e) in subst (λ (x : ℕ). BadLine (together cs) x) n b
     back o e (too-big ls ps r are h q) = absurd (not-big (refusal Line i) (sym q ∙ e))
     back o e (closed ls ps r are h q) = absurd (never ls ps i are (sym q ∙ e))
+
+-- what is written is the text of that answer
+pub text-written : (cs : List (List ℕ)) (o : Outcome) → Answers (together cs) o → let w = outputOf (outcomeText (closedOf (fedChunks freshOf cs))) in take (w .len) (w .bytes) ≡ outcomeText o
+text-written cs o a = text-in-front (outcomeText (closedOf (fedChunks freshOf cs))) ∙ ap (λ (x : Outcome). outcomeText x) (exactly cs o .1 a)
 
 -- where the program may stop reading: behind a bad line nothing changes the state
 pub stops-bad : (f : Frames) (cs : List (List ℕ)) → 0 < f .bad → fedChunks f cs ≡ f
