@@ -17,7 +17,7 @@ use Rattle.hexline.specs.Meaning.{NoFrame, goodFrame, badFrame}
 use Rattle.hexline.specs.Reading.{frameOf}
 use Rattle.hexline.proofs.Meaning.{Read, decided, frame-read, bad-read, front}
 use Rattle.loader.specs.declared.Loader.{Loader}
-use Rattle.loader.specs.Reading.{fedOf as pieceFed, answerOf}
+use Rattle.loader.specs.Reading.{fedOf as pieceFed, closeAnswer}
 use Rattle.frames.specs.declared.Frames.{Frames}
 use Rattle.frames.specs.declared.Outcome.{Outcome}
 use Rattle.frames.specs.declared.Outcome.the-variants.{Refused, TooBig}
@@ -30,7 +30,7 @@ use Rattle.frames.proofs.Lines.{linesIn, moreThan, newline, char}
 
 -- what is answered on lines, behind n lines that were fed to l
 abbrev pub judge : ℕ → Loader → Bool → List (List ℕ) → Outcome
-judge n l big [] = pick big TooBig (answeredOf (answerOf l))
+judge n l big [] = pick big TooBig (answeredOf (closeAnswer l))
 judge n l big (x ∷ xs) =
     pick ((frameOf x) .good) (judge (n + 1) (pieceFed l (take ((frameOf x) .len) ((frameOf x) .bytes))) big xs) (Refused (refusal Line (n + 1)))
 
@@ -65,7 +65,7 @@ module _ (f : Frames) (p : List ℕ) (h : Holds (f .line) (f .len) p) (few : f .
   ended-bad : frameOf p ≡ badFrame → endedOf f ≡ badLine f (f .ended + 1)
   ended-bad e = sym (bad-ended f badFrame (f .ended + 1) (sym e ∙ sym (held-read (f .line) (f .len) p h)) (sym (counted-more (f .ended) few)) refl)
 
-last-good : (f : Frames) → f .bad ≤ 0 → lastOf f ≡ answeredOf (answerOf (f .loader))
+last-good : (f : Frames) → f .bad ≤ 0 → lastOf f ≡ answeredOf (closeAnswer (f .loader))
 unfolding lastOf when
 last-good f h = rw (le-ltb 0 (f .bad) h)
 
@@ -148,7 +148,7 @@ loads (b ∷ s) zero f p i = at-limit b s f p i
 loads (b ∷ s) (suc k) f p i = at-byte b s k (loads s k) f p i (same b 10)
 
 -- lines that are all frames
-pub judge-frames : (ls ps : List (List ℕ)) (n : ℕ) (l : Loader) (big : Bool) → AreFrames ls ps → judge n l big ls ≡ pick big TooBig (answeredOf (answerOf (fedAll l ps)))
+pub judge-frames : (ls ps : List (List ℕ)) (n : ℕ) (l : Loader) (big : Bool) → AreFrames ls ps → judge n l big ls ≡ pick big TooBig (answeredOf (closeAnswer (fedAll l ps)))
 judge-frames [] [] n l big a = refl
 judge-frames [] (p ∷ ps) n l big a = absurd a
 judge-frames (x ∷ ls) [] n l big a = absurd a

@@ -11,7 +11,7 @@ use Rattle.base.proofs.Tests.{below}
 use Rattle.refusal.specs.declared.Reason.the-variants.{Line}
 use Rattle.refusal.specs.declared.Refusal.{Refusal}
 use Rattle.refusal.specs.Meaning.{refusal}
-use Rattle.loader.specs.Reading.{freshOf as noPiece, answerOf}
+use Rattle.loader.specs.Reading.{freshOf as noPiece, closeAnswer}
 use Rattle.frames.specs.declared.Frames.{Frames}
 use Rattle.frames.specs.declared.Outcome.{Outcome}
 use Rattle.frames.specs.declared.Outcome.the-variants.{Sound, Refused, TooBig}
@@ -47,12 +47,12 @@ says s o (bad-line i (first-bad before line after ps r are none q) e) =
 says s o (too-big ls ps r are h e) =
     judged-lines s ls r
     ∙ judge-frames ls ps 0 noPiece (moreThan limit s) are
-    ∙ ap (λ (t : Bool). pick t TooBig (answeredOf (answerOf (fedAll noPiece ps)))) (more limit s h)
+    ∙ ap (λ (t : Bool). pick t TooBig (answeredOf (closeAnswer (fedAll noPiece ps)))) (more limit s h)
     ∙ sym e
 says s o (closed ls ps r are h e) =
     judged-lines s ls r
     ∙ judge-frames ls ps 0 noPiece (moreThan limit s) are
-    ∙ ap (λ (t : Bool). pick t TooBig (answeredOf (answerOf (fedAll noPiece ps)))) (no-more limit s h)
+    ∙ ap (λ (t : Bool). pick t TooBig (answeredOf (closeAnswer (fedAll noPiece ps)))) (no-more limit s h)
     ∙ sym e
 
 -- and what is answered the paper says
@@ -64,7 +64,7 @@ said s = go (lines.read s)
 
     by : (ls : List (List ℕ)) → Reads s ls → Pieces ls ⊎ FirstBad ls → (limit < length s) ⊎ (length s ≤ limit) → Answers s (closedOf (fedOf freshOf s))
     by ls r (inl p) (inl h) = so TooBig (too-big ls (p .ps) r (p .are) h refl)
-    by ls r (inl p) (inr h) = so (answeredOf (answerOf (fedAll noPiece (p .ps)))) (closed ls (p .ps) r (p .are) h refl)
+    by ls r (inl p) (inr h) = so (answeredOf (closeAnswer (fedAll noPiece (p .ps)))) (closed ls (p .ps) r (p .are) h refl)
     by ls r (inr b) h =
         so (Refused (refusal Line (length (b .before) + 1)))
         (bad-line (length (b .before) + 1) (first-bad (b .before) (b .line) (b .after) (b .ps) (subst (λ (x : List (List ℕ)). Reads s x) (b .all) r) (b .are) (b .none) refl) refl)
@@ -88,7 +88,7 @@ not-big : (r : Refusal) → TooBig ≡ Refused r → ⊥
 not-big r e = let z : _≡_ {A = ℕ} 0 1 = cc in omega (arith, z)
 
 -- LINE is answered for the first bad line, and for nothing else unless the loader answers it
-pub line-exactly : ((ls ps : List (List ℕ)) (i : ℕ) → AreFrames ls ps → answeredOf (answerOf (fedAll noPiece ps)) ≡ Refused (refusal Line i) → ⊥) → (cs : List (List ℕ)) (i : ℕ) → (closedOf (fedChunks freshOf cs) ≡ Refused (refusal Line i)) ↔ BadLine (together cs) i
+pub line-exactly : ((ls ps : List (List ℕ)) (i : ℕ) → AreFrames ls ps → answeredOf (closeAnswer (fedAll noPiece ps)) ≡ Refused (refusal Line i) → ⊥) → (cs : List (List ℕ)) (i : ℕ) → (closedOf (fedChunks freshOf cs) ≡ Refused (refusal Line i)) ↔ BadLine (together cs) i
 line-exactly never cs i = (
   λ (e : closedOf (fedChunks freshOf cs) ≡ Refused (refusal Line i)). back (Refused (refusal Line i)) refl (exactly cs (Refused (refusal Line i)) .0 e),
   λ (b : BadLine (together cs) i). exactly cs (Refused (refusal Line i)) .1 (bad-line i b refl),

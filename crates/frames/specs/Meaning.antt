@@ -11,7 +11,7 @@ use Rattle.refusal.specs.Meaning.{refusal}
 use Rattle.words.specs.Meaning.{refusedText, bigText}
 use Rattle.hexline.specs.Meaning.{IsFrame, NoFrame}
 use Rattle.loader.specs.declared.Loader.{Loader}
-use Rattle.loader.specs.Reading.{freshOf, fedOf, answerOf}
+use Rattle.loader.specs.Reading.{freshOf, fedOf, closeAnswer}
 use Rattle.frames.specs.declared.Frames.{Frames}
 use Rattle.frames.specs.declared.Output.{Output}
 use Rattle.frames.specs.declared.Outcome.{Outcome}
@@ -65,7 +65,7 @@ pub data BadLine (s : List ℕ) (i : ℕ) : Type 0 where
 pub data Answers (s : List ℕ) (o : Outcome) : Type 0 where
   bad-line : (i : ℕ) → BadLine s i → o ≡ Refused (refusal Line i) → Answers s o
   too-big : (ls ps : List (List ℕ)) → Reads s ls → AreFrames ls ps → limit < length s → o ≡ TooBig → Answers s o
-  closed : (ls ps : List (List ℕ)) → Reads s ls → AreFrames ls ps → length s ≤ limit → o ≡ answeredOf (answerOf (fedAll freshOf ps)) → Answers s o
+  closed : (ls ps : List (List ℕ)) → Reads s ls → AreFrames ls ps → length s ≤ limit → o ≡ answeredOf (closeAnswer (fedAll freshOf ps)) → Answers s o
 
 -- chunks as one input
 abbrev pub together : List (List ℕ) → List ℕ

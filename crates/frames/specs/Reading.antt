@@ -12,7 +12,7 @@ use Rattle.header.specs.declared.Checked.the-variants.{Sound as Accepted, Refus
 use Rattle.hexline.specs.declared.Frame.{Frame}
 use Rattle.hexline.specs.Meaning.{badFrame}
 use Rattle.hexline.specs.Reading.{frameOf}
-use Rattle.loader.specs.Reading.{freshOf as noPiece, fedOf as pieceFed, answerOf}
+use Rattle.loader.specs.Reading.{freshOf as noPiece, fedOf as pieceFed, closeAnswer}
 use Rattle.frames.specs.declared.Frames.{Frames}
 use Rattle.frames.specs.declared.Outcome.{Outcome}
 use Rattle.frames.specs.declared.Outcome.the-variants.{Sound, Refused, TooBig}
@@ -69,7 +69,7 @@ answeredOf (NotAccepted r) = Refused r
 
 -- the answer where all lines are ended
 unfoldable pub lastOf : Frames → Outcome
-lastOf f = when (ltb 0 (f .bad)) (Refused (refusal Line (f .bad))) (answeredOf (answerOf (f .loader)))
+lastOf f = when (ltb 0 (f .bad)) (Refused (refusal Line (f .bad))) (answeredOf (closeAnswer (f .loader)))
 
 -- the answer where the input ends: what is left is the last line, unless there was more than the limit
 unfoldable pub closedOf : Frames → Outcome

@@ -198,7 +198,7 @@ fn last(f: Frames) -> Outcome
     if 0 < f.bad {
         return Outcome::Refused(refusal::refuse(Reason::Line, f.bad));
     }
-    answered(loader::answer(f.loader))
+    answered(loader::closed_answer(f.loader))
 }
 
 // The answer where the input ends. Refusals: LINE, place the first bad line's number, and those of the loader.

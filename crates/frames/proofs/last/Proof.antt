@@ -15,16 +15,16 @@ returns : tie.Need-returns
 unfolding lastOf when
 returns c = rw (lt-ltb _ _ (c .before .if1 .taken)) (ap Refused (c .refuse .ensures))
 
-answer-requires : tie.Need-answer-requires
-answer-requires c κs = search needs
+closed-answer-requires : tie.Need-closed-answer-requires
+closed-answer-requires c κs = search needs
 
 answered-requires : tie.Need-answered-requires
 answered-requires c κs = search needs
 
 returns-2 : tie.Need-returns-2
 unfolding lastOf when
-returns-2 c = rw (le-ltb _ _ (c .before .before .if1 .left)) (c .answered .ensures ∙ ap answeredOf (c .before .answer .ensures))
+returns-2 c = rw (le-ltb _ _ (c .before .before .if1 .left)) (c .answered .ensures ∙ ap answeredOf (c .before .closed-answer .ensures))
 
 pub last-spec : {M : Type 1} → statement M
 last-spec =
-    tie.close (tie.spec refuse-requires returns answer-requires answered-requires returns-2)
+    tie.close (tie.spec refuse-requires returns closed-answer-requires answered-requires returns-2)
