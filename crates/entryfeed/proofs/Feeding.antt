@@ -185,3 +185,9 @@ fed-short size at h x s =
     let e : entriesFed size at h x s .held .len ≡ length (behindWhole q) = ap (λ (y : Held). y .len) (read-held size (at - h .len) x q) ∙ held-len (behindWhole q) in
     let k = rest-short q in
     omega arith
+
+pub fed-kept : (size at : ℕ) (h : Held) (x : Sums) (s : List ℕ) → length (heldBytes (entriesFed size at h x s .held)) ≡ entriesFed size at h x s .held .len
+fed-kept size at h x s =
+    let q : List ℕ = heldBytes h ++ s in
+    let e = read-held size (at - h .len) x q in
+    ap (λ (y : Held). length (heldBytes y)) e ∙ ap (λ (y : List ℕ). length y) (held (behindWhole q)) ∙ sym (ap (λ (y : Held). y .len) e ∙ held-len (behindWhole q))

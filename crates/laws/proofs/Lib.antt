@@ -19,3 +19,5 @@ mod Converting
 mod Refusing
 mod Marked
 mod Returning
+mod Regions
+mod Pieces

@@ -108,6 +108,10 @@ part-none total start p = let l = length-drop (start - total) (take (start - tot
 pub part-behind : (total start end : ℕ) (p : List ℕ) → total + length p ≤ start → length (partOf total start end p) ≡ 0
 part-behind total start end p h = let l = length-drop (start - total) (take (end - total) p) in let k = take-short (end - total) p in omega arith
 
+-- one before it
+pub part-before : (total start end : ℕ) (p : List ℕ) → end ≤ total → length (partOf total start end p) ≡ 0
+part-before total start end p h = let l = length-drop (start - total) (take (end - total) p) in let k = take-least (end - total) p in omega arith
+
 pub nothing : (s : List ℕ) → length s ≡ 0 → s ≡ []
 nothing [] h = refl
 nothing (b ∷ s) h = absurd (omega arith)

@@ -166,6 +166,11 @@ module _ (c : Coding) (n at : ℕ) (t : Standing) where
   unfolding tableRead settled
   read-halted q = refl
 
+  -- as many bytes as are said
+  read-kept : (q : List ℕ) → length (heldBytes (tableRead c n at t q .held)) ≡ tableRead c n at t q .held .len
+  unfolding tableRead settled
+  read-kept q = ap (λ (x : List ℕ). length x) (held (pick (eqb (first q .halted) 0) (drop (first q .place) q) [])) ∙ sym (held-len (pick (eqb (first q .halted) 0) (drop (first q .place) q) []))
+
   -- few bytes
   pub read-short : (q : List ℕ) → tableRead c n at t q .held .len < 4
   unfolding tableRead settled heldOf
@@ -188,16 +193,12 @@ no-more c n at h t s z = rw (ne-eqb (t .halted) 0 z)
 pub split : (u s : List ℕ) (m : ℕ) → u ++ s ≡ (u ++ take m s) ++ drop m s
 split u s m = ap (λ (z : List ℕ). u ++ z) (sym (take-append-drop m s)) ∙ sym (append-assoc u (take m s) (drop m s))
 
+fed-reads : (c : Coding) (n at : ℕ) (h : Held) (t : Standing) (s : List ℕ) → t .halted ≡ 0 → tableFed c n at h t s ≡ tableRead c n (at - h .len) t (heldBytes h ++ s)
+unfolding tableFed
+fed-reads c n at h t s z = rw (eq-eqb (t .halted) 0 z)
+
 -- a part in two goes
 module _ (c : Coding) (n at : ℕ) (h : Held) (t : Standing) (l : length (heldBytes h) ≡ h .len) (b : h .len ≤ at) where
-  reads : (s : List ℕ) → t .halted ≡ 0 → tableFed c n at h t s ≡ tableRead c n (at - h .len) t (heldBytes h ++ s)
-  unfolding tableFed
-  reads s z = rw (eq-eqb (t .halted) 0 z)
-
-  fed-reads : (at' : ℕ) (g : Held) (u : Standing) (s : List ℕ) → u .halted ≡ 0 → tableFed c n at' g u s ≡ tableRead c n (at' - g .len) u (heldBytes g ++ s)
-  unfolding tableFed
-  fed-reads at' g u s z = rw (eq-eqb (u .halted) 0 z)
-
   pub twice : (p s : List ℕ) → tableFed c n at h t (p ++ s) ≡ tableFed c n (at + length p) (tableFed c n at h t p .held) (tableFed c n at h t p .standing) s
   twice p s = go (same (t .halted) 0)
     where
@@ -222,24 +223,34 @@ module _ (c : Coding) (n at : ℕ) (h : Held) (t : Standing) (l : length (heldBy
           let g : F .held .len ≡ length (drop (r .place) q) = ap (λ (x : Held). x .len) (w .0) ∙ held-len (drop (r .place) q) in
           let o : at + length p - F .held .len ≡ at - h .len + r .place = omega (arith, i .1) in
           let d : heldBytes (F .held) ≡ drop (r .place) q = ap heldBytes (w .0) ∙ held (drop (r .place) q) in
-          reads (p ++ s) z
+          fed-reads c n at h t (p ++ s) z
           ∙ ap (tableRead c n (at - h .len) t) assoc
           ∙ read-on c n (at - h .len) t q s k
-          ∙ sym (fed-reads (at + length p) (F .held) (F .standing) s (w .1) ∙ rw (o, d))
+          ∙ sym (fed-reads c n (at + length p) (F .held) (F .standing) s (w .1) ∙ rw (o, d))
 
       stopped : t .halted ≡ 0 → (r .halted ≡ 0 → ⊥) → tableFed c n at h t (p ++ s) ≡ tableFed c n (at + length p) (F .held) (F .standing) s
       stopped z k =
-          reads (p ++ s) z ∙ ap (tableRead c n (at - h .len) t) assoc ∙ read-off c n (at - h .len) t q s k
+          fed-reads c n at h t (p ++ s) z ∙ ap (tableRead c n (at - h .len) t) assoc ∙ read-off c n (at - h .len) t q s k
           ∙ no-more c n (at + length p) (F .held) (F .standing) s (λ i. k (sym (read-halted c n (at - h .len) t q) ∙ i))
 
       go : (t .halted ≡ 0) ⊎ (t .halted ≡ 0 → ⊥) → tableFed c n at h t (p ++ s) ≡ tableFed c n (at + length p) (tableFed c n at h t p .held) (tableFed c n at h t p .standing) s
-      go (inl z) = rw (reads p z) (⊎-elim (on-going z) (stopped z) (same (r .halted) 0))
+      go (inl z) = rw (fed-reads c n at h t p z) (⊎-elim (on-going z) (stopped z) (same (r .halted) 0))
       go (inr z) = sym (no-more c n at h t (p ++ s) z) ∙ rw (← no-more c n at h t p z) (no-more c n (at + length p) h t s z)
+
+-- what is held then
+module _ (c : Coding) (n at : ℕ) (h : Held) (t : Standing) (l : length (heldBytes h) ≡ h .len) where
+  -- as many bytes are held then as are said
+  pub fed-kept : (p : List ℕ) → length (heldBytes (tableFed c n at h t p .held)) ≡ tableFed c n at h t p .held .len
+  fed-kept p = go (same (t .halted) 0)
+    where
+      go : (t .halted ≡ 0) ⊎ (t .halted ≡ 0 → ⊥) → length (heldBytes (tableFed c n at h t p .held)) ≡ tableFed c n at h t p .held .len
+      go (inl z) = rw (fed-reads c n at h t p z) (read-kept c n (at - h .len) t (heldBytes h ++ p))
+      go (inr z) = rw (← no-more c n at h t p z) l
 
   -- few bytes are held then
   pub fed-short : (p : List ℕ) → h .len < 18 → tableFed c n at h t p .held .len < 18
   fed-short p k = go (same (t .halted) 0)
     where
       go : (t .halted ≡ 0) ⊎ (t .halted ≡ 0 → ⊥) → tableFed c n at h t p .held .len < 18
-      go (inl z) = rw (reads p z) (let i = read-short c n (at - h .len) t (heldBytes h ++ p) in omega arith)
+      go (inl z) = rw (fed-reads c n at h t p z) (let i = read-short c n (at - h .len) t (heldBytes h ++ p) in omega arith)
       go (inr z) = rw (← no-more c n at h t p z) k
