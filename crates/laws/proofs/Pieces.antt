@@ -8,6 +8,7 @@ use native.Mathlib.Omega.{arith}
 use lib.Dec.{ltb, eqb}
 use lib.ListN.{length, take, length-append}
 use lib.Seq.{take-append-le}
+use borrow.Author.Tests.{le-ltb}
 use Rattle.base.specs.Reading.{when}
 use Rattle.base.proofs.Tests.{below, same}
 use Rattle.refusal.specs.declared.Refusal.{Refusal}
@@ -179,3 +180,232 @@ module _ (f : Font) (w : Parts f) where
   font-fine : (l : Loader) (p : List ℕ) → Fine l → 32 ≤ l .total + length p → Fine (fontFed f l p)
   unfolding fontFed
   font-fine l p y h = (kept-table l p y, short-table l p y, λ z. absurd (omega arith))
+
+-- a file whose header is known
+pub said-keeps : (c : Checked) (l : Loader) (p : List ℕ) → (saidFed c l p .header ≡ l .header) × (saidFed c l p .closed ≡ l .closed) × (saidFed c l p .total ≡ l .total + length p)
+unfolding fontFed
+said-keeps (Sound f) l p = (refl, refl, refl)
+said-keeps (Refused r) l p = (refl, refl, refl)
+
+joined : (l : Loader) (p s : List ℕ) → l .total + length p + length s ≡ l .total + length (p ++ s)
+joined l p s = let a = length-append p s in omega arith
+
+pub body-twice : (l : Loader) (p s : List ℕ) → Fine l → bodyFed (bodyFed l p) s ≡ bodyFed l (p ++ s)
+unfolding bodyFed
+body-twice l p s y = let k = said-keeps (saysOf (l .header)) l p .0 in rw k (by (saysOf (l .header)) refl)
+  where
+    by : (c : Checked) → saysOf (l .header) ≡ c → saidFed c (saidFed c l p) s ≡ saidFed c l (p ++ s)
+    by (Sound f) e = font-twice f (parts (l .header) f e) l p s y
+    by (Refused r) e = let n = joined l p s in λ i. record { total = n i; closed = l .closed; header = l .header; held = l .held; sums = l .sums; standing = l .standing }
+
+body-fine : (l : Loader) (p : List ℕ) → Fine l → 32 ≤ l .total + length p → Fine (bodyFed l p)
+unfolding bodyFed
+body-fine l p y h = by (saysOf (l .header)) refl
+  where
+    by : (c : Checked) → saysOf (l .header) ≡ c → Fine (saidFed c l p)
+    by (Sound f) e = font-fine f (parts (l .header) f e) l p y h
+    by (Refused r) e = (y .0, y .1, λ z. absurd (omega arith))
+
+-- bytes of the header alone
+no-entry : (f : Font) (k : Kind) → PartsOf f k → (total : ℕ) (p : List ℕ) → total + length p ≤ 32 → length (partOf total (f .entries) (f .bitmaps) p) ≡ 0
+no-entry f Psf1 w total p h = rw w (part-none total (f .entries) p)
+no-entry f Psf2 w total p h = rw w (part-none total (f .entries) p)
+no-entry f Vfont2 w total p h = part-behind total (f .entries) (f .bitmaps) p (omega (arith, w .0))
+
+head-only : (l : Loader) (p : List ℕ) → l .total + length p ≤ 32 → bodyFed l p ≡ counted l p (l .held) (l .sums) (l .standing)
+unfolding bodyFed fontFed
+head-only l p h = by (saysOf (l .header)) refl
+  where
+    by : (c : Checked) → saysOf (l .header) ≡ c → saidFed c l p ≡ counted l p (l .held) (l .sums) (l .standing)
+    by (Sound f) e =
+        let w = parts (l .header) f e in
+        let a = entries-none f (w .0) (l .total) (l .held) (l .sums) p (no-entry f (f .kind) (w .3) (l .total) p h) in
+        let b = table-none f (omega (arith, w .2)) (l .total) (l .held) (l .standing) p (part-behind (l .total) (f .end) limit p (omega (arith, w .2))) in
+        rw (a, b)
+    by (Refused r) e = refl
+
+body-total : (l : Loader) (p : List ℕ) → bodyFed l p .total ≡ l .total + length p
+unfolding bodyFed
+body-total l p = said-keeps (saysOf (l .header)) l p .2
+
+body-closed : (l : Loader) (p : List ℕ) → bodyFed l p .closed ≡ l .closed
+unfolding bodyFed
+body-closed l p = said-keeps (saysOf (l .header)) l p .1
+
+head-past : (l : Loader) (p : List ℕ) → 32 - l .total ≤ length p → bodyFed (headed l p) p ≡ headFed l p
+unfolding headFed when
+head-past l p h = rw (le-ltb (length p) (32 - l .total) h)
+
+-- an open record
+module _ (l : Loader) (o : isOpen l ≡ true) (kept : Kept (l .held)) where
+  abbrev is : (l .closed ≡ 0) × (l .total < 32 → l .held .len ≡ l .total) × (32 ≤ l .total → l .held .len < 18)
+  is = opened l o
+
+  abbrev Goes : List ℕ → Loader → Type 0
+  Goes p next = (fedOf l p ≡ next) × (isOpen next ≡ true) × (next .total ≡ l .total + length p) × Kept (next .held)
+
+  -- within the header, past it, and behind it
+  in-header : (p : List ℕ) → l .total < 32 → l .total + length p < 32 → Goes p (counted l p (heldOf (heldBytes (l .held) ++ p)) (l .sums) (l .standing))
+  in-header p h k =
+      let u = is .1 h in
+      let a = length-append (heldBytes (l .held)) p in
+      let e = held-len (heldBytes (l .held) ++ p) in (
+        sym (head-more l p (omega arith) _ refl ∙ in-head l p (omega arith, omega arith, h) ∙ is-fed l p o),
+        opens _ (is .0) (λ z. omega arith) (λ z. absurd (omega arith)),
+        refl,
+        kept-of (heldBytes (l .held) ++ p),
+      )
+
+  headed-fine : (p : List ℕ) → Fine (headed l p)
+  headed-fine p = (kept-of [], subst (λ (n : ℕ). n < 18) (sym (held-len [])) (omega arith), λ z. held-len [])
+
+  through-header : (p : List ℕ) → l .total < 32 → 32 ≤ l .total + length p → l .total + length p ≤ limit → Goes p (bodyFed (headed l p) p)
+  through-header p h k m =
+      let y = body-fine (headed l p) p (headed-fine p) k in
+      let t : bodyFed (headed l p) p .total ≡ l .total + length p = body-total (headed l p) p in (
+        sym (head-past l p (omega arith) ∙ in-head l p (omega arith, omega arith, h) ∙ is-fed l p o),
+        opens _ (body-closed (headed l p) p ∙ is .0) (λ z. absurd (omega arith)) (λ z. y .1),
+        t,
+        y .0,
+      )
+
+  in-the-body : (p : List ℕ) → 32 ≤ l .total → l .total + length p ≤ limit → Goes p (bodyFed l p)
+  in-the-body p h m =
+      let y = body-fine l p (kept, is .2 h, λ z. absurd (omega arith)) (omega arith) in
+      let t : bodyFed l p .total ≡ l .total + length p = body-total l p in (
+        sym (in-body l p (omega arith, omega arith, h) ∙ is-fed l p o),
+        opens _ (body-closed l p ∙ is .0) (λ z. absurd (omega arith)) (λ z. y .1),
+        t,
+        y .0,
+      )
+
+  -- too long
+  overflows : (p : List ℕ) → l .total ≤ limit → limit < l .total + length p → fedOf l p ≡ pastLimit
+  overflows p h k = sym (grows-long l p (h, omega arith) ∙ is-fed l p o)
+
+  over-long : (p : List ℕ) → limit < l .total → fedOf l p ≡ l
+  over-long p h = sym (too-long l p h ∙ is-fed l p o)
+
+past-open : isOpen pastLimit ≡ true
+unfolding pastLimit freshOf
+past-open = opens pastLimit refl (λ z. absurd (omega arith)) (λ z. subst (λ (n : ℕ). n < 18) (sym (held-len [])) (omega arith))
+
+past-stays : (p : List ℕ) → fedOf pastLimit p ≡ pastLimit
+unfolding pastLimit
+past-stays p = sym (too-long pastLimit p (omega arith) ∙ is-fed pastLimit p past-open)
+
+past-kept : Kept (pastLimit .held)
+unfolding pastLimit freshOf
+past-kept = kept-of []
+
+closed-stays : (l : Loader) (p : List ℕ) → isOpen l ≡ false → fedOf l p ≡ l
+closed-stays l p e = sym (stays l p e)
+
+-- two pieces are one
+module _ (l : Loader) (o : isOpen l ≡ true) (kept : Kept (l .held)) (p s : List ℕ) where
+  n : length (p ++ s) ≡ length p + length s
+  n = length-append p s
+
+  -- from the record after the first piece, which is still open
+  from-next : (next : Loader) → Goes l o kept p next → l .total + length p ≤ limit →
+      (l .total + length p + length s ≤ limit → openFed next s ≡ openFed l (p ++ s)) → fedOf (fedOf l p) s ≡ fedOf l (p ++ s)
+  from-next next g h f = ⊎-elim too-much enough (below limit (l .total + length p + length s))
+    where
+      t : next .total ≡ l .total + length p
+      t = g .2
+      too-much : limit < l .total + length p + length s → fedOf (fedOf l p) s ≡ fedOf l (p ++ s)
+      too-much k = ap (λ (x : Loader). fedOf x s) (g .0) ∙ overflows next (g .1) (g .3) s (omega arith) (omega arith) ∙ sym (overflows l o kept (p ++ s) (omega arith) (omega (arith, n)))
+      enough : l .total + length p + length s ≤ limit → fedOf (fedOf l p) s ≡ fedOf l (p ++ s)
+      enough k = ap (λ (x : Loader). fedOf x s) (g .0) ∙ sym (is-fed next s (g .1)) ∙ f k ∙ is-fed l (p ++ s) o
+
+  twice-body : 32 ≤ l .total → l .total + length p ≤ limit → fedOf (fedOf l p) s ≡ fedOf l (p ++ s)
+  twice-body h k =
+      from-next (bodyFed l p) (in-the-body l o kept p h k) k (λ m.
+      let t = body-total l p in
+      sym (in-body (bodyFed l p) s (omega arith, omega arith, omega arith))
+      ∙ body-twice l p s (kept, is l o kept .2 h, λ z. absurd (omega arith))
+      ∙ in-body l (p ++ s) (omega arith, omega (arith, n), h))
+
+  twice-through : l .total < 32 → 32 ≤ l .total + length p → l .total + length p ≤ limit → fedOf (fedOf l p) s ≡ fedOf l (p ++ s)
+  twice-through h j k =
+      from-next (bodyFed (headed l p) p) (through-header l o kept p h j k) k (λ m.
+      let t = body-total (headed l p) p in
+      let u = is l o kept .1 h in
+      let a = length-append (heldBytes (l .held)) p in
+      let d : take 32 (heldBytes (l .held) ++ p) ≡ take 32 (heldBytes (l .held) ++ (p ++ s)) =
+          sym (take-append-le 32 (heldBytes (l .held) ++ p) s (omega arith)) ∙ ap (λ (x : List ℕ). take 32 x) (append-assoc (heldBytes (l .held)) p s) in
+      let e : headed l p ≡ headed l (p ++ s) = λ i. record { total = l .total; closed = l .closed; header = d i; held = heldOf []; sums = l .sums; standing = l .standing } in
+      sym (in-body (bodyFed (headed l p) p) s (omega arith, omega arith, omega arith))
+      ∙ body-twice (headed l p) p s (headed-fine l o kept p)
+      ∙ ap (λ (x : Loader). bodyFed x (p ++ s)) e
+      ∙ head-past l (p ++ s) (omega (arith, n))
+      ∙ in-head l (p ++ s) (omega arith, omega (arith, n), h))
+
+  twice-header : l .total < 32 → l .total + length p < 32 → fedOf (fedOf l p) s ≡ fedOf l (p ++ s)
+  twice-header h j =
+      from-next next (in-header l o kept p h j) (omega arith) (λ m.
+      sym (in-head next s (omega arith, omega arith, j)) ∙ ⊎-elim more past (below (l .total + length p + length s) 32) ∙ in-head l (p ++ s) (omega arith, omega (arith, n), h))
+    where
+      next : Loader
+      next = counted l p (heldOf (heldBytes (l .held) ++ p)) (l .sums) (l .standing)
+      u : heldBytes (heldOf (heldBytes (l .held) ++ p)) ++ s ≡ heldBytes (l .held) ++ (p ++ s)
+      u = ap (λ (x : List ℕ). x ++ s) (held (heldBytes (l .held) ++ p)) ∙ append-assoc (heldBytes (l .held)) p s
+      more : l .total + length p + length s < 32 → headFed next s ≡ headFed l (p ++ s)
+      more k =
+          let t = joined l p s in
+          sym (head-more next s (omega arith) _ refl)
+          ∙ (λ i. record { total = t i; closed = l .closed; header = l .header; held = heldOf (u i); sums = l .sums; standing = l .standing })
+          ∙ head-more l (p ++ s) (omega (arith, n)) _ refl
+      past : 32 ≤ l .total + length p + length s → headFed next s ≡ headFed l (p ++ s)
+      past k =
+          let e : headed next s ≡ counted (headed l (p ++ s)) p (heldOf []) (l .sums) (l .standing) =
+              λ i. record { total = l .total + length p; closed = l .closed; header = take 32 (u i); held = heldOf []; sums = l .sums; standing = l .standing } in
+          sym (head-past next s (omega arith))
+          ∙ ap (λ (x : Loader). bodyFed x s) (e ∙ sym (head-only (headed l (p ++ s)) p (omega arith)))
+          ∙ body-twice (headed l (p ++ s)) p s (headed-fine l o kept (p ++ s))
+          ∙ head-past l (p ++ s) (omega (arith, n))
+
+  open-twice : fedOf (fedOf l p) s ≡ fedOf l (p ++ s)
+  open-twice = ⊎-elim long short (below limit (l .total))
+    where
+      long : limit < l .total → fedOf (fedOf l p) s ≡ fedOf l (p ++ s)
+      long h = ap (λ (x : Loader). fedOf x s) (over-long l o kept p h) ∙ over-long l o kept s h ∙ sym (over-long l o kept (p ++ s) h)
+      grows : l .total ≤ limit → limit < l .total + length p → fedOf (fedOf l p) s ≡ fedOf l (p ++ s)
+      grows h k = ap (λ (x : Loader). fedOf x s) (overflows l o kept p h k) ∙ past-stays s ∙ sym (overflows l o kept (p ++ s) h (omega (arith, n)))
+      fits : l .total + length p ≤ limit → fedOf (fedOf l p) s ≡ fedOf l (p ++ s)
+      fits k =
+          ⊎-elim
+          (λ (h : l .total < 32). ⊎-elim (λ (j : l .total + length p < 32). twice-header h j) (λ (j : 32 ≤ l .total + length p). twice-through h j k) (below (l .total + length p) 32))
+          (λ (h : 32 ≤ l .total). twice-body h k)
+          (below (l .total) 32)
+      short : l .total ≤ limit → fedOf (fedOf l p) s ≡ fedOf l (p ++ s)
+      short h = ⊎-elim (grows h) fits (below limit (l .total + length p))
+
+pub fed-twice : (l : Loader) (p s : List ℕ) → Kept (l .held) → fedOf (fedOf l p) s ≡ fedOf l (p ++ s)
+fed-twice l p s k = by (isOpen l) refl
+  where
+    by : (b : Bool) → isOpen l ≡ b → fedOf (fedOf l p) s ≡ fedOf l (p ++ s)
+    by true o = open-twice l o k p s
+    by false o = ap (λ (x : Loader). fedOf x s) (closed-stays l p o) ∙ closed-stays l s o ∙ sym (closed-stays l (p ++ s) o)
+
+-- as many bytes are held then as are said, and an open record stays open
+pub stays-open : (l : Loader) (p : List ℕ) → isOpen l ≡ true → Kept (l .held) → (isOpen (fedOf l p) ≡ true) × Kept (fedOf l p .held)
+stays-open l p o k = ⊎-elim long short (below limit (l .total))
+  where
+    goes : (next : Loader) → Goes l o k p next → (isOpen (fedOf l p) ≡ true) × Kept (fedOf l p .held)
+    goes next g = subst (λ (x : Loader). (isOpen x ≡ true) × Kept (x .held)) (sym (g .0)) (g .1, g .3)
+    long : limit < l .total → (isOpen (fedOf l p) ≡ true) × Kept (fedOf l p .held)
+    long h = subst (λ (x : Loader). (isOpen x ≡ true) × Kept (x .held)) (sym (over-long l o k p h)) (o, k)
+    fits : l .total + length p ≤ limit → (isOpen (fedOf l p) ≡ true) × Kept (fedOf l p .held)
+    fits m =
+        ⊎-elim
+        (λ (h : l .total < 32).
+          ⊎-elim (λ (j : l .total + length p < 32). goes _ (in-header l o k p h j)) (λ (j : 32 ≤ l .total + length p). goes _ (through-header l o k p h j m)) (below (l .total + length p) 32))
+        (λ (h : 32 ≤ l .total). goes _ (in-the-body l o k p h m))
+        (below (l .total) 32)
+    short : l .total ≤ limit → (isOpen (fedOf l p) ≡ true) × Kept (fedOf l p .held)
+    short h =
+        ⊎-elim
+        (λ (m : limit < l .total + length p). subst (λ (x : Loader). (isOpen x ≡ true) × Kept (x .held)) (sym (overflows l o k p h m)) (past-open, past-kept))
+        fits
+        (below limit (l .total + length p))
