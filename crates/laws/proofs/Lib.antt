@@ -21,3 +21,4 @@ mod Marked
 mod Returning
 mod Regions
 mod Pieces
+mod Loaded

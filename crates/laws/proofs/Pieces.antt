@@ -224,7 +224,7 @@ head-only l p h = by (saysOf (l .header)) refl
         rw (a, b)
     by (Refused r) e = refl
 
-body-total : (l : Loader) (p : List ℕ) → bodyFed l p .total ≡ l .total + length p
+pub body-total : (l : Loader) (p : List ℕ) → bodyFed l p .total ≡ l .total + length p
 unfolding bodyFed
 body-total l p = said-keeps (saysOf (l .header)) l p .2
 
@@ -241,11 +241,11 @@ module _ (l : Loader) (o : isOpen l ≡ true) (kept : Kept (l .held)) where
   abbrev is : (l .closed ≡ 0) × (l .total < 32 → l .held .len ≡ l .total) × (32 ≤ l .total → l .held .len < 18)
   is = opened l o
 
-  abbrev Goes : List ℕ → Loader → Type 0
+  abbrev pub Goes : List ℕ → Loader → Type 0
   Goes p next = (fedOf l p ≡ next) × (isOpen next ≡ true) × (next .total ≡ l .total + length p) × Kept (next .held)
 
   -- within the header, past it, and behind it
-  in-header : (p : List ℕ) → l .total < 32 → l .total + length p < 32 → Goes p (counted l p (heldOf (heldBytes (l .held) ++ p)) (l .sums) (l .standing))
+  pub in-header : (p : List ℕ) → l .total < 32 → l .total + length p < 32 → Goes p (counted l p (heldOf (heldBytes (l .held) ++ p)) (l .sums) (l .standing))
   in-header p h k =
       let u = is .1 h in
       let a = length-append (heldBytes (l .held)) p in
@@ -259,7 +259,7 @@ module _ (l : Loader) (o : isOpen l ≡ true) (kept : Kept (l .held)) where
   headed-fine : (p : List ℕ) → Fine (headed l p)
   headed-fine p = (kept-of [], subst (λ (n : ℕ). n < 18) (sym (held-len [])) (omega arith), λ z. held-len [])
 
-  through-header : (p : List ℕ) → l .total < 32 → 32 ≤ l .total + length p → l .total + length p ≤ limit → Goes p (bodyFed (headed l p) p)
+  pub through-header : (p : List ℕ) → l .total < 32 → 32 ≤ l .total + length p → l .total + length p ≤ limit → Goes p (bodyFed (headed l p) p)
   through-header p h k m =
       let y = body-fine (headed l p) p (headed-fine p) k in
       let t : bodyFed (headed l p) p .total ≡ l .total + length p = body-total (headed l p) p in (
@@ -280,7 +280,7 @@ module _ (l : Loader) (o : isOpen l ≡ true) (kept : Kept (l .held)) where
       )
 
   -- too long
-  overflows : (p : List ℕ) → l .total ≤ limit → limit < l .total + length p → fedOf l p ≡ pastLimit
+  pub overflows : (p : List ℕ) → l .total ≤ limit → limit < l .total + length p → fedOf l p ≡ pastLimit
   overflows p h k = sym (grows-long l p (h, omega arith) ∙ is-fed l p o)
 
   over-long : (p : List ℕ) → limit < l .total → fedOf l p ≡ l
