@@ -21,7 +21,8 @@ use Rattle.loader.specs.Reading.{fedOf as pieceFed, closeAnswer}
 use Rattle.frames.specs.declared.Frames.{Frames}
 use Rattle.frames.specs.declared.Outcome.{Outcome}
 use Rattle.frames.specs.declared.Outcome.the-variants.{Refused, TooBig}
-use Rattle.frames.specs.Meaning.{limit, AreFrames, fedAll}
+use Rattle.loader.specs.Meaning.{fedAll}
+use Rattle.frames.specs.Meaning.{limit, AreFrames}
 use Rattle.frames.specs.Reading.{countedOf, freshOf, endedOf, withOf, tookOf, byteOf, fedOf, answeredOf, lastOf, closedOf}
 use Rattle.frames.proofs.Feeding.{counted-more, byte-full, byte-newline, byte-char, last-bad, closed-last, bad-answered, full-answered}
 use Rattle.frames.proofs.Held.{Holds, nothing-held, held-read, Longer, longer}

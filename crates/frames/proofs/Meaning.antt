@@ -15,7 +15,8 @@ use Rattle.loader.specs.Reading.{freshOf as noPiece, closeAnswer}
 use Rattle.frames.specs.declared.Frames.{Frames}
 use Rattle.frames.specs.declared.Outcome.{Outcome}
 use Rattle.frames.specs.declared.Outcome.the-variants.{Sound, Refused, TooBig}
-use Rattle.frames.specs.Meaning.{limit, AreFrames, fedAll, Reads, BadLine, first-bad, Answers, bad-line, too-big, closed, together, fedChunks, outcomeText, outputOf}
+use Rattle.loader.specs.Meaning.{fedAll, together}
+use Rattle.frames.specs.Meaning.{limit, loaderSays, AreFrames, Reads, BadLine, first-bad, Answers, bad-line, too-big, closed, fedChunks, outcomeText, outputOf}
 use Rattle.frames.specs.Reading.{freshOf, fedOf, answeredOf, closedOf}
 use Rattle.frames.proofs.Feeding.{joined, bad-stays}
 use Rattle.frames.proofs.Lines as lines
@@ -37,7 +38,7 @@ judged-lines : (s : List ℕ) (ls : List (List ℕ)) → Reads s ls → closedOf
 judged-lines s ls r = judged s ∙ ap (λ (z : List (List ℕ)). judge 0 noPiece (moreThan limit s) z) (reads-lines s ls r)
 
 -- what the paper says is answered
-says : (s : List ℕ) (o : Outcome) → Answers s o → closedOf (fedOf freshOf s) ≡ o
+says : (s : List ℕ) (o : Outcome) → Answers loaderSays s o → closedOf (fedOf freshOf s) ≡ o
 says s o (bad-line i (first-bad before line after ps r are none q) e) =
     let n : 0 + length before + 1 ≡ i = omega (arith, q) in
     judged-lines s (before ++ (line ∷ after)) r
@@ -56,27 +57,27 @@ says s o (closed ls ps r are h e) =
     ∙ sym e
 
 -- and what is answered the paper says
-said : (s : List ℕ) → Answers s (closedOf (fedOf freshOf s))
+said : (s : List ℕ) → Answers loaderSays s (closedOf (fedOf freshOf s))
 said s = go (lines.read s)
   where
-    so : (o : Outcome) → Answers s o → Answers s (closedOf (fedOf freshOf s))
-    so o a = subst (λ (x : Outcome). Answers s x) (sym (says s o a)) a
+    so : (o : Outcome) → Answers loaderSays s o → Answers loaderSays s (closedOf (fedOf freshOf s))
+    so o a = subst (λ (x : Outcome). Answers loaderSays s x) (sym (says s o a)) a
 
-    by : (ls : List (List ℕ)) → Reads s ls → Pieces ls ⊎ FirstBad ls → (limit < length s) ⊎ (length s ≤ limit) → Answers s (closedOf (fedOf freshOf s))
+    by : (ls : List (List ℕ)) → Reads s ls → Pieces ls ⊎ FirstBad ls → (limit < length s) ⊎ (length s ≤ limit) → Answers loaderSays s (closedOf (fedOf freshOf s))
     by ls r (inl p) (inl h) = so TooBig (too-big ls (p .ps) r (p .are) h refl)
     by ls r (inl p) (inr h) = so (answeredOf (closeAnswer (fedAll noPiece (p .ps)))) (closed ls (p .ps) r (p .are) h refl)
     by ls r (inr b) h =
         so (Refused (refusal Line (length (b .before) + 1)))
         (bad-line (length (b .before) + 1) (first-bad (b .before) (b .line) (b .after) (b .ps) (subst (λ (x : List (List ℕ)). Reads s x) (b .all) r) (b .are) (b .none) refl) refl)
 
-    go : lines.Read s → Answers s (closedOf (fedOf freshOf s))
+    go : lines.Read s → Answers loaderSays s (closedOf (fedOf freshOf s))
     go f = by (f .ls) (f .reads) (pieces (f .ls)) (below limit (length s))
 
 -- any input, cut into chunks in any way, is answered as the paper says, and only so
-pub exactly : (cs : List (List ℕ)) (o : Outcome) → (closedOf (fedChunks freshOf cs) ≡ o) ↔ Answers (together cs) o
+pub exactly : (cs : List (List ℕ)) (o : Outcome) → (closedOf (fedChunks freshOf cs) ≡ o) ↔ Answers loaderSays (together cs) o
 exactly cs o = (
-  λ (e : closedOf (fedChunks freshOf cs) ≡ o). subst (λ (x : Outcome). Answers (together cs) x) (sym (ap closedOf (chunks-joined freshOf cs)) ∙ e) (said (together cs)),
-  λ (a : Answers (together cs) o). ap closedOf (chunks-joined freshOf cs) ∙ says (together cs) o a,
+  λ (e : closedOf (fedChunks freshOf cs) ≡ o). subst (λ (x : Outcome). Answers loaderSays (together cs) x) (sym (ap closedOf (chunks-joined freshOf cs)) ∙ e) (said (together cs)),
+  λ (a : Answers loaderSays (together cs) o). ap closedOf (chunks-joined freshOf cs) ∙ says (together cs) o a,
 )
 
 abbrev placeOf : Outcome → ℕ
@@ -94,13 +95,13 @@ line-exactly never cs i = (
   λ (b : BadLine (together cs) i). exactly cs (Refused (refusal Line i)) .1 (bad-line i b refl),
 )
   where
-    back : (o : Outcome) → o ≡ Refused (refusal Line i) → Answers (together cs) o → BadLine (together cs) i
+    back : (o : Outcome) → o ≡ Refused (refusal Line i) → Answers loaderSays (together cs) o → BadLine (together cs) i
     back o e (bad-line j b q) = let n : j ≡ i = ap placeOf (sym q ∙ e) in subst (λ (x : ℕ). BadLine (together cs) x) n b
     back o e (too-big ls ps r are h q) = absurd (not-big (refusal Line i) (sym q ∙ e))
     back o e (closed ls ps r are h q) = absurd (never ls ps i are (sym q ∙ e))
 
 -- what is written is the text of that answer
-pub text-written : (cs : List (List ℕ)) (o : Outcome) → Answers (together cs) o → let w = outputOf (outcomeText (closedOf (fedChunks freshOf cs))) in take (w .len) (w .bytes) ≡ outcomeText o
+pub text-written : (cs : List (List ℕ)) (o : Outcome) → Answers loaderSays (together cs) o → let w = outputOf (outcomeText (closedOf (fedChunks freshOf cs))) in take (w .len) (w .bytes) ≡ outcomeText o
 text-written cs o a = text-in-front (outcomeText (closedOf (fedChunks freshOf cs))) ∙ ap (λ (x : Outcome). outcomeText x) (exactly cs o .1 a)
 
 -- where the program may stop reading: behind a bad line nothing changes the state

@@ -10,8 +10,8 @@ use Rattle.refusal.specs.declared.Reason.the-variants.{Line}
 use Rattle.refusal.specs.Meaning.{refusal}
 use Rattle.words.specs.Meaning.{refusedText, bigText}
 use Rattle.hexline.specs.Meaning.{IsFrame, NoFrame}
-use Rattle.loader.specs.declared.Loader.{Loader}
-use Rattle.loader.specs.Reading.{freshOf, fedOf, closeAnswer}
+use Rattle.loader.specs.Meaning.{fedAll}
+use Rattle.loader.specs.Reading.{freshOf, closeAnswer}
 use Rattle.frames.specs.declared.Frames.{Frames}
 use Rattle.frames.specs.declared.Output.{Output}
 use Rattle.frames.specs.declared.Outcome.{Outcome}
@@ -51,26 +51,20 @@ AreFrames [] (p ∷ ps) = ⊥
 AreFrames (l ∷ ls) [] = ⊥
 AreFrames (l ∷ ls) (p ∷ ps) = IsFrame l p × AreFrames ls ps
 
--- a loader fed by pieces, in order
-abbrev pub fedAll : Loader → List (List ℕ) → Loader
-fedAll l [] = l
-fedAll l (p ∷ ps) = fedAll (fedOf l p) ps
-
 -- "the line's number from 1": the first line that is read and is no frame is the i-th
 pub data BadLine (s : List ℕ) (i : ℕ) : Type 0 where
   first-bad : (before : List (List ℕ)) (line : List ℕ) (after ps : List (List ℕ)) → Reads s (before ++ (line ∷ after)) → AreFrames before ps → NoFrame line → i ≡ length before + 1 → BadLine s i
 
 -- what the program answers on an input: "LINE (23, place the line's number from 1) for a bad line, where the program stops"; `too big` if
--- none is bad; and else what the loader's close answers on the pieces
-pub data Answers (s : List ℕ) (o : Outcome) : Type 0 where
-  bad-line : (i : ℕ) → BadLine s i → o ≡ Refused (refusal Line i) → Answers s o
-  too-big : (ls ps : List (List ℕ)) → Reads s ls → AreFrames ls ps → limit < length s → o ≡ TooBig → Answers s o
-  closed : (ls ps : List (List ℕ)) → Reads s ls → AreFrames ls ps → length s ≤ limit → o ≡ answeredOf (closeAnswer (fedAll freshOf ps)) → Answers s o
+-- none is bad; and else what is said of the pieces
+pub data Answers (said : List (List ℕ) → Outcome) (s : List ℕ) (o : Outcome) : Type 0 where
+  bad-line : (i : ℕ) → BadLine s i → o ≡ Refused (refusal Line i) → Answers said s o
+  too-big : (ls ps : List (List ℕ)) → Reads s ls → AreFrames ls ps → limit < length s → o ≡ TooBig → Answers said s o
+  closed : (ls ps : List (List ℕ)) → Reads s ls → AreFrames ls ps → length s ≤ limit → o ≡ said ps → Answers said s o
 
--- chunks as one input
-abbrev pub together : List (List ℕ) → List ℕ
-together [] = []
-together (c ∷ cs) = c ++ together cs
+-- what the loader's close says of pieces
+abbrev pub loaderSays : List (List ℕ) → Outcome
+loaderSays ps = answeredOf (closeAnswer (fedAll freshOf ps))
 
 -- a state fed by chunks, in order
 abbrev pub fedChunks : Frames → List (List ℕ) → Frames

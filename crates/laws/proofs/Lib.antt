@@ -1,5 +1,6 @@
 -- What the public calls mean. To read first: Demands, and then the pages that it cites: Check, Tables, Bitmaps, Questions, Conversions;
--- Modes (PSF1's modes) and Vectors (the cases P1 to P14). The other files are the steps to them.
+-- Modes (PSF1's modes), Loading (the checker fed by pieces), Program (`fontload`) and Vectors (the cases P1 to P14). The other files are the steps
+-- to them.
 pub mod Demands
 pub mod Check
 pub mod Tables
@@ -7,6 +8,8 @@ pub mod Bitmaps
 pub mod Questions
 pub mod Conversions
 pub mod Modes
+pub mod Loading
+pub mod Program
 pub mod Vectors
 mod Exactly
 mod Deciding
@@ -22,3 +25,4 @@ mod Returning
 mod Regions
 mod Pieces
 mod Loaded
+mod Early

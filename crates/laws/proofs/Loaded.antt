@@ -104,9 +104,9 @@ module _ (f : Font) (s : List ℕ) (w : Parts f) (within : f .end ≤ length s) 
         let b : f .bitmaps - 0 ≡ f .bitmaps = omega arith in
         let z : f .entries + 0 ≡ f .entries = omega arith in
         let d : drop (f .entries) s ≡ P ++ drop (f .bitmaps) s =
-            ap (λ (x : List ℕ). drop (f .entries) x) (sym (take-append-drop (f .bitmaps) s))
-            ∙ drop-append-le (f .entries) (take (f .bitmaps) s) (drop (f .bitmaps) s) (let l = length-take-le (f .bitmaps) s (omega (arith, w .1)) in let c = v .1 in omega arith)
-            ∙ rw (a, b) in
+        ap (λ (x : List ℕ). drop (f .entries) x) (sym (take-append-drop (f .bitmaps) s))
+        ∙ drop-append-le (f .entries) (take (f .bitmaps) s) (drop (f .bitmaps) s) (let l = length-take-le (f .bitmaps) s (omega (arith, w .1)) in let c = v .1 in omega arith)
+        ∙ rw (a, b) in
         let l = size in
         sym (scan-front P (drop (f .bitmaps) s) (f .size) (f .count) 0 0 (omega arith))
         ∙ sym (ap (λ (n : ℕ). scanOf s (f .size) n (f .count) 0 0 0) (sym z) ∙ scan-drop s (f .size) (f .entries) 0 (f .count) 0 0 ∙ ap (λ (x : List ℕ). scanOf x (f .size) 0 (f .count) 0 0 0) d)
@@ -116,6 +116,7 @@ module _ (f : Font) (s : List ℕ) (w : Parts f) (within : f .end ≤ length s) 
       where
         none : length P ≡ 0 → entriesIn f 0 (heldOf []) no-sums s .sums ≡ afterScan (f .entries) (scanOf P (f .size) 0 (f .count) 0 0 0)
         none z = let l = size in ap (λ (y : entries.Fed). y .sums) (sym (no-entries f 0 (heldOf []) no-sums s P refl z)) ∙ none-read (f .size) (f .entries) (f .count) P (omega arith)
+
         some : (length P ≡ 0 → ⊥) → entriesIn f 0 (heldOf []) no-sums s .sums ≡ afterScan (f .entries) (scanOf P (f .size) 0 (f .count) 0 0 0)
         some z =
             ap (λ (y : entries.Fed). y .sums) (sym (entries-first f 0 (heldOf []) no-sums s P refl z (omega arith) (heldOf []) refl _ refl) ∙ first-fed (f .size) (f .entries) P)
@@ -150,14 +151,18 @@ module _ (f : Font) (s : List ℕ) (within : f .end ≤ length s) (short : lengt
     where
       l : length (tailOf s f) ≡ length s - f .end
       l = length-drop (f .end) s
+
       at-cut : (k : ℕ) → f .count - r .ended ≡ k → r .ended < f .count → Refused (refusal TableCut (length s)) ≡ answered f (atEnd (r .ended) k (length (tailOf s f)))
       at-cut zero z q = absurd (omega arith)
       at-cut (suc k) z q = let end : length s ≡ f .end + length (tailOf s f) = omega (arith, l) in ap (λ (m : ℕ). Refused (refusal TableCut m)) end
+
       at-whole : (k : ℕ) → f .count - r .ended ≡ k → f .count ≤ r .ended → Sound f ≡ answered f (atEnd (r .ended) k (length (tailOf s f)))
       at-whole zero z q = refl
       at-whole (suc k) z q = absurd (omega arith)
+
       going : r .halted ≡ 0 → answered f (atEnd (r .ended) (f .count - r .ended) (length (tailOf s f))) ≡ answered f (tableTold (f .count) (length (tailOf s f)) r)
       going z = rw (eq-eqb (r .halted) 0 z)
+
       go : (r .halted ≡ 0) ⊎ (r .halted ≡ 0 → ⊥) → (r .halted ≡ 12) ⊎ (r .halted ≡ 12 → ⊥) → tailTold f (length s) t ≡ answered f (tableTold (f .count) (length (tailOf s f)) r)
       go (inl z) y =
           ⊎-elim
@@ -187,10 +192,11 @@ module _ (f : Font) (s : List ℕ) (within : f .end ≤ length s) (short : lengt
         where
           empty : length (partOf 0 (f .end) limit s) ≡ 0 → (0 ≡ R .ended) × (0 ≡ R .halted)
           empty z = no-run C (f .count) (tailOf s f) (sym (ap (λ (x : List ℕ). length x) Q) ∙ z)
+
       some : (length (partOf 0 (f .end) limit s) ≡ 0 → ⊥) → tailTold f (length s) (tableIn f 0 h unread s .standing) ≡ answered f (tableTold (f .count) (length (tailOf s f)) R)
       some z =
           let e : tableIn f 0 h unread s ≡ tableRead C (f .count) (f .end) unread (tailOf s f) =
-              sym (table-first f 0 h unread s _ refl z b (omega arith) C refl (heldOf []) refl _ refl) ∙ first-table C (f .count) (f .end) (partOf 0 (f .end) limit s) ∙ ap (tableRead C (f .count) (f .end) unread) Q in
+          sym (table-first f 0 h unread s _ refl z b (omega arith) C refl (heldOf []) refl _ refl) ∙ first-table C (f .count) (f .end) (partOf 0 (f .end) limit s) ∙ ap (tableRead C (f .count) (f .end) unread) Q in
           let g = read-standing C (f .count) (f .end) (tailOf s f) in
           ap (λ (y : tables.Fed). tailTold f (length s) (y .standing)) e ∙ tail-by R _ (g .0) (g .1) (λ k. g .2) b
 
@@ -227,6 +233,7 @@ same-font s f = by (f .kind)
     told-scan : (r : Scan) → SoundIs f (scanned f r)
     told-scan (BrokenAt i) = tt
     told-scan (Greatest h w) = by-when (SoundIs f) _ _ _ tt (by-when (SoundIs f) _ _ _ tt refl)
+
     by : (k : Kind) → SoundIs f (kindEntries s f k)
     by Psf1 = refl
     by Psf2 = refl
@@ -334,6 +341,10 @@ past-long : limit < pastLimit .total
 unfolding pastLimit
 past-long = omega arith
 
+nothing-more : counted freshOf [] (heldOf (heldBytes (freshOf .held) ++ [])) (freshOf .sums) (freshOf .standing) ≡ freshOf
+unfolding freshOf
+nothing-more = λ i. record { total = 0; closed = 0; header = freshOf .header; held = heldOf (held [] i ++ []); sums = no-sums; standing = unread }
+
 -- any piece
 pub loaded : (s : List ℕ) → answerOf (fedOf freshOf s) ≡ checkOf s
 loaded s = ⊎-elim too-long fits (below limit (length s))
@@ -342,15 +353,20 @@ loaded s = ⊎-elim too-long fits (below limit (length s))
     too-long h =
         let z = fresh-total in
         ap answerOf (overflows freshOf fresh-open fresh-kept s (omega arith) (omega arith)) ∙ sym (answer-long pastLimit past-long) ∙ sym (check-long s h)
+
     fits : length s ≤ limit → answerOf (fedOf freshOf s) ≡ checkOf s
     fits h =
         let z = fresh-total in
         ⊎-elim
         (λ (j : length s < 32).
-          let g = in-header freshOf fresh-open fresh-kept s (omega arith) (omega arith) in
-          let t = g .2 in
-          ap answerOf (g .0)
-          ∙ sym (answer-short _ (omega arith, omega arith))
-          ∙ ap checkOf (held (heldBytes (freshOf .held) ++ s) ∙ start-of s))
+        let g = in-header freshOf fresh-open fresh-kept s (omega arith) (omega arith) in
+        let t = g .2 in
+        ap answerOf (g .0)
+        ∙ sym (answer-short _ (omega arith, omega arith))
+        ∙ ap checkOf (held (heldBytes (freshOf .held) ++ s) ∙ start-of s))
         (λ (j : 32 ≤ length s). ap answerOf (through-header freshOf fresh-open fresh-kept s (omega arith) (omega arith) (omega arith) .0) ∙ loaded-all s h j)
         (below (length s) 32)
+
+-- fed nothing it stays as it is
+pub fresh-empty : fedOf freshOf [] ≡ freshOf
+fresh-empty = let z = fresh-total in in-header freshOf fresh-open fresh-kept [] (omega arith) (omega arith) .0 ∙ nothing-more

@@ -151,8 +151,10 @@ module _ (f : Font) (w : Parts f) where
     where
       n : l .total + length p + length s ≡ l .total + length (p ++ s)
       n = let a = length-append p s in omega arith
+
       e2 : E l (p ++ s) ≡ entriesIn f (l .total + length p) (E l p .held) (E l p .sums) s
       e2 = entries-twice f (w .0) (l .total) (l .held) (l .sums) p s (y .0) (few-entries l y)
+
       -- the piece ends before the table
       outside : length (partOf (l .total) (f .end) limit p) ≡ 0 →
           counted (counted l p (T l p .held) (E l p .sums) (T l p .standing)) s (T (counted l p (T l p .held) (E l p .sums) (T l p .standing)) s .held) (E (counted l p (T l p .held) (E l p .sums) (T l p .standing)) s .sums) (T (counted l p (T l p .held) (E l p .sums) (T l p .standing)) s .standing)
@@ -160,9 +162,10 @@ module _ (f : Font) (w : Parts f) where
       outside z =
           let t1 : T l p ≡ record { held = E l p .held; standing = l .standing } = table-none f some-end (l .total) (E l p .held) (l .standing) p z in
           let t2 : T l (p ++ s) ≡ tableIn f (l .total + length p) (E l (p ++ s) .held) (l .standing) s =
-              table-twice f some-end (l .total) (E l (p ++ s) .held) (l .standing) p s (kept-entries l (p ++ s) y) (few-table l (E l (p ++ s) .held) (short-entries l (p ++ s) y))
-              ∙ ap (λ (r : tables.Fed). tableIn f (l .total + length p) (r .held) (r .standing) s) (table-none f some-end (l .total) (E l (p ++ s) .held) (l .standing) p z) in
+          table-twice f some-end (l .total) (E l (p ++ s) .held) (l .standing) p s (kept-entries l (p ++ s) y) (few-table l (E l (p ++ s) .held) (short-entries l (p ++ s) y))
+          ∙ ap (λ (r : tables.Fed). tableIn f (l .total + length p) (r .held) (r .standing) s) (table-none f some-end (l .total) (E l (p ++ s) .held) (l .standing) p z) in
           rw (t2, t1, e2, n)
+
       -- it reaches into it: no entry follows
       inside : (length (partOf (l .total) (f .end) limit p) ≡ 0 → ⊥) →
           counted (counted l p (T l p .held) (E l p .sums) (T l p .standing)) s (T (counted l p (T l p .held) (E l p .sums) (T l p .standing)) s .held) (E (counted l p (T l p .held) (E l p .sums) (T l p .standing)) s .sums) (T (counted l p (T l p .held) (E l p .sums) (T l p .standing)) s .standing)
@@ -170,11 +173,11 @@ module _ (f : Font) (w : Parts f) where
       inside z =
           let o : f .bitmaps ≤ l .total + length p = ⊎-elim (λ (k : l .total + length p < f .bitmaps). absurd (z (part-behind (l .total) (f .end) limit p (omega (arith, w .1))))) (λ (k : f .bitmaps ≤ l .total + length p). k) (below (l .total + length p) (f .bitmaps)) in
           let v : (h : Held) → entriesIn f (l .total + length p) h (E l p .sums) s ≡ record { held = h; sums = E l p .sums } =
-              λ h. entries-none f (w .0) (l .total + length p) h (E l p .sums) s (part-before (l .total + length p) (f .entries) (f .bitmaps) s o) in
+          λ h. entries-none f (w .0) (l .total + length p) h (E l p .sums) s (part-before (l .total + length p) (f .entries) (f .bitmaps) s o) in
           let e3 : E l (p ++ s) ≡ E l p = e2 ∙ v (E l p .held) in
           let t2 : T l (p ++ s) ≡ tableIn f (l .total + length p) (T l p .held) (T l p .standing) s =
-              ap (λ (r : entries.Fed). tableIn f (l .total) (r .held) (l .standing) (p ++ s)) e3
-              ∙ table-twice f some-end (l .total) (E l p .held) (l .standing) p s (kept-entries l p y) (few-table l (E l p .held) (short-entries l p y)) in
+          ap (λ (r : entries.Fed). tableIn f (l .total) (r .held) (l .standing) (p ++ s)) e3
+          ∙ table-twice f some-end (l .total) (E l p .held) (l .standing) p s (kept-entries l p y) (few-table l (E l p .held) (short-entries l p y)) in
           rw (t2, e3, v (T l p .held), n)
 
   font-fine : (l : Loader) (p : List ℕ) → Fine l → 32 ≤ l .total + length p → Fine (fontFed f l p)
@@ -313,8 +316,10 @@ module _ (l : Loader) (o : isOpen l ≡ true) (kept : Kept (l .held)) (p s : Lis
     where
       t : next .total ≡ l .total + length p
       t = g .2
+
       too-much : limit < l .total + length p + length s → fedOf (fedOf l p) s ≡ fedOf l (p ++ s)
       too-much k = ap (λ (x : Loader). fedOf x s) (g .0) ∙ overflows next (g .1) (g .3) s (omega arith) (omega arith) ∙ sym (overflows l o kept (p ++ s) (omega arith) (omega (arith, n)))
+
       enough : l .total + length p + length s ≤ limit → fedOf (fedOf l p) s ≡ fedOf l (p ++ s)
       enough k = ap (λ (x : Loader). fedOf x s) (g .0) ∙ sym (is-fed next s (g .1)) ∙ f k ∙ is-fed l (p ++ s) o
 
@@ -333,7 +338,7 @@ module _ (l : Loader) (o : isOpen l ≡ true) (kept : Kept (l .held)) (p s : Lis
       let u = is l o kept .1 h in
       let a = length-append (heldBytes (l .held)) p in
       let d : take 32 (heldBytes (l .held) ++ p) ≡ take 32 (heldBytes (l .held) ++ (p ++ s)) =
-          sym (take-append-le 32 (heldBytes (l .held) ++ p) s (omega arith)) ∙ ap (λ (x : List ℕ). take 32 x) (append-assoc (heldBytes (l .held)) p s) in
+      sym (take-append-le 32 (heldBytes (l .held) ++ p) s (omega arith)) ∙ ap (λ (x : List ℕ). take 32 x) (append-assoc (heldBytes (l .held)) p s) in
       let e : headed l p ≡ headed l (p ++ s) = λ i. record { total = l .total; closed = l .closed; header = d i; held = heldOf []; sums = l .sums; standing = l .standing } in
       sym (in-body (bodyFed (headed l p) p) s (omega arith, omega arith, omega arith))
       ∙ body-twice (headed l p) p s (headed-fine l o kept p)
@@ -348,18 +353,21 @@ module _ (l : Loader) (o : isOpen l ≡ true) (kept : Kept (l .held)) (p s : Lis
     where
       next : Loader
       next = counted l p (heldOf (heldBytes (l .held) ++ p)) (l .sums) (l .standing)
+
       u : heldBytes (heldOf (heldBytes (l .held) ++ p)) ++ s ≡ heldBytes (l .held) ++ (p ++ s)
       u = ap (λ (x : List ℕ). x ++ s) (held (heldBytes (l .held) ++ p)) ∙ append-assoc (heldBytes (l .held)) p s
+
       more : l .total + length p + length s < 32 → headFed next s ≡ headFed l (p ++ s)
       more k =
           let t = joined l p s in
           sym (head-more next s (omega arith) _ refl)
           ∙ (λ i. record { total = t i; closed = l .closed; header = l .header; held = heldOf (u i); sums = l .sums; standing = l .standing })
           ∙ head-more l (p ++ s) (omega (arith, n)) _ refl
+
       past : 32 ≤ l .total + length p + length s → headFed next s ≡ headFed l (p ++ s)
       past k =
           let e : headed next s ≡ counted (headed l (p ++ s)) p (heldOf []) (l .sums) (l .standing) =
-              λ i. record { total = l .total + length p; closed = l .closed; header = take 32 (u i); held = heldOf []; sums = l .sums; standing = l .standing } in
+          λ i. record { total = l .total + length p; closed = l .closed; header = take 32 (u i); held = heldOf []; sums = l .sums; standing = l .standing } in
           sym (head-past next s (omega arith))
           ∙ ap (λ (x : Loader). bodyFed x s) (e ∙ sym (head-only (headed l (p ++ s)) p (omega arith)))
           ∙ body-twice (headed l (p ++ s)) p s (headed-fine l o kept (p ++ s))
@@ -370,14 +378,17 @@ module _ (l : Loader) (o : isOpen l ≡ true) (kept : Kept (l .held)) (p s : Lis
     where
       long : limit < l .total → fedOf (fedOf l p) s ≡ fedOf l (p ++ s)
       long h = ap (λ (x : Loader). fedOf x s) (over-long l o kept p h) ∙ over-long l o kept s h ∙ sym (over-long l o kept (p ++ s) h)
+
       grows : l .total ≤ limit → limit < l .total + length p → fedOf (fedOf l p) s ≡ fedOf l (p ++ s)
       grows h k = ap (λ (x : Loader). fedOf x s) (overflows l o kept p h k) ∙ past-stays s ∙ sym (overflows l o kept (p ++ s) h (omega (arith, n)))
+
       fits : l .total + length p ≤ limit → fedOf (fedOf l p) s ≡ fedOf l (p ++ s)
       fits k =
           ⊎-elim
           (λ (h : l .total < 32). ⊎-elim (λ (j : l .total + length p < 32). twice-header h j) (λ (j : 32 ≤ l .total + length p). twice-through h j k) (below (l .total + length p) 32))
           (λ (h : 32 ≤ l .total). twice-body h k)
           (below (l .total) 32)
+
       short : l .total ≤ limit → fedOf (fedOf l p) s ≡ fedOf l (p ++ s)
       short h = ⊎-elim (grows h) fits (below limit (l .total + length p))
 
@@ -394,15 +405,18 @@ stays-open l p o k = ⊎-elim long short (below limit (l .total))
   where
     goes : (next : Loader) → Goes l o k p next → (isOpen (fedOf l p) ≡ true) × Kept (fedOf l p .held)
     goes next g = subst (λ (x : Loader). (isOpen x ≡ true) × Kept (x .held)) (sym (g .0)) (g .1, g .3)
+
     long : limit < l .total → (isOpen (fedOf l p) ≡ true) × Kept (fedOf l p .held)
     long h = subst (λ (x : Loader). (isOpen x ≡ true) × Kept (x .held)) (sym (over-long l o k p h)) (o, k)
+
     fits : l .total + length p ≤ limit → (isOpen (fedOf l p) ≡ true) × Kept (fedOf l p .held)
     fits m =
         ⊎-elim
         (λ (h : l .total < 32).
-          ⊎-elim (λ (j : l .total + length p < 32). goes _ (in-header l o k p h j)) (λ (j : 32 ≤ l .total + length p). goes _ (through-header l o k p h j m)) (below (l .total + length p) 32))
+        ⊎-elim (λ (j : l .total + length p < 32). goes _ (in-header l o k p h j)) (λ (j : 32 ≤ l .total + length p). goes _ (through-header l o k p h j m)) (below (l .total + length p) 32))
         (λ (h : 32 ≤ l .total). goes _ (in-the-body l o k p h m))
         (below (l .total) 32)
+
     short : l .total ≤ limit → (isOpen (fedOf l p) ≡ true) × Kept (fedOf l p .held)
     short h =
         ⊎-elim

@@ -29,7 +29,6 @@ module _ {F X : Type 0} (heldIn : F → Held) (restIn : F → X) (both : Held �
     (G : ℕ → Held → X → List ℕ → F)
     (twice : (at : ℕ) (h : Held) (x : X) (p s : List ℕ) → Kept h → h .len < at → G at h x (p ++ s) ≡ G (at + length p) (heldIn (G at h x p)) (restIn (G at h x p)) s)
     (start end : ℕ) (there : 1 ≤ start) where
-
   abbrev pub inPart : ℕ → Held → X → List ℕ → F
   inPart total h x q = when (eqb (length q) 0) (both h x) (when (ltb start total) (G total h x q) (G start (heldOf []) x q))
 
@@ -55,10 +54,13 @@ module _ {F X : Type 0} (heldIn : F → Held) (restIn : F → X) (both : Held �
   module _ (total : ℕ) (h : Held) (x : X) (p s : List ℕ) (kept : Kept h) (few : start < total → h .len < total) where
     abbrev P : List ℕ
     P = partOf total start end p
+
     abbrev S : List ℕ
     S = partOf (total + length p) start end s
+
     whole : partOf total start end (p ++ s) ≡ P ++ S
     whole = part-append total start end p s
+
     lengths : length (P ++ S) ≡ length P + length S
     lengths = length-append P S
 
@@ -68,6 +70,7 @@ module _ {F X : Type 0} (heldIn : F → Held) (restIn : F → X) (both : Held �
       where
         e : P ++ S ≡ S
         e = ap (λ (q : List ℕ). q ++ S) (nothing P z)
+
         go : (total + length p ≤ start) ⊎ (length p ≡ 0) → inPart total h x (P ++ S) ≡ inPart (total + length p) h x S
         go (inl k) = ap (inPart total h x) e ∙ first total h x S y (omega arith) ∙ sym (first (total + length p) h x S y k)
         go (inr k) = let t : total + length p ≡ total = omega arith in ap (inPart total h x) e ∙ ap (λ (n : ℕ). inPart n h x S) (sym t)
@@ -81,8 +84,10 @@ module _ {F X : Type 0} (heldIn : F → Held) (restIn : F → X) (both : Held �
       where
         some : length (P ++ S) ≡ 0 → ⊥
         some i = z (omega (arith, lengths))
+
         reach : length P ≡ length p - (start - total)
         reach = part-reaches total start end p s y z
+
         go : (start < total) ⊎ (total ≤ start) →
             inPart total h x (P ++ S) ≡ inPart (total + length p) (heldIn (inPart total h x P)) (restIn (inPart total h x P)) S
         go (inl k) =
@@ -109,6 +114,7 @@ module _ {F X : Type 0} (heldIn : F → Held) (restIn : F → X) (both : Held �
             from-none z (same (length S) 0)
             ∙ sym (ap (λ (f : F). inPart (total + length p) (heldIn f) (restIn f) S) e
             ∙ ap (λ (g : Held). inPart (total + length p) g (restIn (both h x)) S) (held-both h x) ∙ ap (λ (y : X). inPart (total + length p) h y S) (rest-both h x))
+
         by-some : (length P ≡ 0 → ⊥) → inPart total h x (P ++ S) ≡ inPart (total + length p) (heldIn (inPart total h x P)) (restIn (inPart total h x P)) S
         by-some z = from-some z (same (length S) 0)
 
@@ -119,6 +125,7 @@ module _ {F X : Type 0} (heldIn : F → Held) (restIn : F → X) (both : Held �
     where
       q : List ℕ
       q = partOf total start end p
+
       go : (a b : Bool) → P (heldIn (when a (both h x) (when b (G total h x q) (G start (heldOf []) x q))))
       go true b = subst P (sym (held-both h x)) k
       go false true = f total h q k

@@ -1,3 +1,4 @@
 -- The loader.
+pub mod Meaning
 pub mod Reading
 pub mod Bounds
