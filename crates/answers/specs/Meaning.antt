@@ -9,6 +9,8 @@ use Rattle.header.specs.declared.Kind.{Kind}
 use Rattle.header.specs.declared.Kind.the-variants.{Psf1, Psf2, Vfont2}
 use Rattle.header.specs.declared.Checked.{Checked}
 use Rattle.header.specs.declared.Checked.the-variants.{Sound, Refused}
+use Rattle.loader.specs.declared.Reply.{Reply}
+use Rattle.loader.specs.declared.Reply.the-variants.{Taken, Refused as Untaken}
 use Rattle.bitmap.specs.declared.Part.{Part}
 use Rattle.bitmap.specs.declared.Part.the-variants.{At, Refused as NoPart}
 use Rattle.bitmap.specs.declared.Pixel.{Pixel}
@@ -37,6 +39,11 @@ refusalTold r = record { number = numberOf (r .reason); place = r .place }
 -- the call is answered: LAV_OK, place 0
 abbrev pub noRefusal : LavRefusal
 noRefusal = record { number = 0; place = 0 }
+
+-- feeding's answer: the piece is taken, or LATE
+abbrev pub replyTold : Reply → LavRefusal
+replyTold Taken = noRefusal
+replyTold (Untaken r) = refusalTold r
 
 -- LAV_PSF1, LAV_PSF2, LAV_VFONT2
 abbrev pub kindNumber : Kind → ℕ

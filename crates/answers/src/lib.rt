@@ -5,12 +5,13 @@ use bitmap::Pixel;
 use convert::Converted;
 use header::Checked;
 use header::Kind;
+use loader::Reply;
 use questions::Lookup;
 use questions::Walk;
 use refusal::Refusal;
 use table::Item;
 ghost use mathlib.Core.Path.{_≡_};
-ghost use Rattle.answers.specs.Meaning.{noRefusal, refusalTold, kindNumber, flagNumber, refusedFont, fontAnswer, refusedPart, partAnswer, refusedMetrics, metricsAnswer, numberAnswer, refusedNumber, pixelAnswer, lookupAnswer, itemAnswer, refusedItem, walkAnswer, convertedAnswer};
+ghost use Rattle.answers.specs.Meaning.{noRefusal, refusalTold, replyTold, kindNumber, flagNumber, refusedFont, fontAnswer, refusedPart, partAnswer, refusedMetrics, metricsAnswer, numberAnswer, refusedNumber, pixelAnswer, lookupAnswer, itemAnswer, refusedItem, walkAnswer, convertedAnswer};
 
 // A refusal as C reads it, the first field of every answer: document 01's number and place; both 0 where the call is answered.
 // Only `no_refusal` and `refusal_told` make one.
@@ -92,6 +93,16 @@ pub fn refusal_told(r: Refusal) -> LavRefusal
     LavRefusal {
         number: number,
         place: r.place as u64,
+    }
+}
+
+// What feeding a loader answers: a refusal alone.
+pub fn reply_told(a: Reply) -> LavRefusal
+    ensures { λ r. ⌜ r ≡ replyTold a ⌝ }
+{
+    match a {
+        Reply::Taken => no_refusal(),
+        Reply::Refused(r) => refusal_told(r),
     }
 }
 

@@ -1,10 +1,13 @@
-// The boundary for C and Rust: every public call on numbers and slices, each answer one struct by value. A slice is lent for the call only;
-// nothing is allocated or kept, and only a conversion changes what it is lent, its buffer. Definitions: crates/answers/specs/Meaning.antt. The C side: include/lavandol.h.
+// The boundary for C and Rust: every public call on numbers, slices and a loader's record, each answer one struct by value. What is lent is
+// lent for the call only; nothing is allocated or kept. A conversion changes the buffer that it is lent, and a loader's calls the record; no
+// call changes anything else. Definitions: crates/answers/specs/Meaning.antt. The C side: include/lavandol.h.
 use answers::LavFont;
 use answers::LavItem;
 use answers::LavMetrics;
 use answers::LavNumber;
 use answers::LavPart;
+use answers::LavRefusal;
+use loader::Loader;
 ghost use mathlib.Core.Path.{_≡_};
 ghost use Prim.Native.Nat.{_+_, _≤_};
 ghost use lib.ListN.{length};
@@ -12,7 +15,8 @@ ghost use Rattle.stages.specs.Reading.{checkOf};
 ghost use Rattle.fonts.specs.Reading.{glyphPartOf, rowPartOf, pixelAt, glyphMetricsOf, itemOf, valueGlyph, sequenceGlyph};
 ghost use Rattle.conversion.specs.declared.Conversion.the-variants.{Psf1ToPsf2, Psf2ToPsf1, Psf2ToVfont2, Vfont2ToPsf2};
 ghost use Rattle.convert.specs.Reading.{convertedOf, convertedInto};
-ghost use Rattle.answers.specs.Meaning.{fontAnswer, partAnswer, metricsAnswer, pixelAnswer, lookupAnswer, walkAnswer, convertedAnswer};
+ghost use Rattle.loader.specs.Reading.{freshOf, fedOf, feedAnswer, closedOf, closeAnswer};
+ghost use Rattle.answers.specs.Meaning.{replyTold, fontAnswer, partAnswer, metricsAnswer, pixelAnswer, lookupAnswer, walkAnswer, convertedAnswer};
 
 // The check of a font. Refusals: 1 to 12, in their order.
 #[no_mangle]
@@ -135,4 +139,50 @@ pub extern "C" fn lav_vfont2_to_psf2(file: &[u8], out: &mut [u8]) -> LavNumber
 {
     let c = fonts::vfont2_to_psf2(file, out);
     answers::converted_answer(c)
+}
+
+// A loader that has been fed nothing: the caller keeps the record, and lends it to the two calls below. Of a record that no call has made,
+// `loader::is_open` says whether it is closed.
+#[no_mangle]
+pub extern "C" fn lav_loader_fresh() -> Loader
+    ensures { λ r. ⌜ r ≡ freshOf ⌝ }
+{
+    loader::fresh()
+}
+
+// What feeding a record answers.
+fn fed_told(l: Loader) -> LavRefusal
+    ensures { λ r. ⌜ r ≡ replyTold (feedAnswer l) ⌝ }
+{
+    let a = loader::fed_answer(l);
+    answers::reply_told(a)
+}
+
+// What closing a record answers.
+fn closed_told(l: Loader) -> LavFont
+    ensures { λ r. ⌜ r ≡ fontAnswer (closeAnswer l) ⌝ }
+{
+    let a = loader::closed_answer(l);
+    answers::font_answer(a)
+}
+
+// Feeds a piece to a loader: the record as fed, and no refusal. Refusals: LATE for one that is closed, and the record stays as it was.
+#[no_mangle]
+pub extern "C" fn lav_loader_feed(state: &mut Loader, piece: &[u8]) -> LavRefusal
+    ensures { λ r. ⌜ (r ≡ replyTold (feedAnswer (now (state .entry)))) × (now (state .exit) ≡ fedOf (now (state .entry)) (now (piece .entry))) ⌝ }
+{
+    let s = *state;
+    *state = loader::fed(s, piece);
+    fed_told(s)
+}
+
+// Closes a loader: what the check says of all pieces joined, and the record closed, whatever that is.
+// Refusals: the font's own (1 to 12), in their order; LATE for one that is closed already, and the record stays as it was.
+#[no_mangle]
+pub extern "C" fn lav_loader_close(state: &mut Loader) -> LavFont
+    ensures { λ r. ⌜ (r ≡ fontAnswer (closeAnswer (now (state .entry)))) × (now (state .exit) ≡ closedOf (now (state .entry))) ⌝ }
+{
+    let s = *state;
+    *state = loader::closed(s);
+    closed_told(s)
 }

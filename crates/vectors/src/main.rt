@@ -9,6 +9,8 @@ use entries::Metrics;
 use header::Checked;
 use header::Font;
 use header::Kind;
+use loader::Loader;
+use loader::Reply;
 use questions::Lookup;
 use questions::Walk;
 use refusal::Refusal;
@@ -201,12 +203,15 @@ fn sound(f: Font) {
     }
 }
 
-fn ask_check(file: &[u8]) {
-    let a = fonts::check(file);
+fn checked(a: Checked) {
     match a {
         Checked::Sound(f) => sound(f),
         Checked::Refused(r) => refused(r),
     }
+}
+
+fn ask_check(file: &[u8]) {
+    checked(fonts::check(file));
 }
 
 fn located(p: Part, view: &[u8]) {
@@ -401,6 +406,91 @@ fn ask_sequence(file: &[u8], vs: &[u32]) {
     looked_up(fonts::find_sequence(file, vs));
 }
 
+// Where a piece of k bytes ends that begins at `at`: at the end of the file if it is shorter, or k is 0.
+fn piece_end(len: usize, at: usize, k: usize) -> usize
+    requires { ⌜ at < len ⌝ }
+    ensures { λ r. ⌜ (at < r) × (r ≤ len) ⌝ }
+{
+    if k == 0 {
+        return len;
+    }
+    if len - at < k {
+        return len;
+    }
+    at + k
+}
+
+// The file in pieces of k bytes, the last one shorter.
+fn loaded(file: &[u8], k: usize) -> Loader {
+    let mut l = loader::fresh();
+    let mut at = 0;
+    while at < file.len() {
+        let to = piece_end(file.len(), at, k);
+        l = loader::fed(l, part(file, at, to - at));
+        at = to;
+    }
+    l
+}
+
+fn ask_load(file: &[u8], k: usize) {
+    say(b"load ");
+    decimal(k);
+    say(b" ");
+    checked(loader::closed_answer(loaded(file, k)));
+}
+
+// The file in three pieces: a bytes, b bytes and the rest.
+fn ask_cuts(file: &[u8], a: usize, b: usize) {
+    say(b"cuts ");
+    decimal(a);
+    say(b" ");
+    decimal(b);
+    say(b" ");
+    let to = grown(file.len(), a, b);
+    let first = loader::fed(loader::fresh(), part(file, 0, a));
+    let second = loader::fed(first, part(file, a, b));
+    let third = loader::fed(second, part(file, to, file.len()));
+    checked(loader::closed_answer(third));
+}
+
+fn reply(a: Reply) {
+    match a {
+        Reply::Taken => say(b"taken"),
+        Reply::Refused(r) => refused(r),
+    }
+}
+
+// The file in one piece, a piece after the close, and a close after the close.
+fn ask_late(file: &[u8]) {
+    say(b"late ");
+    let fresh = loader::fresh();
+    reply(loader::fed_answer(fresh));
+    say(b" ");
+    let closed = loader::closed(loader::fed(fresh, file));
+    reply(loader::fed_answer(closed));
+    say(b" ");
+    checked(loader::closed_answer(loader::fed(closed, file)));
+}
+
+// The questions on the loader, as those below.
+fn ask_loader(op: u8, a: &[u8], file: &[u8]) -> usize {
+    if 0x40 <= op {
+        ask_load(file, base::size(base::wide(op % 64)));
+        say(b"\n");
+        return 1;
+    }
+    if op == 0x18 {
+        ask_cuts(file, base::size(byte(a, 1)), base::size(byte(a, 2)));
+        say(b"\n");
+        return 3;
+    }
+    if op == 0x19 {
+        ask_late(file);
+        say(b"\n");
+    }
+    1
+}
+
 // The questions: each prints its line; the answer is the record's length.
 fn ask(script: &[u8], at: usize, op: u8, file: &[u8]) -> usize {
     let a = part(script, at, 25);
@@ -450,7 +540,7 @@ fn ask(script: &[u8], at: usize, op: u8, file: &[u8]) -> usize {
             say(b"\n");
             19
         }
-        _ => 1,
+        _ => ask_loader(op, a, file),
     }
 }
 
@@ -574,6 +664,13 @@ fn exchange(script: &[u8], file: &mut [u8], out: &mut [u8], c: Cursor) -> Cursor
     }
 }
 
+fn is_exchange(op: u8) -> bool {
+    if op < 0x20 {
+        return false;
+    }
+    op < 0x40
+}
+
 // One record, if one is left.
 fn step(script: &[u8], file: &mut [u8], out: &mut [u8], c: Cursor) -> Cursor {
     let at = c.at;
@@ -589,7 +686,7 @@ fn step(script: &[u8], file: &mut [u8], out: &mut [u8], c: Cursor) -> Cursor {
             last: c.last,
         };
     }
-    if 0x20 <= op {
+    if is_exchange(op) {
         return exchange(script, file, out, c);
     }
     let len = least(c.len, file.len());

@@ -1,7 +1,7 @@
 //! Runs a script with the second implementation and gives the expected text.
 
 use crate::script::*;
-use second::{Item, Refusal};
+use second::{Font, Item, Loader, Refusal};
 use std::fmt::Write;
 
 type Conversion = fn(&[u8], &mut [u8]) -> Result<usize, Refusal>;
@@ -58,6 +58,26 @@ fn found(answer: Result<usize, Refusal>) -> String {
     }
 }
 
+fn checked(answer: Result<Font, Refusal>) -> String {
+    match answer {
+        Ok(font) => format!("sound {}", second::first_line(&font)),
+        Err(r) => refused(r),
+    }
+}
+
+fn taken(answer: Result<(), Refusal>) -> String {
+    answer.map_or_else(refused, |()| "taken".to_string())
+}
+
+/// What a loader says that is fed these pieces.
+fn loaded<'a>(pieces: impl IntoIterator<Item = &'a [u8]>) -> String {
+    let mut loader = Loader::new();
+    for piece in pieces {
+        loader.feed(piece).expect("an open loader");
+    }
+    checked(loader.close())
+}
+
 /// The expected text, the number of questions, and the bytes of the files they
 /// were asked about, all together.
 pub fn answer(script: &[u8]) -> (String, usize, usize) {
@@ -68,7 +88,7 @@ pub fn answer(script: &[u8]) -> (String, usize, usize) {
     let mut last: Vec<u8> = Vec::new();
     while !script.0.is_empty() {
         let op = script.number(1) as u8;
-        if (CHECK..=CONVERT).contains(&op) {
+        if (CHECK..=CONVERT).contains(&op) || LOAD <= op {
             questions += 1;
             asked += file.len();
         }
@@ -98,11 +118,7 @@ pub fn answer(script: &[u8]) -> (String, usize, usize) {
                 file.truncate(length);
             }
             CHECK => {
-                let words = match second::check(&file) {
-                    Ok(font) => format!("sound {}", second::first_line(&font)),
-                    Err(r) => refused(r),
-                };
-                writeln!(text, "{words}").unwrap();
+                writeln!(text, "{}", checked(second::check(&file))).unwrap();
             }
             GLYPH => {
                 let g = script.number(8);
@@ -156,6 +172,24 @@ pub fn answer(script: &[u8]) -> (String, usize, usize) {
                 };
                 let asked = asked.map(|n| n.to_string()).join(" ");
                 writeln!(text, "metrics {g} {asked} {words}").unwrap();
+            }
+            CUTS => {
+                let (a, b) = (script.number(1) as usize, script.number(1) as usize);
+                let (first, rest) = file.split_at(a.min(file.len()));
+                let (second, third) = rest.split_at(b.min(rest.len()));
+                writeln!(text, "cuts {a} {b} {}", loaded([first, second, third])).unwrap();
+            }
+            LATE => {
+                let mut loader = Loader::new();
+                let first = taken(loader.feed(&file));
+                let _ = loader.close();
+                let piece = taken(loader.feed(&file));
+                writeln!(text, "late {first} {piece} {}", checked(loader.close())).unwrap();
+            }
+            LOAD..=0x7F => {
+                let k = (op - LOAD) as usize;
+                let length = if k == 0 { file.len().max(1) } else { k };
+                writeln!(text, "load {k} {}", loaded(file.chunks(length))).unwrap();
             }
             CONVERT => {
                 let which = script.number(1) as u8;

@@ -1,10 +1,11 @@
-//! Writes three corpora of questions and expected answers: OUTDIR/fonts/{stdin,stdout},
-//! and likewise OUTDIR/conversions and OUTDIR/metrics.
+//! Writes four corpora of questions and expected answers: OUTDIR/fonts/{stdin,stdout},
+//! and likewise OUTDIR/conversions, OUTDIR/metrics and OUTDIR/loads.
 //! With the word `answer` alone: answers a script from standard input.
 
 mod answer;
 mod conversions;
 mod fonts;
+mod loads;
 mod make;
 mod metrics;
 mod script;
@@ -35,4 +36,5 @@ fn main() {
     write(&out.join("fonts"), &fonts::script());
     write(&out.join("conversions"), &conversions::script());
     write(&out.join("metrics"), &metrics::script());
+    write(&out.join("loads"), &loads::script());
 }

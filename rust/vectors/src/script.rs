@@ -15,8 +15,12 @@ pub const WALK: u8 = 0x14;
 pub const VALUE: u8 = 0x15;
 pub const SEQUENCE: u8 = 0x16;
 pub const METRICS: u8 = 0x17;
+pub const CUTS: u8 = 0x18;
+pub const LATE: u8 = 0x19;
 pub const CONVERT: u8 = 0x20;
 pub const TAKE: u8 = 0x21;
+/// This and the 63 after it: the file in pieces of 1 to 63 bytes; this one alone: in one.
+pub const LOAD: u8 = 0x40;
 
 /// The longest current file and the longest buffer.
 pub const LONGEST: usize = 1_048_640;
@@ -25,11 +29,12 @@ pub struct Script {
     pub bytes: Vec<u8>,
     pub file: Vec<u8>,
     last: Option<Vec<u8>>,
+    checks: usize,
 }
 
 impl Script {
     pub fn new() -> Script {
-        Script { bytes: Vec::new(), file: Vec::new(), last: None }
+        Script { bytes: Vec::new(), file: Vec::new(), last: None, checks: 0 }
     }
 
     fn op(&mut self, op: u8, numbers: &[u64]) {
@@ -113,8 +118,23 @@ impl Script {
         self.file.truncate(length);
     }
 
+    /// Checks the file whole, and loads it in pieces of another length each time; a long
+    /// file in longer pieces.
     pub fn check(&mut self) {
         self.op(CHECK, &[]);
+        let least = if self.file.len() < 65_536 { 0 } else { 32 };
+        self.op(LOAD + ((self.checks % 64) | least) as u8, &[]);
+        self.checks += 1;
+    }
+
+    /// Loads the file in three pieces: of a bytes, of b bytes, and the rest.
+    pub fn cuts(&mut self, a: u8, b: u8) {
+        self.bytes.extend_from_slice(&[CUTS, a, b]);
+    }
+
+    /// A piece and a close after the close.
+    pub fn late(&mut self) {
+        self.op(LATE, &[]);
     }
 
     pub fn glyph(&mut self, g: u64) {

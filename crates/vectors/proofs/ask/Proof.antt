@@ -137,6 +137,9 @@ slice-aggregate-say-8 c = search needs
 say-requires-8 : tie.Need-say-requires-8
 say-requires-8 c κs = search needs
 
+ask-loader-requires : tie.Need-ask-loader-requires
+ask-loader-requires c κs = search needs
+
 returns : tie.Need-returns
 returns c = search needs
 
@@ -211,6 +214,7 @@ ask-spec =
     ask-metrics-requires
     slice-aggregate-say-8
     say-requires-8
+    ask-loader-requires
     returns
     returns-2
     returns-3

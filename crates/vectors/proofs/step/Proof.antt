@@ -32,6 +32,9 @@ same-length c = search needs
 returns-2 : tie.Need-returns-2
 returns-2 c = search needs
 
+is-exchange-requires : tie.Need-is-exchange-requires
+is-exchange-requires c κs = search needs
+
 exchange-requires : tie.Need-exchange-requires
 exchange-requires c κs = search needs
 
@@ -51,7 +54,7 @@ slice-reshare-prefix-ask : tie.Need-slice-reshare-prefix-ask
 slice-reshare-prefix-ask c = search needs
 
 slice-aggregate-ask : tie.Need-slice-aggregate-ask
-slice-aggregate-ask c = let h : c .before .least .result ≤ length (c .before .before .before .before .before .before .before .before .before .args .file .now) = omega arith in sym (length-take-le _ _ h)
+slice-aggregate-ask c = let h : c .before .least .result ≤ length (c .before .before .before .before .before .before .before .before .before .before .args .file .now) = omega arith in sym (length-take-le _ _ h)
 
 ask-requires : tie.Need-ask-requires
 ask-requires c κs = search needs
@@ -77,6 +80,7 @@ step-spec =
     grown-requires
     same-length
     returns-2
+    is-exchange-requires
     exchange-requires
     same-length-2
     same-length-3
