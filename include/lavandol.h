@@ -14,10 +14,11 @@
  * - The pointers are not kept: memory may be moved or freed after the call.
  *
  * The functions allocate nothing, have no global state and no locks, and call nothing: the archive needs no C library. So they may run
- * in several threads at once, and in an interrupt handler; but lav_check, lav_metrics and the four conversions use SSE registers (the
- * compiler's doing; tools/try-boundary reads it off the archive), so a handler that does not save them must not call these six. They
- * need at most about 600 bytes of stack (docs/BENCHMARK.md), whatever the font. Each call on a file checks the font first, one pass over
- * the header, the vfont2 entries and the Unicode table; a walk or a lookup is another pass over the Unicode table at most, a conversion
+ * in several threads at once, and in an interrupt handler; but lav_check, lav_metrics, the four conversions and the loader's three calls
+ * use SSE registers (the compiler's doing; tools/try-boundary reads it off the archive), so a handler that does not save them must not
+ * call these nine. They need at most about 600 bytes of stack, lav_loader_feed about 1,800 (docs/BENCHMARK.md), whatever the font. Each
+ * call on a file checks the font first, one pass over the header, the vfont2 entries and the Unicode table; a walk or a lookup is another
+ * pass over the Unicode table at most, a conversion
  * two. A font that arrives piece by piece is checked as it comes (lav_loader), in the same one pass.
  *
  * Numbers in the files are little endian. Glyphs, rows, columns and items are counted from 0.

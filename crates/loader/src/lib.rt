@@ -156,7 +156,7 @@ fn feed_body(l: Loader, piece: &[u8]) -> Loader
     ensures { λ r. ⌜ r ≡ bodyFed l (now (piece .entry)) ⌝ }
 {
     let header = l.header;
-    let c = stages::says(&header);
+    let c = stages::describes(&header);
     match c {
         Checked::Sound(f) => feed_font(l, f, piece),
         Checked::Refused(_) => {
@@ -318,7 +318,7 @@ fn told_open(l: Loader) -> Checked
         let bytes = h.bytes;
         return stages::check(&bytes[..n]);
     }
-    let c = stages::says(&header);
+    let c = stages::describes(&header);
     match c {
         Checked::Sound(f) => told_font(f, l),
         Checked::Refused(r) => Checked::Refused(r),

@@ -66,6 +66,22 @@ pub fn says(file: &[u8]) -> Checked
     }
 }
 
+// The same for the loader, which asks it at every piece: a function of its own, since the compiler puts `says` into the check only while nothing
+// else calls it, and without that every call on a file would use SSE registers (include/lavandol.h).
+pub fn describes(file: &[u8]) -> Checked
+    ensures { λ r. ⌜ r ≡ saysOf (now (file .entry)) ⌝ }
+{
+    let named = kind_of(file);
+    match named {
+        Named::Is(kind) => match kind {
+            Kind::Psf1 => Psf1::says(file),
+            Kind::Psf2 => Psf2::says(file),
+            Kind::Vfont2 => Vfont2::says(file),
+        },
+        Named::Unknown => Checked::Refused(refusal::refuse(Reason::Kind, 0)),
+    }
+}
+
 // Refusal 8 for a file of so many bytes.
 pub fn check_length(len: usize, f: Font) -> Checked
     ensures { λ r. ⌜ r ≡ sized len f ⌝ }

@@ -22,7 +22,8 @@ pub fn none() -> Held
     }
 }
 
-// More bytes behind those that are held. Asks that they fit: each caller has counted.
+// More bytes behind those that are held. Asks that they fit: each caller has counted. `% 32` changes no number here: without it the compiler
+// makes the loop a call of `memcpy`, and the library calls nothing.
 pub fn put(h: Held, s: &[u8]) -> Held
     requires { ⌜ h .len + length (now s) ≤ 32 ⌝ }
     ensures equal { λ r. ⌜ r ≡ putOf h (now (s .entry)) ⌝ }
@@ -32,7 +33,7 @@ pub fn put(h: Held, s: &[u8]) -> Held
     let mut bytes = h.bytes;
     let mut i: usize = 0;
     while i < s.len() {
-        let at = start + i;
+        let at = (start + i) % 32;
         bytes[at] = s[i];
         i += 1;
     }

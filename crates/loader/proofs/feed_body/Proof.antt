@@ -10,17 +10,17 @@ use borrow.Author.Needs.{needs}
 use Rattle.loader.proofs.feed_body.Statement.{statement}
 use Rattle.loader.proofs.feed_body.Tie as tie
 
-slice-aggregate-says : tie.Need-slice-aggregate-says
-slice-aggregate-says c = search needs
+slice-aggregate-describes : tie.Need-slice-aggregate-describes
+slice-aggregate-describes c = search needs
 
-says-requires : tie.Need-says-requires
-says-requires c κs = search needs
+describes-requires : tie.Need-describes-requires
+describes-requires c κs = search needs
 
 enum-known-c : tie.Need-enum-known-c
 enum-known-c c = search needs
 
 feed-font-requires : tie.Need-feed-font-requires
-feed-font-requires c κs = (parts _ _ (sym (c .before .before .before .says .ensures) ∙ c .before .c .given .1), c .before .before .before .before .before .before .before .pre .0, c .before .before .before .before .before .before .before .pre .1)
+feed-font-requires c κs = (parts _ _ (sym (c .before .before .before .describes .ensures) ∙ c .before .c .given .1), c .before .before .before .before .before .before .before .pre .0, c .before .before .before .before .before .before .before .pre .1)
 
 enum-told : tie.Need-enum-told
 enum-told c = search needs
@@ -29,17 +29,17 @@ add-next : tie.Need-add-next
 add-next c = search needs
 
 returns : tie.Need-returns
-returns c = said-fed (c .before .before .before .before .before .before .before .before .args .l) (c .before .before .before .before .before .before .before .before .args .piece .now) _ (c .before .before .before .before .says .ensures) _ (c .feed-font .ensures ∙ ap (λ (x : Checked). saidFed x (c .before .before .before .before .before .before .before .before .args .l) (c .before .before .before .before .before .before .before .before .args .piece .now)) (sym (c .before .before .c .given .1)))
+returns c = said-fed (c .before .before .before .before .before .before .before .before .args .l) (c .before .before .before .before .before .before .before .before .args .piece .now) _ (c .before .before .before .before .describes .ensures) _ (c .feed-font .ensures ∙ ap (λ (x : Checked). saidFed x (c .before .before .before .before .before .before .before .before .args .l) (c .before .before .before .before .before .before .before .before .args .piece .now)) (sym (c .before .before .c .given .1)))
 
 returns-2 : tie.Need-returns-2
-returns-2 c = said-fed (c .before .before .before .before .before .before .before .args .l) (c .before .before .before .before .before .before .before .args .piece .now) _ (c .before .before .before .says .ensures) _ (ap (λ (x : Checked). saidFed x (c .before .before .before .before .before .before .before .args .l) (c .before .before .before .before .before .before .before .args .piece .now)) (sym (c .before .enum-told .given .1)))
+returns-2 c = said-fed (c .before .before .before .before .before .before .before .args .l) (c .before .before .before .before .before .before .before .args .piece .now) _ (c .before .before .before .describes .ensures) _ (ap (λ (x : Checked). saidFed x (c .before .before .before .before .before .before .before .args .l) (c .before .before .before .before .before .before .before .args .piece .now)) (sym (c .before .enum-told .given .1)))
 
 pub feed-body-spec : {M : Type 1} → statement M
 feed-body-spec =
     tie.close
     (tie.spec
-    slice-aggregate-says
-    says-requires
+    slice-aggregate-describes
+    describes-requires
     enum-known-c
     feed-font-requires
     enum-told

@@ -31,11 +31,11 @@ check-requires c κs = search needs
 returns-2 : tie.Need-returns-2
 returns-2 c = c .check .ensures .0 ∙ answer-short (c .before .before .before .before .before .before .before .before .before .args .l) (omega arith, omega arith)
 
-slice-aggregate-says : tie.Need-slice-aggregate-says
-slice-aggregate-says c = search needs
+slice-aggregate-describes : tie.Need-slice-aggregate-describes
+slice-aggregate-describes c = search needs
 
-says-requires : tie.Need-says-requires
-says-requires c κs = search needs
+describes-requires : tie.Need-describes-requires
+describes-requires c κs = search needs
 
 enum-known-c : tie.Need-enum-known-c
 enum-known-c c = search needs
@@ -47,10 +47,10 @@ enum-known-c-2 : tie.Need-enum-known-c-2
 enum-known-c-2 c = search needs
 
 returns-3 : tie.Need-returns-3
-returns-3 c = c .told-font .ensures ∙ ap (λ (x : Checked). andThen x (λ f. fontTold f (c .before .before .before .before .before .before .before .before .before .before .before .args .l))) (sym (c .before .before .c .given .1) ∙ c .before .before .before .before .says .ensures) ∙ answer-whole (c .before .before .before .before .before .before .before .before .before .before .before .args .l) (omega arith, omega arith)
+returns-3 c = c .told-font .ensures ∙ ap (λ (x : Checked). andThen x (λ f. fontTold f (c .before .before .before .before .before .before .before .before .before .before .before .args .l))) (sym (c .before .before .c .given .1) ∙ c .before .before .before .before .describes .ensures) ∙ answer-whole (c .before .before .before .before .before .before .before .before .before .before .before .args .l) (omega arith, omega arith)
 
 returns-4 : tie.Need-returns-4
-returns-4 c = ap (λ (x : Checked). andThen x (λ f. fontTold f (c .before .before .before .before .before .before .before .before .before .before .args .l))) (sym (c .before .c2 .given .1) ∙ c .before .before .before .says .ensures) ∙ answer-whole (c .before .before .before .before .before .before .before .before .before .before .args .l) (omega arith, omega arith)
+returns-4 c = ap (λ (x : Checked). andThen x (λ f. fontTold f (c .before .before .before .before .before .before .before .before .before .before .args .l))) (sym (c .before .c2 .given .1) ∙ c .before .before .before .describes .ensures) ∙ answer-whole (c .before .before .before .before .before .before .before .before .before .before .args .l) (omega arith, omega arith)
 
 pub told-open-spec : {M : Type 1} → statement M
 told-open-spec =
@@ -62,8 +62,8 @@ told-open-spec =
     slice-aggregate-check
     check-requires
     returns-2
-    slice-aggregate-says
-    says-requires
+    slice-aggregate-describes
+    describes-requires
     enum-known-c
     told-font-requires
     enum-known-c-2

@@ -2,7 +2,7 @@
 use native.Mathlib.Omega.{arith}
 use mathlib.Core.Path.{_≡_, sym, _∙_, ap}
 use mathlib.Core.List.{List, _++_}
-use Prim.Native.Nat.{ℕ, _≤_, _-_, _+_}
+use Prim.Native.Nat.{ℕ, _≤_, _-_, _+_, _%_}
 use lib.ListN.{length, take, length-map}
 use lib.Seq.{take-all}
 use Rattle.base.specs.Reading.{over}
@@ -43,11 +43,12 @@ loop-again c =
     let l = c .before .before .loop in
     let a = c .before .before .before .before .args in
     let e : l .bytes ≡ over (take (a .h .len) (a .h .bytes) ++ take (l .i) (a .s .now)) (a .h .bytes) = l .inv .3 in
-    let w : length (a .h .bytes) ≡ 32 = l .inv .2 in (
+    let w : length (a .h .bytes) ≡ 32 = l .inv .2 in
+    let m : (a .h .len + l .i) % 32 ≡ a .h .len + l .i = omega arith in (
       omega arith,
       omega arith,
       l .inv .2,
-      rw e (one-more (a .h .bytes) (a .s .now) (a .h .len) (l .i) (omega arith) (omega arith)),
+      rw e (rw m (one-more (a .h .bytes) (a .s .now) (a .h .len) (l .i) (omega arith) (omega arith))),
     )
 
 add-t14 : tie.Need-add-t14 Inv-loop μ-loop
