@@ -18,8 +18,8 @@
  * use SSE registers (the compiler's doing; tools/try-boundary reads it off the archive), so a handler that does not save them must not
  * call these nine. They need at most about 600 bytes of stack, lav_loader_feed about 1,800 (docs/BENCHMARK.md), whatever the font. Each
  * call on a file checks the font first, one pass over the header, the vfont2 entries and the Unicode table; a walk or a lookup is another
- * pass over the Unicode table at most, a conversion
- * two. A font that arrives piece by piece is checked as it comes (lav_loader), in the same one pass.
+ * pass over the Unicode table at most, a conversion two. A font that arrives piece by piece is checked as it comes (lav_loader), in the
+ * same one pass.
  *
  * Numbers in the files are little endian. Glyphs, rows, columns and items are counted from 0.
  */

@@ -1,13 +1,11 @@
 -- Entries scanned in two goes; in a part of a list; with sums brought along.
 use mathlib.Core.Path.{_≡_, refl, sym, _∙_, ap}
-use mathlib.Core.List.{List, [], _∷_, _++_}
+use mathlib.Core.List.{List, _++_}
 use mathlib.Core.Logic.{_⊎_, inl, inr}
 use Prim.Native.Nat.{ℕ, zero, suc, _+_, _*_, _≤_, _<_}
 use native.Mathlib.Omega.{arith}
-use lib.Dec.{ltb}
 use lib.ListN.{length, drop}
 use borrow.Author.Tests.{lt-ltb, le-ltb}
-use Rattle.base.specs.Meaning.{pick, le16, le32}
 use Rattle.base.proofs.Tests.{below}
 use Rattle.base.proofs.Numbers.{le16-drop, le32-drop, le16-before, le32-before}
 use Rattle.entries.specs.declared.Entry.{Entry}

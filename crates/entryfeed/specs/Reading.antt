@@ -9,7 +9,7 @@ use Rattle.entries.specs.declared.Scan.the-variants.{BrokenAt, Greatest}
 use Rattle.entries.specs.Meaning.{entryAt}
 use Rattle.entries.specs.Reading.{scanOf}
 use Rattle.unfinished.specs.declared.Held.{Held}
-use Rattle.unfinished.specs.Meaning.{heldBytes, heldOf}
+use Rattle.unfinished.specs.Reading.{heldBytes, heldOf}
 use Rattle.entryfeed.specs.declared.Sums.{Sums}
 use Rattle.entryfeed.specs.declared.Fed.{Fed}
 

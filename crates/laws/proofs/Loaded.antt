@@ -1,11 +1,11 @@
 -- What the close answers of a fresh record that was fed one piece: what the whole-file check answers on it.
 use mathlib.Core.Path.{_≡_, refl, sym, _∙_, ap, subst}
-use mathlib.Core.Bool.{Bool, true, false, not}
+use mathlib.Core.Bool.{Bool, true, false}
 use mathlib.Core.Logic.{_⊎_, inl, inr, ⊎-elim}
 use mathlib.Core.List.{List, [], _∷_, _++_}
-use Prim.Native.Nat.{ℕ, zero, suc, _+_, _-_, _*_, _/_, _≤_, _<_}
+use Prim.Native.Nat.{ℕ, zero, suc, _+_, _-_, _*_, _≤_, _<_}
 use native.Mathlib.Omega.{arith}
-use lib.Dec.{ltb, eqb}
+use lib.Dec.{ltb}
 use lib.ListN.{length, take, drop, length-drop, take-append-drop}
 use lib.Seq.{take-all, length-take-le, drop-append-le}
 use borrow.Author.Tests.{lt-ltb, le-ltb, eq-eqb, ne-eqb}
@@ -13,7 +13,6 @@ use Rattle.base.specs.Meaning.{pick}
 use Rattle.base.specs.Reading.{when}
 use Rattle.base.proofs.Tests.{below, same}
 use Rattle.refusal.specs.Meaning.{refusal}
-use Rattle.refusal.specs.declared.Refusal.{Refusal}
 use Rattle.refusal.specs.declared.Reason.the-variants.{TooLong, BodyCut, TableCut, TableBad, Trailing}
 use Rattle.header.specs.declared.Kind.{Kind}
 use Rattle.header.specs.declared.Kind.the-variants.{Psf1, Psf2, Vfont2}
@@ -28,12 +27,11 @@ use Rattle.entries.specs.declared.Scan.{Scan}
 use Rattle.entries.specs.declared.Scan.the-variants.{BrokenAt, Greatest}
 use Rattle.entries.specs.Meaning.{entryAt}
 use Rattle.entries.specs.Reading.{scanOf}
-use Rattle.table.specs.declared.TableAnswer.{TableAnswer}
 use Rattle.table.specs.Reading.{stepsFrom, atEnd, tableOf}
 use Rattle.stages.specs.Meaning.{codingOf, tailOf}
 use Rattle.stages.specs.Reading.{andThen, sized, greatestOf, scanned, kindEntries, entriesOf, answered, bareOf, tailed, throughBody, throughEntries, checkOf}
 use Rattle.unfinished.specs.declared.Held.{Held}
-use Rattle.unfinished.specs.Meaning.{heldBytes, heldOf}
+use Rattle.unfinished.specs.Reading.{heldBytes, heldOf}
 use Rattle.unfinished.proofs.Holding.{held, held-len}
 use Rattle.coding.specs.declared.Coding.{Coding}
 use Rattle.entryfeed.specs.declared.Sums.{Sums}
@@ -50,7 +48,7 @@ use Rattle.loader.specs.Reading.{partOf, entriesIn, tableIn, counted, fontFed, 
 use Rattle.loader.proofs.Opening.{opens}
 use Rattle.loader.proofs.Cases.{answer-long, answer-short, answer-whole, entries-first, no-entries, no-tail, table-first, table-cut, table-whole, table-over, table-bad, bare-over, bare-sound}
 use Rattle.laws.proofs.Regions.{Kept, kept-of}
-use Rattle.laws.proofs.Pieces.{Goes, in-header, through-header, overflows, body-total, said-keeps}
+use Rattle.laws.proofs.Pieces.{in-header, through-header, overflows, body-total, said-keeps}
 
 abbrev no-sums : Sums
 no-sums = record { broken = 0; height = 0; width = 0 }

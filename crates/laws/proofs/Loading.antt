@@ -10,11 +10,9 @@ use native.Mathlib.Omega.{arith}
 use Rattle.refusal.specs.declared.Refusal.{Refusal}
 use Rattle.refusal.specs.declared.Reason.the-variants.{Late}
 use Rattle.refusal.specs.Meaning.{refusal}
-use Rattle.header.specs.declared.Checked.{Checked}
-use Rattle.header.specs.declared.Checked.the-variants.{Sound, Refused}
+use Rattle.header.specs.declared.Checked.the-variants.{Refused}
 use Rattle.stages.specs.Reading.{checkOf}
 use Rattle.loader.specs.declared.Loader.{Loader}
-use Rattle.loader.specs.declared.Reply.{Reply}
 use Rattle.loader.specs.declared.Reply.the-variants.{Taken, Refused as Untaken}
 use Rattle.loader.specs.Meaning.{together, fedAll, Call, Feed, Close, called}
 use Rattle.loader.specs.Reading.{freshOf, isOpen, fedOf, feedAnswer, answerOf, closeAnswer, closedOf}

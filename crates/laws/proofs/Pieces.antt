@@ -1,17 +1,16 @@
 -- Two pieces, one after the other, make of a record what the two joined make of it.
 use mathlib.Core.Path.{_≡_, refl, sym, _∙_, ap, subst}
 use mathlib.Core.Bool.{Bool, true, false}
-use mathlib.Core.Logic.{_⊎_, inl, inr, ⊎-elim}
-use mathlib.Core.List.{List, [], _∷_, _++_, append-assoc}
+use mathlib.Core.Logic.{_⊎_, ⊎-elim}
+use mathlib.Core.List.{List, [], _++_, append-assoc}
 use Prim.Native.Nat.{ℕ, _+_, _-_, _≤_, _<_}
 use native.Mathlib.Omega.{arith}
-use lib.Dec.{ltb, eqb}
+use lib.Dec.{eqb}
 use lib.ListN.{length, take, length-append}
 use lib.Seq.{take-append-le}
 use borrow.Author.Tests.{le-ltb}
 use Rattle.base.specs.Reading.{when}
 use Rattle.base.proofs.Tests.{below, same}
-use Rattle.refusal.specs.declared.Refusal.{Refusal}
 use Rattle.header.specs.declared.Kind.{Kind}
 use Rattle.header.specs.declared.Kind.the-variants.{Psf1, Psf2, Vfont2}
 use Rattle.header.specs.declared.Font.{Font}
@@ -23,7 +22,7 @@ use Rattle.header.specs.Bounds.{PartsOf, Parts}
 use Rattle.header.proofs.Front.{parts}
 use Rattle.stages.specs.Meaning.{codingOf}
 use Rattle.unfinished.specs.declared.Held.{Held}
-use Rattle.unfinished.specs.Meaning.{heldBytes, heldOf}
+use Rattle.unfinished.specs.Reading.{heldBytes, heldOf}
 use Rattle.unfinished.proofs.Holding.{held, held-len}
 use Rattle.entryfeed.specs.declared.Sums.{Sums}
 use Rattle.entryfeed.specs.declared.Fed as entries

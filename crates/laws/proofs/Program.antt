@@ -1,22 +1,20 @@
 -- The program `fontload` (document 02, W2): what it answers on any input, however the input reaches it in chunks. `Answers`, `Reads`, `BadLine`:
 -- crates/frames/specs/Meaning.antt; what a line means: crates/hexline/specs/Meaning.antt.
-use mathlib.Core.Path.{_≡_, sym, _∙_, ap, subst}
+use mathlib.Core.Path.{_≡_, sym, _∙_, ap}
 use mathlib.Core.Logic.{_↔_}
 use mathlib.Core.List.{List}
-use Prim.Native.Nat.{ℕ, suc, _≤_}
+use Prim.Native.Nat.{ℕ}
 use native.Mathlib.Omega.{arith}
 use lib.ListN.{take}
 use Rattle.refusal.specs.declared.Reason.the-variants.{Line}
-use Rattle.refusal.specs.declared.Refusal.{Refusal}
 use Rattle.refusal.specs.Meaning.{refusal, numberOf}
 use Rattle.header.specs.declared.Checked.{Checked}
 use Rattle.header.specs.declared.Checked.the-variants.{Sound as Accepted, Refused as NotAccepted}
 use Rattle.stages.specs.Reading.{checkOf}
-use Rattle.loader.specs.Meaning.{together, fedAll}
-use Rattle.loader.specs.Reading.{freshOf as noPiece, closeAnswer}
+use Rattle.loader.specs.Meaning.{together}
 use Rattle.frames.specs.declared.Outcome.{Outcome}
 use Rattle.frames.specs.declared.Outcome.the-variants.{Sound, Refused, TooBig}
-use Rattle.frames.specs.Meaning.{loaderSays, AreFrames, BadLine, Answers, bad-line, too-big, closed, fedChunks, outcomeText, outputOf}
+use Rattle.frames.specs.Meaning.{loaderSays, BadLine, Answers, bad-line, too-big, closed, fedChunks, outcomeText, outputOf}
 use Rattle.frames.specs.Reading.{freshOf, answeredOf, closedOf}
 use Rattle.frames.proofs.Meaning as frames
 use Rattle.laws.proofs.Early.{Early, early-check}

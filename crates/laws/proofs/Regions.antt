@@ -1,8 +1,8 @@
 -- A stretch of the file that is fed by pieces: in two goes as in one. Once for the dispatch table and the Unicode table.
-use mathlib.Core.Path.{_≡_, refl, sym, _∙_, ap, subst}
+use mathlib.Core.Path.{_≡_, sym, _∙_, ap, subst}
 use mathlib.Core.Bool.{Bool, true, false}
 use mathlib.Core.Logic.{_⊎_, inl, inr, ⊎-elim}
-use mathlib.Core.List.{List, [], _∷_, _++_, append-nil}
+use mathlib.Core.List.{List, [], _++_, append-nil}
 use Prim.Native.Nat.{ℕ, _+_, _-_, _≤_, _<_}
 use native.Mathlib.Omega.{arith}
 use lib.Dec.{ltb, eqb}
@@ -11,10 +11,10 @@ use borrow.Author.Tests.{eq-eqb, ne-eqb, lt-ltb, le-ltb}
 use Rattle.base.specs.Reading.{when}
 use Rattle.base.proofs.Tests.{below, same}
 use Rattle.unfinished.specs.declared.Held.{Held}
-use Rattle.unfinished.specs.Meaning.{heldBytes, heldOf}
+use Rattle.unfinished.specs.Reading.{heldBytes, heldOf}
 use Rattle.unfinished.proofs.Holding.{held, held-len}
 use Rattle.loader.specs.Reading.{partOf}
-use Rattle.loader.proofs.Parting.{part-append, part-reaches, part-starts, part-begins, nothing}
+use Rattle.loader.proofs.Parting.{part-append, part-reaches, part-starts, nothing}
 
 -- as many bytes are held as are said
 abbrev pub Kept : Held → Type 0

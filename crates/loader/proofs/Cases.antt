@@ -1,21 +1,19 @@
 -- The code's cases, one law for each return.
-use mathlib.Core.Path.{_≡_, refl, sym, _∙_, ap}
-use mathlib.Core.Bool.{Bool, true, false, not}
-use mathlib.Core.List.{List, [], _∷_, _++_}
+use mathlib.Core.Path.{_≡_, sym, _∙_, ap}
+use mathlib.Core.Bool.{true, false}
+use mathlib.Core.List.{List, [], _++_}
 use Prim.Native.Nat.{ℕ, _+_, _-_, _≤_, _<_}
 use native.Mathlib.Omega.{arith}
-use lib.Dec.{ltb, eqb}
 use lib.ListN.{length, take}
 use lib.Seq.{take-all, take-append-add}
 use borrow.Author.Tests.{eq-eqb, ne-eqb, lt-ltb, le-ltb}
-use Rattle.base.specs.Meaning.{pick}
 use Rattle.base.specs.Reading.{when}
 use Rattle.base.proofs.Chain.{chain}
 use Rattle.refusal.specs.Meaning.{refusal}
 use Rattle.refusal.specs.declared.Refusal.{Refusal}
 use Rattle.refusal.specs.declared.Reason.the-variants.{TooLong, Entry, TableCut, TableBad, Trailing, Late}
 use Rattle.header.specs.declared.Kind.{Kind}
-use Rattle.header.specs.declared.Kind.the-variants.{Psf1, Psf2, Vfont2}
+use Rattle.header.specs.declared.Kind.the-variants.{Vfont2}
 use Rattle.header.specs.declared.Font.{Font}
 use Rattle.header.specs.declared.Checked.{Checked}
 use Rattle.header.specs.declared.Checked.the-variants.{Sound, Refused}
@@ -25,7 +23,7 @@ use Rattle.stages.specs.Meaning.{codingOf}
 use Rattle.stages.specs.Reading.{andThen, sized, greatestOf, checkOf}
 use Rattle.coding.specs.declared.Coding.{Coding}
 use Rattle.unfinished.specs.declared.Held.{Held}
-use Rattle.unfinished.specs.Meaning.{heldBytes, heldOf}
+use Rattle.unfinished.specs.Reading.{heldBytes, heldOf}
 use Rattle.entryfeed.specs.declared.Sums.{Sums}
 use Rattle.entryfeed.specs.declared.Fed as entries
 use Rattle.entryfeed.specs.Reading.{entriesFed}
@@ -33,9 +31,8 @@ use Rattle.tablefeed.specs.declared.Standing.{Standing}
 use Rattle.tablefeed.specs.declared.Fed as tables
 use Rattle.tablefeed.specs.Reading.{tableFed}
 use Rattle.loader.specs.declared.Loader.{Loader}
-use Rattle.loader.specs.declared.Reply.{Reply}
 use Rattle.loader.specs.declared.Reply.the-variants.{Taken, Refused as Untaken}
-use Rattle.loader.specs.Reading.{partOf, entriesIn, tableIn, counted, fontFed, saidFed, bodyFed, headed, headFed, freshOf, pastLimit, isOpen, openFed, fedOf, feedAnswer, kindTold, entriesTold, tailTold, fontTold, answerOf, closeAnswer, closedOf}
+use Rattle.loader.specs.Reading.{partOf, entriesIn, tableIn, counted, fontFed, saidFed, bodyFed, headFed, pastLimit, isOpen, openFed, fedOf, feedAnswer, kindTold, entriesTold, tailTold, fontTold, answerOf, closeAnswer, closedOf}
 
 -- the entries in a piece, where s is their part of it
 module _ (f : Font) (total : ℕ) (h : Held) (x : Sums) (p s : List ℕ) (e : s ≡ partOf total (f .entries) (f .bitmaps) p) where

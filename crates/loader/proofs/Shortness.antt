@@ -1,15 +1,11 @@
 -- Feeding leaves few bytes unfinished.
-use mathlib.Core.Path.{_≡_, refl, sym, _∙_, ap, subst}
+use mathlib.Core.Path.{_≡_, sym, subst}
 use mathlib.Core.Bool.{Bool, true, false}
-use mathlib.Core.List.{List, []}
-use Prim.Native.Nat.{ℕ, _<_, _≤_}
-use native.Mathlib.Omega.{arith}
-use lib.Dec.{ltb, eqb}
-use lib.ListN.{length}
+use mathlib.Core.List.{List}
+use Prim.Native.Nat.{ℕ, _<_}
 use Rattle.base.specs.Reading.{when}
 use Rattle.header.specs.declared.Font.{Font}
 use Rattle.unfinished.specs.declared.Held.{Held}
-use Rattle.unfinished.proofs.Holding.{held-len}
 use Rattle.entryfeed.specs.declared.Sums.{Sums}
 use Rattle.entryfeed.specs.declared.Fed as entries
 use Rattle.entryfeed.proofs.Feeding.{fed-short}

@@ -1,6 +1,6 @@
 -- The loader (document 02, W2), for any record: what a piece makes of it, what a close answers, and when both are LATE.
 use Prim.Native.Nat.{ℕ, _+_, _-_}
-use mathlib.Core.Bool.{Bool, true, false, _&&_, not}
+use mathlib.Core.Bool.{Bool, _&&_, not}
 use mathlib.Core.List.{List, [], _++_}
 use lib.Dec.{ltb, eqb}
 use lib.ListN.{length, take, drop, replicate}
@@ -18,7 +18,7 @@ use Rattle.header.specs.Reading.{saysOf}
 use Rattle.stages.specs.Meaning.{codingOf}
 use Rattle.stages.specs.Reading.{andThen, sized, greatestOf, checkOf}
 use Rattle.unfinished.specs.declared.Held.{Held}
-use Rattle.unfinished.specs.Meaning.{heldBytes, heldOf}
+use Rattle.unfinished.specs.Reading.{heldBytes, heldOf}
 use Rattle.entryfeed.specs.declared.Sums.{Sums}
 use Rattle.entryfeed.specs.declared.Fed as entries
 use Rattle.entryfeed.specs.Reading.{entriesFed}

@@ -1,27 +1,27 @@
 -- A table fed part by part: the code's cases, and in two goes.
 use mathlib.Core.Path.{_≡_, refl, sym, _∙_, ap, subst}
-use mathlib.Core.Bool.{Bool, true, false, not}
+use mathlib.Core.Bool.{Bool, true, false}
 use mathlib.Core.Logic.{_⊎_, inl, inr, ⊎-elim}
-use mathlib.Core.List.{List, [], _∷_, _++_, append-assoc}
-use Prim.Native.Nat.{ℕ, zero, suc, _+_, _-_, _≤_, _<_}
+use mathlib.Core.List.{List, [], _++_, append-assoc}
+use Prim.Native.Nat.{ℕ, _+_, _-_, _≤_, _<_}
 use native.Mathlib.Omega.{arith}
 use lib.Dec.{eqb}
 use lib.ListN.{length, take, drop, length-append, length-drop, take-append-drop}
-use lib.Seq.{drop-append-le, drop-append-add, drop-drop, length-take-le, take-all}
+use lib.Seq.{drop-append-le, drop-append-add, length-take-le}
 use borrow.Author.Tests.{eq-eqb, ne-eqb}
 use Rattle.base.specs.Meaning.{pick}
 use Rattle.base.proofs.Tests.{same}
 use Rattle.coding.specs.declared.Coding.{Coding}
 use Rattle.table.specs.Reading.{stepsFrom, stepsAt}
 use Rattle.unfinished.specs.declared.Held.{Held}
-use Rattle.unfinished.specs.Meaning.{heldBytes, heldOf}
+use Rattle.unfinished.specs.Reading.{heldBytes, heldOf}
 use Rattle.unfinished.proofs.Holding.{held, held-len}
 use Rattle.tablefeed.specs.declared.Run.{Run}
 use Rattle.tablefeed.specs.declared.Standing.{Standing}
 use Rattle.tablefeed.specs.declared.Fed.{Fed}
 use Rattle.tablefeed.specs.Reading.{runOf, flagOf, isSet, settled, tableRead, tableFed}
 use Rattle.tablefeed.specs.Bounds.{Resting}
-use Rattle.tablefeed.proofs.Running.{moved, Rests, shift, rests, onward, join}
+use Rattle.tablefeed.proofs.Running.{moved, Rests, shift, rests, join}
 
 -- flags
 pub flag-yes : (b : Bool) → b ≡ true → 1 ≡ flagOf b

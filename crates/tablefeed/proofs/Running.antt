@@ -8,7 +8,7 @@ use native.Mathlib.Omega.{arith}
 use lib.Dec.{eqb}
 use lib.ListN.{length, drop, length-drop}
 use lib.Seq.{drop-append-le, drop-drop, drop-nil}
-use borrow.Author.Tests.{eq-eqb, ne-eqb}
+use borrow.Author.Tests.{ne-eqb}
 use Rattle.base.specs.Meaning.{pick}
 use Rattle.base.proofs.Tests.{same}
 use Rattle.token.specs.declared.Token.{Token}
@@ -21,7 +21,7 @@ use Rattle.table.specs.declared.TableAnswer.the-variants.{Bad as TableBad, Trai
 use Rattle.table.specs.Reading.{stepsFrom, checkSteps, atEnd, tableOf}
 use Rattle.tablefeed.specs.declared.Run.{Run}
 use Rattle.tablefeed.specs.Reading.{going, stopped, runOf}
-use Rattle.tablefeed.proofs.Turns.{Turn, On, Stop, Wait, turnOf, runOn, checkOn, TurnIn, turns, over}
+use Rattle.tablefeed.proofs.Turns.{Turn, On, Stop, Wait, turnOf, runOn, checkOn, TurnIn, turns}
 
 -- the same with its place d further on
 abbrev pub moved : ℕ → Run → Run

@@ -10,7 +10,7 @@ use Rattle.table.specs.declared.Step.{Step}
 use Rattle.table.specs.declared.Step.the-variants.{Value as StepValue, Start as StepStart, End as StepEnd, Cut as StepCut, Bad as StepBad}
 use Rattle.table.specs.Reading.{stepsFrom}
 use Rattle.unfinished.specs.declared.Held.{Held}
-use Rattle.unfinished.specs.Meaning.{heldBytes, heldOf}
+use Rattle.unfinished.specs.Reading.{heldBytes, heldOf}
 use Rattle.tablefeed.specs.declared.Run.{Run}
 use Rattle.tablefeed.specs.declared.Standing.{Standing}
 use Rattle.tablefeed.specs.declared.Fed.{Fed}

@@ -9,7 +9,7 @@ use lib.Seq.{take-suc, take-append-seam, length-take-le}
 use Rattle.base.specs.Reading.{over}
 use Rattle.base.proofs.Over.{over-snoc, length-over}
 use Rattle.unfinished.specs.declared.Held.{Held}
-use Rattle.unfinished.specs.Meaning.{heldBytes, heldOf, putOf}
+use Rattle.unfinished.specs.Reading.{heldBytes, heldOf, putOf}
 
 -- no byte of s behind the first a of xs
 pub no-more : (xs s : List ℕ) (a : ℕ) → a ≤ length xs → xs ≡ over (take a xs ++ take 0 s) xs

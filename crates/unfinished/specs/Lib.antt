@@ -1,2 +1,2 @@
 -- Unfinished bytes.
-pub mod Meaning
+pub mod Reading

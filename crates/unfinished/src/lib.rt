@@ -1,9 +1,9 @@
-// Inner layer: the few bytes of an unfinished header, entry or value, with their number. Definitions: specs/Meaning.antt.
+// Inner layer: the few bytes of an unfinished header, entry or value, with their number. Definitions: specs/Reading.antt.
 ghost use mathlib.Core.Path.{_≡_};
 ghost use mathlib.Core.List.{[], _++_};
 ghost use Prim.Native.Nat.{_+_, _≤_};
 ghost use lib.ListN.{length};
-ghost use Rattle.unfinished.specs.Meaning.{heldBytes, heldOf, putOf};
+ghost use Rattle.unfinished.specs.Reading.{heldBytes, heldOf, putOf};
 
 // Bytes that are still to be read with those that follow: the first `len` of `bytes`.
 #[repr(C)]

@@ -9,7 +9,6 @@ use lib.ListN.{length}
 use lib.Dec.{eqb}
 use Rattle.base.specs.Meaning.{pick}
 use Rattle.base.specs.Reading.{within}
-use Rattle.token.specs.declared.Token.{Token}
 use Rattle.token.specs.declared.Token.the-variants.{Start, End, Cut as TokenCut}
 use Rattle.token.proofs.Growing.{Growing}
 use Rattle.utf8.specs.declared.Lead.{Lead}

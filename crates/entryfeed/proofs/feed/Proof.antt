@@ -5,7 +5,7 @@ use mathlib.Core.List.{_++_}
 use Prim.Native.Nat.{_-_}
 use lib.ListN.{length, take, length-map}
 use lib.Seq.{length-take-le}
-use Rattle.unfinished.specs.Meaning.{heldBytes}
+use Rattle.unfinished.specs.Reading.{heldBytes}
 use Rattle.entryfeed.proofs.Feeding.{none-held, still, joined}
 use borrow.Author.Needs.{needs}
 use Rattle.entryfeed.proofs.feed.Statement.{statement}

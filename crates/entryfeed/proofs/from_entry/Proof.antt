@@ -2,7 +2,7 @@
 use native.Mathlib.Omega.{arith}
 use mathlib.Core.Path.{_∙_, ap}
 use Rattle.base.proofs.Parts.{rest-all}
-use Rattle.unfinished.specs.Meaning.{heldOf}
+use Rattle.unfinished.specs.Reading.{heldOf}
 use Rattle.entryfeed.proofs.Feeding.{from-start}
 use borrow.Author.Needs.{needs}
 use Rattle.entryfeed.proofs.from_entry.Statement.{statement}

@@ -1,7 +1,7 @@
 -- `entryfeed::more_sums` meets its contract. Assumes that the entries stand in the slice, and the slice within the file limit.
 use borrow.Author.Needs.{needs}
 use native.Mathlib.Omega.{arith}
-use mathlib.Core.Path.{_≡_, sym, _∙_}
+use mathlib.Core.Path.{sym, _∙_}
 use Prim.Native.Nat.{_<_}
 use Rattle.entries.proofs.Meaning.{scan-broken}
 use Rattle.entryfeed.proofs.Feeding.{already, found, taller}

@@ -1,8 +1,6 @@
 -- `loader::feed_body` meets its contract. Assumes a piece within the file limit, and few bytes held.
-use native.Mathlib.Omega.{arith}
-use mathlib.Core.Path.{_≡_, refl, sym, _∙_, ap}
+use mathlib.Core.Path.{sym, _∙_, ap}
 use Rattle.header.proofs.Front.{parts}
-use Rattle.header.specs.declared.Checked.the-variants.{Sound, Refused}
 use Rattle.loader.specs.Reading.{saidFed}
 use Rattle.header.specs.declared.Checked.{Checked}
 use Rattle.loader.proofs.Cases.{said-fed}

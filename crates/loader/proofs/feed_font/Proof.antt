@@ -1,7 +1,5 @@
 -- `loader::feed_font` meets its contract. Assumes a piece within the file limit, and few bytes held.
 use native.Mathlib.Omega.{arith}
-use mathlib.Core.Path.{_≡_, ap}
-use Prim.Native.Nat.{_<_}
 use Rattle.loader.proofs.Cases.{font-fed}
 use Rattle.loader.proofs.Shortness.{entries-short}
 use borrow.Author.Needs.{needs}

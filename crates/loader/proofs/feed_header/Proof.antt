@@ -1,11 +1,11 @@
 -- `loader::feed_header` meets its contract. Assumes an open record with the header's first bytes held, and a piece within the file limit.
 use native.Mathlib.Omega.{arith}
-use mathlib.Core.Path.{_≡_, sym, _∙_, ap}
+use mathlib.Core.Path.{_≡_, sym, _∙_}
 use mathlib.Core.List.{_++_}
 use Prim.Native.Nat.{_-_}
 use lib.ListN.{length, take, length-map}
 use lib.Seq.{length-take-le}
-use Rattle.unfinished.specs.Meaning.{heldBytes}
+use Rattle.unfinished.specs.Reading.{heldBytes}
 use Rattle.unfinished.proofs.Holding.{none-len}
 use Rattle.loader.proofs.Cases.{head-more, head-whole}
 use borrow.Author.Needs.{needs}

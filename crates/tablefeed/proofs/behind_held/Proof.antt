@@ -7,7 +7,7 @@ use Prim.Native.Nat.{ℕ, _+_, _-_}
 use lib.ListN.{length, take, drop, length-map, drop-of-length-le}
 use lib.Seq.{length-take-le}
 use Rattle.table.specs.Reading.{stepsFrom}
-use Rattle.unfinished.specs.Meaning.{heldBytes}
+use Rattle.unfinished.specs.Reading.{heldBytes}
 use Rattle.tablefeed.specs.Reading.{runOf, isSet}
 use Rattle.tablefeed.proofs.Feeding.{at-rest, split, stops, short, goes-on}
 use borrow.Author.Needs.{needs}

@@ -4,7 +4,7 @@ use borrow.Author.Needs.{needs}
 use native.Mathlib.Omega.{arith}
 use mathlib.Core.Path.{_∙_, ap}
 use Rattle.base.proofs.Parts.{rest-all, rest-length}
-use Rattle.unfinished.specs.Meaning.{heldOf}
+use Rattle.unfinished.specs.Reading.{heldOf}
 use Rattle.tablefeed.proofs.Feeding.{halts, goes}
 use Rattle.tablefeed.proofs.settle.Statement.{statement}
 use Rattle.tablefeed.proofs.settle.Tie as tie

@@ -1,9 +1,9 @@
 -- `unfinished::grow` meets its contract. Assumes that the bytes fit.
 use borrow.Author.Needs.{needs}
 use native.Mathlib.Omega.{arith}
-use mathlib.Core.Path.{_≡_, sym, _∙_, ap}
+use mathlib.Core.Path.{sym, _∙_, ap}
 use lib.Seq.{length-take-le}
-use Rattle.unfinished.specs.Meaning.{heldOf}
+use Rattle.unfinished.specs.Reading.{heldOf}
 use Rattle.unfinished.proofs.grow.Statement.{statement}
 use Rattle.unfinished.proofs.grow.Tie as tie
 

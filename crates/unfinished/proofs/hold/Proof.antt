@@ -2,9 +2,8 @@
 use borrow.Author.Needs.{needs}
 use native.Mathlib.Omega.{arith}
 use mathlib.Core.Path.{_≡_, _∙_, ap}
-use mathlib.Core.List.{[]}
 use Rattle.unfinished.specs.declared.Held.{Held}
-use Rattle.unfinished.specs.Meaning.{putOf}
+use Rattle.unfinished.specs.Reading.{putOf}
 use Rattle.unfinished.proofs.Holding.{none-len, put-none}
 use Rattle.unfinished.proofs.hold.Statement.{statement}
 use Rattle.unfinished.proofs.hold.Tie as tie

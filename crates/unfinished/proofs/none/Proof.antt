@@ -1,7 +1,7 @@
 -- `unfinished::none` meets its contract. Assumes nothing.
 use mathlib.Core.Path.{refl}
 use Rattle.base.specs.Reading.{over}
-use Rattle.unfinished.specs.Meaning.{heldOf}
+use Rattle.unfinished.specs.Reading.{heldOf}
 use Rattle.unfinished.proofs.none.Statement.{statement}
 use Rattle.unfinished.proofs.none.Tie as tie
 

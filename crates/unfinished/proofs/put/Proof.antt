@@ -6,7 +6,7 @@ use Prim.Native.Nat.{ℕ, _≤_, _-_, _+_, _%_}
 use lib.ListN.{length, take, length-map}
 use lib.Seq.{take-all}
 use Rattle.base.specs.Reading.{over}
-use Rattle.unfinished.specs.Meaning.{putOf}
+use Rattle.unfinished.specs.Reading.{putOf}
 use Rattle.unfinished.proofs.Holding.{no-more, one-more, put-held}
 use Rattle.unfinished.proofs.put.Statement.{statement}
 use Rattle.unfinished.proofs.put.Tie as tie
