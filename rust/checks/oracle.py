@@ -138,7 +138,7 @@ def check_(f):
             no(4, 2)
         if f[3] == 0:
             no(7, 3)
-        o.n, o.h, o.w, o.tab = (512 if f[2] & 1 else 256), f[3], 8, f[2] >> 1 & 1
+        o.n, o.h, o.w, o.tab = (512 if f[2] & 1 else 256), f[3], 8, 1 if f[2] & 6 else 0
         o.head = 4
         o.end = 4 + o.n * o.h
         o.cells = [(4 + i * o.h, o.h, 8) for i in range(o.n)]
@@ -352,6 +352,13 @@ def main():
         i += k
         return v
 
+    def said(f):
+        try:
+            o = check(f)
+            return f'sound {o.kind} {o.n} {o.h} {o.w} {"table" if o.tab else "bare"}'
+        except No as e:
+            return 'refused %d %d' % e.args
+
     def part(fn, *a):
         try:
             at, n = fn(bytes(f), *a)
@@ -380,11 +387,7 @@ def main():
         elif op == 5:
             del f[num(4):]
         elif op == 0x10:
-            try:
-                o = check(f)
-                put(f'sound {o.kind} {o.n} {o.h} {o.w} {"table" if o.tab else "bare"}\n')
-            except No as e:
-                put('refused %d %d\n' % e.args)
+            put(said(f) + '\n')
         elif op == 0x11:
             g = num(8)
             put(f'glyph {g} {part(glyph, g)}\n')
@@ -429,6 +432,16 @@ def main():
             except No as e:
                 a = 'refused %d %d' % e.args
             put('metrics %d %d %d %d %d %d %s\n' % (g, *asked, a))
+        # a font in pieces is answered as their join is, however it was cut
+        elif op == 0x18:
+            a, b = num(1), num(1)
+            put(f'cuts {a} {b} {said(f[:a] + f[a:a + b] + f[a + b:])}\n')
+        elif op == 0x19:
+            put('late taken refused 22 0 refused 22 0\n')
+        elif 0x40 <= op < 0x80:
+            k = op - 0x40
+            length = k or max(len(f), 1)
+            put(f'load {k} {said(b"".join(f[j:j + length] for j in range(0, len(f), length)))}\n')
         elif op == 0x20:
             which, room = num(1), num(4)
             buf = b'\xa5' * room
