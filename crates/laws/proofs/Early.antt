@@ -6,6 +6,7 @@ use native.Mathlib.Omega.{arith}
 use lib.ListN.{length}
 use Rattle.base.specs.Meaning.{pick}
 use Rattle.base.specs.Reading.{when}
+use Rattle.base.proofs.Tests.{by-when}
 use Rattle.refusal.specs.Meaning.{numberOf}
 use Rattle.header.specs.declared.Kind.{Kind}
 use Rattle.header.specs.declared.Kind.the-variants.{Psf1, Psf2, Vfont2}
@@ -38,11 +39,6 @@ Early (Refused r) = numberOf (r .reason) ≤ 12
 abbrev EarlyHead : Head → Type 0
 EarlyHead (Read f) = Unit {0}
 EarlyHead (NoHead r) = numberOf (r .reason) ≤ 12
-
-by-when : {A : Type 0} (P : A → Type 0) (t : Bool) (a b : A) → P a → P b → P (when t a b)
-unfolding when
-by-when P true a b x y = x
-by-when P false a b x y = y
 
 -- a test that refuses, and the rest
 or-else : (t : Bool) (a b : Checked) → Early a → Early b → Early (when t a b)

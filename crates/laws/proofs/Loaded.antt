@@ -11,7 +11,7 @@ use lib.Seq.{take-all, length-take-le, drop-append-le}
 use borrow.Author.Tests.{lt-ltb, le-ltb, eq-eqb, ne-eqb}
 use Rattle.base.specs.Meaning.{pick}
 use Rattle.base.specs.Reading.{when}
-use Rattle.base.proofs.Tests.{below, same}
+use Rattle.base.proofs.Tests.{by-when, below, same}
 use Rattle.refusal.specs.Meaning.{refusal}
 use Rattle.refusal.specs.declared.Reason.the-variants.{TooLong, BodyCut, TableCut, TableBad, Trailing}
 use Rattle.header.specs.declared.Kind.{Kind}
@@ -218,11 +218,6 @@ module _ (f : Font) (s : List ℕ) (within : f .end ≤ length s) (short : lengt
 abbrev SoundIs : Font → Checked → Type 0
 SoundIs f (Sound g) = g ≡ f
 SoundIs f (Refused r) = Unit {0}
-
-by-when : {A : Type 0} (P : A → Type 0) (t : Bool) (a b : A) → P a → P b → P (when t a b)
-unfolding when
-by-when P true a b x y = x
-by-when P false a b x y = y
 
 same-font : (s : List ℕ) (f : Font) → SoundIs f (entriesOf s f)
 unfolding entriesOf greatestOf

@@ -37,28 +37,40 @@ use Rattle.loader.specs.Reading.{partOf, entriesIn, tableIn, counted, fontFed, 
 use Rattle.loader.proofs.Parting.{part-none, part-behind, part-before}
 use Rattle.loader.proofs.Opening.{opened, opens}
 use Rattle.loader.proofs.Cases.{too-long, grows-long, in-head, in-body, is-fed, stays, head-more}
-use Rattle.laws.proofs.Regions.{Kept, kept-of, region, untouched, region-twice, region-held}
+use Rattle.laws.proofs.Regions.{Kept, kept-of, Stretch, region, untouched, region-twice, region-held}
 
 -- the entries
 module _ (f : Font) (there : 1 ≤ f .entries) where
+  abbrev entry-stretch : Stretch entries.Fed Sums
+  entry-stretch = record {
+    heldIn = λ y. y .held;
+    restIn = λ y. y .sums;
+    both = λ h x. record { held = h; sums = x };
+    held-both = λ h x. refl;
+    rest-both = λ h x. refl;
+    again = λ y. refl;
+    fed = entriesFed (f .size);
+    twice = λ at h x p s k l. entry-laws.twice (f .size) at h x p s k l;
+    start = f .entries;
+    end = f .bitmaps;
+    there = there;
+  }
+
   pub entries-twice : (total : ℕ) (h : Held) (x : Sums) (p s : List ℕ) → Kept h → (f .entries < total → h .len < total) →
       entriesIn f total h x (p ++ s) ≡ entriesIn f (total + length p) (entriesIn f total h x p .held) (entriesIn f total h x p .sums) s
   unfolding entriesIn
   entries-twice total h x p s k l =
-      region-twice (λ (y : entries.Fed). y .held) (λ (y : entries.Fed). y .sums) (λ h x. record { held = h; sums = x }) (λ h x. refl) (λ h x. refl) (λ y. refl)
-      (entriesFed (f .size)) (λ at h x p s k l. entry-laws.twice (f .size) at h x p s k l) (f .entries) (f .bitmaps) there total h x p s k l
+      region-twice entry-stretch total h x p s k l
 
   pub entries-none : (total : ℕ) (h : Held) (x : Sums) (p : List ℕ) → length (partOf total (f .entries) (f .bitmaps) p) ≡ 0 → entriesIn f total h x p ≡ record { held = h; sums = x }
   unfolding entriesIn
   entries-none total h x p z =
-      untouched (λ (y : entries.Fed). y .held) (λ (y : entries.Fed). y .sums) (λ h x. record { held = h; sums = x }) (λ h x. refl) (λ h x. refl) (λ y. refl)
-      (entriesFed (f .size)) (λ at h x p s k l. entry-laws.twice (f .size) at h x p s k l) (f .entries) (f .bitmaps) there total h x p z
+      untouched entry-stretch total h x p z
 
   pub entries-held : (P : Held → Type 0) (total : ℕ) (h : Held) (x : Sums) (p : List ℕ) → P h → P (heldOf []) → ((at : ℕ) (g : Held) (q : List ℕ) → P g → P (entriesFed (f .size) at g x q .held)) → P (entriesIn f total h x p .held)
   unfolding entriesIn
   entries-held =
-      region-held (λ (y : entries.Fed). y .held) (λ (y : entries.Fed). y .sums) (λ h x. record { held = h; sums = x }) (λ h x. refl) (λ h x. refl) (λ y. refl)
-      (entriesFed (f .size)) (λ at h x p s k l. entry-laws.twice (f .size) at h x p s k l) (f .entries) (f .bitmaps) there
+      region-held entry-stretch
 
 either : {A : Type 0} (a : A) (t : Bool) → when t a a ≡ a
 unfolding when
@@ -67,13 +79,27 @@ either a false = refl
 
 -- the table
 module _ (f : Font) (there : 1 ≤ f .end) where
+  abbrev table-stretch : Stretch tables.Fed Standing
+  table-stretch = record {
+    heldIn = λ y. y .held;
+    restIn = λ y. y .standing;
+    both = λ h t. record { held = h; standing = t };
+    held-both = λ h t. refl;
+    rest-both = λ h t. refl;
+    again = λ y. refl;
+    fed = tableFed (codingOf (f .kind)) (f .count);
+    twice = λ at h t p s k l. table-laws.twice (codingOf (f .kind)) (f .count) at h t k (omega arith) p s;
+    start = f .end;
+    end = limit;
+    there = there;
+  }
+
   bare : f .table ≡ false → (total : ℕ) (h : Held) (t : Standing) (p : List ℕ) → tableIn f total h t p ≡ record { held = h; standing = t }
   unfolding tableIn when
   bare b total h t p = let as-it-was : tables.Fed = record { held = h; standing = t } in rw b (either as-it-was (eqb (length (partOf total (f .end) limit p)) 0))
 
   tabled : f .table ≡ true → (total : ℕ) (h : Held) (t : Standing) (p : List ℕ) → tableIn f total h t p ≡
-      region (λ (y : tables.Fed). y .held) (λ (y : tables.Fed). y .standing) (λ h x. record { held = h; standing = x }) (λ h x. refl) (λ h x. refl) (λ y. refl)
-      (tableFed (codingOf (f .kind)) (f .count)) (λ at h t p s k l. table-laws.twice (codingOf (f .kind)) (f .count) at h t k (omega arith) p s) (f .end) limit there total h t p
+      region table-stretch total h t p
   unfolding tableIn when
   tabled b total h t p = rw b
 
@@ -84,8 +110,7 @@ module _ (f : Font) (there : 1 ≤ f .end) where
       go : (b : Bool) → f .table ≡ b → tableIn f total h t (p ++ s) ≡ tableIn f (total + length p) (tableIn f total h t p .held) (tableIn f total h t p .standing) s
       go true b =
           rw (tabled b total h t (p ++ s), tabled b total h t p)
-          (region-twice (λ (y : tables.Fed). y .held) (λ (y : tables.Fed). y .standing) (λ h x. record { held = h; standing = x }) (λ h x. refl) (λ h x. refl) (λ y. refl)
-          (tableFed (codingOf (f .kind)) (f .count)) (λ at h t p s k l. table-laws.twice (codingOf (f .kind)) (f .count) at h t k (omega arith) p s) (f .end) limit there total h t p s k l
+          (region-twice table-stretch total h t p s k l
           ∙ sym (tabled b (total + length p) _ _ s))
       go false b = rw (bare b total h t (p ++ s), bare b total h t p) (sym (bare b (total + length p) h t s))
 
@@ -95,8 +120,7 @@ module _ (f : Font) (there : 1 ≤ f .end) where
       go : (b : Bool) → f .table ≡ b → tableIn f total h t p ≡ record { held = h; standing = t }
       go true b =
           tabled b total h t p
-          ∙ untouched (λ (y : tables.Fed). y .held) (λ (y : tables.Fed). y .standing) (λ h x. record { held = h; standing = x }) (λ h x. refl) (λ h x. refl) (λ y. refl)
-          (tableFed (codingOf (f .kind)) (f .count)) (λ at h t p s k l. table-laws.twice (codingOf (f .kind)) (f .count) at h t k (omega arith) p s) (f .end) limit there total h t p z
+          ∙ untouched table-stretch total h t p z
       go false b = bare b total h t p
 
   pub table-held : (P : Held → Type 0) (total : ℕ) (h : Held) (t : Standing) (p : List ℕ) → P h → P (heldOf []) → ((at : ℕ) (g : Held) (q : List ℕ) → P g → P (tableFed (codingOf (f .kind)) (f .count) at g t q .held)) → P (tableIn f total h t p .held)
@@ -105,8 +129,7 @@ module _ (f : Font) (there : 1 ≤ f .end) where
       go : (b : Bool) → f .table ≡ b → P (tableIn f total h t p .held)
       go true b =
           rw (tabled b total h t p)
-          (region-held (λ (y : tables.Fed). y .held) (λ (y : tables.Fed). y .standing) (λ h x. record { held = h; standing = x }) (λ h x. refl) (λ h x. refl) (λ y. refl)
-          (tableFed (codingOf (f .kind)) (f .count)) (λ at h t p s k l. table-laws.twice (codingOf (f .kind)) (f .count) at h t k (omega arith) p s) (f .end) limit there P total h t p k n g)
+          (region-held table-stretch P total h t p k n g)
       go false b = rw (bare b total h t p) k
 
 -- what a record must keep: as many bytes held as it says, few of them, none while the header is being read

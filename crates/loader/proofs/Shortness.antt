@@ -1,20 +1,14 @@
 -- Feeding leaves few bytes unfinished.
 use mathlib.Core.Path.{_≡_, sym, subst}
-use mathlib.Core.Bool.{Bool, true, false}
 use mathlib.Core.List.{List}
 use Prim.Native.Nat.{ℕ, _<_}
-use Rattle.base.specs.Reading.{when}
+use Rattle.base.proofs.Tests.{by-when}
 use Rattle.header.specs.declared.Font.{Font}
 use Rattle.unfinished.specs.declared.Held.{Held}
 use Rattle.entryfeed.specs.declared.Sums.{Sums}
 use Rattle.entryfeed.specs.declared.Fed as entries
 use Rattle.entryfeed.proofs.Feeding.{fed-short}
 use Rattle.loader.specs.Reading.{entriesIn}
-
-by-when : {A : Type 0} (P : A → Type 0) (t : Bool) (a b : A) → P a → P b → P (when t a b)
-unfolding when
-by-when P true a b f g = f
-by-when P false a b f g = g
 
 in-short : (f : Font) (total : ℕ) (h : Held) (x : Sums) (p : List ℕ) → h .len < 18 → entriesIn f total h x p .held .len < 18
 unfolding entriesIn

@@ -2,20 +2,16 @@
 use mathlib.Core.Path.{_≡_, refl, _∙_, ap}
 use mathlib.Core.Bool.{Bool, true, false}
 use mathlib.Core.List.{List, _∷_}
-use Prim.Native.Nat.{ℕ, zero, suc, _+_, _-_, _≤_, _<_}
+use Prim.Native.Nat.{ℕ, suc, _+_, _-_, _≤_, _<_}
 use native.Mathlib.Omega.{arith}
 use lib.ListN.{length, drop-of-length-le}
 use lib.Seq.{drop-cons}
+use Rattle.base.proofs.Tests.{nonzero}
 use Rattle.coding.specs.declared.Coding.{Coding}
 use Rattle.table.specs.declared.Step.{Step}
 use Rattle.table.specs.declared.Step.the-variants.{Value as StepValue, Start as StepStart, End as StepEnd, Cut as StepCut, Bad as StepBad}
 use Rattle.table.specs.Reading.{stepsFrom, stepsAt}
 use Rattle.tablefeed.specs.Reading.{going, stopped, runOf}
-
--- what holds of every successor holds of every number but 0
-nonzero : (P : ℕ → Type 0) → ((m : ℕ) → P (suc m)) → (n : ℕ) → (n ≡ 0 → ⊥) → P n
-nonzero P f zero h = absurd (h refl)
-nonzero P f (suc n) h = f n
 
 -- with g descriptions complete of more than g, as the code counts them
 module _ (g n : ℕ) (o : Bool) (at : ℕ) (xs : List Step) (h : g < n) where
