@@ -1,16 +1,9 @@
 //! Document 02's "Load as it arrives": the loader, and the text of its program.
 
-use second::*;
+mod common;
 
-fn worked() -> Vec<u8> {
-    let mut file = vec![0x72, 0xB5, 0x4A, 0x86];
-    for number in [0u32, 32, 1, 2, 2, 2, 3] {
-        file.extend_from_slice(&number.to_le_bytes());
-    }
-    file.extend_from_slice(&[0xA0, 0x40, 0xE0, 0x20]);
-    file.extend_from_slice(&[0x41, 0xFF, 0xC3, 0x85, 0xFE, 0x41, 0xCC, 0x8A, 0xFF]);
-    file
-}
+use common::worked;
+use second::*;
 
 const WORKED: &str = "72B54A8600000000200000000100000002000000\
                       020000000200000003000000A040E02041FFC385FE41CC8AFF";

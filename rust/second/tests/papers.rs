@@ -1,18 +1,11 @@
 //! What document 01 says by example: P1 to P14, the font of 45 bytes, the
 //! lister's text, the round trips, and the places of bad UTF-8.
 
+mod common;
+
+use common::worked;
 use second::table::{judge, read, sequences, singles, Coding, Verdict};
 use second::*;
-
-fn worked() -> Vec<u8> {
-    let mut file = vec![0x72, 0xB5, 0x4A, 0x86];
-    for number in [0u32, 32, 1, 2, 2, 2, 3] {
-        file.extend_from_slice(&number.to_le_bytes());
-    }
-    file.extend_from_slice(&[0xA0, 0x40, 0xE0, 0x20]);
-    file.extend_from_slice(&[0x41, 0xFF, 0xC3, 0x85, 0xFE, 0x41, 0xCC, 0x8A, 0xFF]);
-    file
-}
 
 fn no(number: u32, place: usize) -> Refusal {
     Refusal { number, place }
