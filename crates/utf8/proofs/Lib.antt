@@ -3,6 +3,7 @@ pub mod Rows
 pub mod Written
 pub mod Conts
 pub mod First
+pub mod Ascii
 pub mod Sizes
 pub mod Writing
 pub mod Reading

@@ -175,16 +175,18 @@ pub fn read_value(s: &[u8]) -> Read
         return Read::Cut;
     }
     let b = s[0];
+    if b < 0x80 {
+        return Read::Value(wide(b), 1);
+    }
     let l = lead_of(b);
     let m = l.modulus;
     let v = wide(b % m);
     let n = l.len;
     match n {
-        0 => Read::Bad(0),
-        1 => Read::Value(v, 1),
-        2 => further(s, 1, v, l.lo, l.hi),
-        3 => three(s, v, l.lo, l.hi),
-        _ => four(s, v, l.lo, l.hi),
+        0 => return Read::Bad(0),
+        2 => return further(s, 1, v, l.lo, l.hi),
+        3 => return three(s, v, l.lo, l.hi),
+        _ => return four(s, v, l.lo, l.hi),
     }
 }
 

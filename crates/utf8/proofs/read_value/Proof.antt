@@ -1,15 +1,33 @@
--- `utf8::read_value` meets its contract: the first byte's row decides. Assumes nothing.
+-- `utf8::read_value` meets its contract: a first byte below 80 is the value, else its row decides. Assumes nothing.
 use mathlib.Core.Path.{_≡_, sym, _∙_}
+use mathlib.Core.Bool.{not}
+use mathlib.Core.List.{List, [], _∷_}
+use Prim.Native.Nat.{ℕ, _≤_, _<_}
 use native.Mathlib.Omega.{arith}
 use native.Mathlib.Nat.{mod-lt}
-use lib.ListN.{getD}
+use lib.Dec.{T, eqb}
+use lib.ListN.{length, getD}
 use denote.Ref.{now}
+use borrow.Author.Tests.{eq-eqb}
+use Rattle.base.proofs.Ranged.{ranged}
+use Rattle.utf8.specs.declared.Read.the-variants.{Value}
+use Rattle.utf8.specs.Reading.{leadOf, readValue}
 use Rattle.utf8.proofs.First.{no-bytes, no-value, long-value}
-use Rattle.utf8.proofs.Conts.{reached}
+use Rattle.utf8.proofs.Ascii.{ascii-value}
 use Rattle.utf8.proofs.Rows.{Fine, all-fine}
 use borrow.Author.Needs.{needs}
 use Rattle.utf8.proofs.read_value.Statement.{statement}
 use Rattle.utf8.proofs.read_value.Tie as tie
+
+-- the value of a first byte below 80
+itself : (s : List ℕ) → 0 < length s → getD s 0 0 < 0x80 → (v : ℕ) → v ≡ getD s 0 0 → Value v 1 ≡ readValue s
+itself [] h k v e = absurd (omega arith)
+itself (b ∷ s) h k v e = rw e (sym (ascii-value b s k))
+
+-- from 80 on no byte is a value by itself
+longer : (b : ℕ) → 0x80 ≤ b → b < 256 → leadOf b .len ≡ 1 → ⊥
+unfolding leadOf
+longer b g h e = rw (eq-eqb (leadOf b .len) 1 e) at (ranged (λ x. not (eqb (leadOf x .len) 1)) 128 128 tt b g h)
 
 returns : tie.Need-returns
 returns c = no-bytes _ (c .if1 .taken)
@@ -17,38 +35,41 @@ returns c = no-bytes _ (c .if1 .taken)
 shared-slice-read-b : tie.Need-shared-slice-read-b
 shared-slice-read-b c = search needs
 
+wide-requires : tie.Need-wide-requires
+wide-requires c κs = search needs
+
+returns-2 : tie.Need-returns-2
+returns-2 c = itself (now (c .before .before .before .before .before .args .s)) (omega arith) (omega (arith, c .before .if2 .taken)) _ (c .wide .ensures .0)
+
 lead-of-requires : tie.Need-lead-of-requires
 lead-of-requires c κs = search needs
 
 rem-wide : tie.Need-rem-wide
-rem-wide c = let f : Fine (c .lead-of .result) = rw (c .lead-of .ensures) (all-fine _ (omega (arith, c .before .shared-slice-known2 .given 0))) in omega arith
+rem-wide c = let f : Fine (c .lead-of .result) = rw (c .lead-of .ensures) (all-fine _ (omega (arith, c .before .before .shared-slice-known2 .given 0))) in omega arith
 
-wide-requires : tie.Need-wide-requires
-wide-requires c κs = search needs
-
-further-requires : tie.Need-further-requires
-further-requires c κs = let f : Fine (c .before .before .lead-of .result) = rw (c .before .before .lead-of .ensures) (all-fine _ (omega (arith, c .before .before .before .shared-slice-known2 .given 0))) in let w = c .before .wide .ensures .0 in (omega (arith, mod-lt (getD (now (c .before .before .before .before .before .before .args .s)) 0 0) (f .some), f .small), omega arith)
-
-three-requires : tie.Need-three-requires
-three-requires c κs = let f : Fine (c .before .before .lead-of .result) = rw (c .before .before .lead-of .ensures) (all-fine _ (omega (arith, c .before .before .before .shared-slice-known2 .given 0))) in let w = c .before .wide .ensures .0 in (omega (arith, mod-lt (getD (now (c .before .before .before .before .before .before .args .s)) 0 0) (f .some)), omega arith)
-
-four-requires : tie.Need-four-requires
-four-requires c κs = let f : Fine (c .before .before .lead-of .result) = rw (c .before .before .lead-of .ensures) (all-fine _ (omega (arith, c .before .before .before .shared-slice-known2 .given 0))) in let w = c .before .wide .ensures .0 in (omega (arith, mod-lt (getD (now (c .before .before .before .before .before .before .args .s)) 0 0) (f .some)), omega arith)
-
-returns-2 : tie.Need-returns-2
-returns-2 c = no-value _ (omega arith) _ (c .before .before .lead-of .ensures) (c .match .keys1)
+wide-requires-2 : tie.Need-wide-requires-2
+wide-requires-2 c κs = search needs
 
 returns-3 : tie.Need-returns-3
-returns-3 c = sym (reached _ _ _ 1 _) ∙ long-value _ (omega arith) _ (c .before .before .lead-of .ensures) 0 (c .match .keys2) _ (c .before .wide .ensures .0)
+returns-3 c = no-value _ (omega arith) _ (c .before .before .lead-of .ensures) (c .match .keys1)
+
+further-requires : tie.Need-further-requires
+further-requires c κs = let f : Fine (c .before .before .lead-of .result) = rw (c .before .before .lead-of .ensures) (all-fine _ (omega (arith, c .before .before .before .before .shared-slice-known2 .given 0))) in let w = c .before .wide2 .ensures .0 in (omega (arith, mod-lt (getD (now (c .before .before .before .before .before .before .before .args .s)) 0 0) (f .some), f .small), omega arith)
 
 returns-4 : tie.Need-returns-4
-returns-4 c = c .further .ensures .0 ∙ long-value _ (omega arith) _ (c .before .before .before .lead-of .ensures) 1 (c .before .match .keys3) _ (c .before .before .wide .ensures .0)
+returns-4 c = c .further .ensures .0 ∙ long-value _ (omega arith) _ (c .before .before .before .lead-of .ensures) 1 (c .before .match .keys2) _ (c .before .before .wide2 .ensures .0)
+
+three-requires : tie.Need-three-requires
+three-requires c κs = let f : Fine (c .before .before .lead-of .result) = rw (c .before .before .lead-of .ensures) (all-fine _ (omega (arith, c .before .before .before .before .shared-slice-known2 .given 0))) in let w = c .before .wide2 .ensures .0 in (omega (arith, mod-lt (getD (now (c .before .before .before .before .before .before .before .args .s)) 0 0) (f .some)), omega arith)
 
 returns-5 : tie.Need-returns-5
-returns-5 c = c .three .ensures .0 ∙ long-value _ (omega arith) _ (c .before .before .before .lead-of .ensures) 2 (c .before .match .keys4) _ (c .before .before .wide .ensures .0)
+returns-5 c = c .three .ensures .0 ∙ long-value _ (omega arith) _ (c .before .before .before .lead-of .ensures) 2 (c .before .match .keys3) _ (c .before .before .wide2 .ensures .0)
+
+four-requires : tie.Need-four-requires
+four-requires c κs = let f : Fine (c .before .before .lead-of .result) = rw (c .before .before .lead-of .ensures) (all-fine _ (omega (arith, c .before .before .before .before .shared-slice-known2 .given 0))) in let w = c .before .wide2 .ensures .0 in (omega (arith, mod-lt (getD (now (c .before .before .before .before .before .before .before .args .s)) 0 0) (f .some)), omega arith)
 
 returns-6 : tie.Need-returns-6
-returns-6 c = let f : Fine (c .before .before .before .lead-of .result) = rw (c .before .before .before .lead-of .ensures) (all-fine _ (omega (arith, c .before .before .before .before .shared-slice-known2 .given 0))) in let m = c .before .match .rest in let n : c .before .before .before .lead-of .result .len ≡ 4 = omega (arith, f .few, m .0 .0 .0 .1, m .0 .0 .1, m .0 .1, m .1) in c .four .ensures ∙ long-value _ (omega arith) _ (c .before .before .before .lead-of .ensures) 3 n _ (c .before .before .wide .ensures .0)
+returns-6 c = let h : getD (now (c .before .before .before .before .before .before .before .before .args .s)) 0 0 < 256 = omega (arith, c .before .before .before .before .before .shared-slice-known2 .given 0) in let f : Fine (c .before .before .before .lead-of .result) = rw (c .before .before .before .lead-of .ensures) (all-fine _ h) in let o : c .before .before .before .lead-of .result .len ≡ 1 → ⊥ = rw (c .before .before .before .lead-of .ensures) (longer _ (omega (arith, c .before .before .before .before .if2 .left)) h) in let m = c .before .match .rest in let n : c .before .before .before .lead-of .result .len ≡ 4 = omega (arith, f .few, o, m .0 .0 .1, m .0 .1, m .1) in c .four .ensures ∙ long-value _ (omega arith) _ (c .before .before .before .lead-of .ensures) 3 n _ (c .before .before .wide2 .ensures .0)
 
 pub read-value-spec : {M : Type 1} → statement M
 read-value-spec =
@@ -56,14 +77,15 @@ read-value-spec =
     (tie.spec
     returns
     shared-slice-read-b
+    wide-requires
+    returns-2
     lead-of-requires
     rem-wide
-    wide-requires
-    further-requires
-    three-requires
-    four-requires
-    returns-2
+    wide-requires-2
     returns-3
+    further-requires
     returns-4
+    three-requires
     returns-5
+    four-requires
     returns-6)
