@@ -2,7 +2,8 @@
  * Calls the library once for each figure of tools/bench, each from a function of its own whose instructions callgrind counts:
  *   driver FONT       prints the value of the last glyph that is looked up, the size of a loader, and the stack that each call used
  *   driver FONT CALL OUT   converts by CALL (psf2_to_vfont2, ..) and writes the file OUT
- *   driver FONT ROUNDS     prints the best time of a check, of a lookup that finds nothing and of a load in frames, in microseconds
+ *   driver FONT ROUNDS     prints the best time of a check, of lookups that find nothing, glyph 0 and the last glyph, of a conversion to PSF1
+ *                          and of a load in frames, in microseconds
  */
 #include <lavandol.h>
 #include <stdio.h>
@@ -14,7 +15,7 @@
 #define ROOM 1048576
 static uint8_t file[ROOM + 1], out[ROOM];
 static size_t length, bitmaps, bitmap_bytes;
-static uint32_t last;
+static uint32_t first, last; /* the first value of glyph 0 and of the last glyph */
 static volatile size_t kept; /* so that no call is left out */
 
 /* A library from before these calls were there is measured without them; NO_LOADER: its header has no loader. */
@@ -33,6 +34,7 @@ static volatile size_t kept; /* so that no call is left out */
 #define FIGURE(name, call) __attribute__((noinline)) void bench_##name(void) { kept += (call); }
 FIGURE(check, lav_check(file, length).count)
 FIGURE(none, REFUSED(lav_find_value(file, length, 0x10FFF0)))
+FIGURE(first, lav_find_value(file, length, first).number)
 FIGURE(last, lav_find_value(file, length, last).number)
 FIGURE(psf1_to_psf2, lav_psf1_to_psf2(file, length, out, ROOM).number)
 FIGURE(psf2_to_psf1, lav_psf2_to_psf1(file, length, out, ROOM).number)
@@ -78,7 +80,7 @@ static const struct { const char *name; void (*call)(void); } FIGURES[] = {
     {"psf1_to_psf2", bench_psf1_to_psf2}, {"psf2_to_psf1", bench_psf2_to_psf1},
     {"psf2_to_vfont2", bench_psf2_to_vfont2}, {"vfont2_to_psf2", bench_vfont2_to_psf2},
     {"glyph", bench_glyph}, {"row", bench_row}, {"pixel", bench_pixel}, {"metrics", bench_metrics},
-    {"item", bench_item}, {"find_sequence", bench_sequence},
+    {"item", bench_item}, {"find_sequence", bench_sequence}, {"find_value, glyph 0", bench_first},
     {"loader_fresh", bench_loader_fresh}, {"loader_feed", bench_loader_feed}, {"loader_close", bench_loader_close},
 };
 #define LOADER_FIGURES 3 /* the last ones */
@@ -120,12 +122,15 @@ int main(int argc, char **argv) {
     fclose(in);
     lav_font font = lav_check(file, length);
     if (REFUSED(font)) return 1;
+    first = lav_item(file, length, 0, 0).value;
     last = lav_item(file, length, font.count - 1, 0).value;
     bitmaps = font.bitmaps;
     bitmap_bytes = font.end - font.bitmaps;
     if (argc == 3) {
         int rounds = atoi(argv[2]);
         printf("check %.2f us lookup %.2f us", best_of(bench_check, rounds), best_of(bench_none, rounds));
+        printf(" first %.2f us last %.2f us", best_of(bench_first, rounds), best_of(bench_last, rounds));
+        printf(" psf2_to_psf1 %.2f us", best_of(bench_psf2_to_psf1, rounds));
         if (HAS_LOADER) printf(" frames %.2f us", best_of(in_frames, rounds));
         putchar('\n');
         return 0;
