@@ -4,6 +4,8 @@
  *   driver FONT CALL OUT   converts by CALL (psf2_to_vfont2, ..) and writes the file OUT
  *   driver FONT ROUNDS     prints the best time of a check, of lookups that find nothing, glyph 0 and the last glyph, of a conversion to PSF1
  *                          and of a load in frames, in microseconds
+ *   driver FONT edits ROUNDS   prints the best time of a check, of a copy of the table, and of an add and a drop at glyph 0 and at the last
+ *                          glyph, in microseconds
  */
 #include <lavandol.h>
 #include <stdio.h>
@@ -14,12 +16,14 @@
 
 #define ROOM 1048576
 static uint8_t file[ROOM + 1], out[ROOM];
-static size_t length, bitmaps, bitmap_bytes;
+static size_t length, bitmaps, bitmap_bytes, table, last_glyph;
 static uint32_t first, last; /* the first value of glyph 0 and of the last glyph */
 static volatile size_t kept; /* so that no call is left out */
 
-/* A library from before these calls were there is measured without them; NO_LOADER: its header has no loader. */
+/* A library from before these calls were there is measured without them; NO_LOADER, NO_EDITS: its header has no loader, no edits. */
 #pragma weak lav_metrics
+#pragma weak lav_add_mapping
+#pragma weak lav_drop_mapping
 #pragma weak lav_loader_fresh
 #pragma weak lav_loader_feed
 #pragma weak lav_loader_close
@@ -48,6 +52,7 @@ FIGURE(item, lav_item(file, length, 0, 0).value)
 FIGURE(sequence, lav_find_sequence(file, length, &last, 1).number)
 __attribute__((noinline)) void bench_copy(void) { memcpy(out, file, length); kept += out[length - 1]; }
 __attribute__((noinline)) void bench_bitmaps(void) { memcpy(out, file + bitmaps, bitmap_bytes); kept += out[0]; }
+__attribute__((noinline)) void bench_table(void) { memcpy(out, file + table, length - table); kept += out[0]; }
 __attribute__((noinline)) void bench_empty(void) { kept += length; }
 
 /* The font as it arrives: a fresh loader, frames of FRAME bytes, the close. */
@@ -75,27 +80,69 @@ __attribute__((noinline)) void bench_byte_by_byte(void) { loader = lav_loader_fr
 #endif
 static void in_frames(void) { bench_loader_fresh(); bench_loader_feed(); bench_loader_close(); }
 
+/* A value of 4 bytes, and one of a single byte ("short"), that glyph 0 and the last glyph have in no font here, added and dropped again: each
+ * add is followed by its drop. */
+#ifdef NO_EDITS
+#define HAS_EDITS 0
+#define EDIT(name, call, g, len, v) static void bench_##name(void) {}
+#else
+#define HAS_EDITS (lav_add_mapping && lav_drop_mapping)
+#define EDIT(name, call, g, len, v) \
+    __attribute__((noinline)) void bench_##name(void) { if (HAS_EDITS) edited = call(file, sizeof file, len, g, v).number; }
+#endif
+static size_t edited; /* the font's length by the last edit */
+EDIT(add_first, lav_add_mapping, 0, length, 0x10FFF0)
+EDIT(drop_first, lav_drop_mapping, 0, edited, 0x10FFF0)
+EDIT(add_short, lav_add_mapping, 0, length, 1)
+EDIT(drop_short, lav_drop_mapping, 0, edited, 1)
+EDIT(add_last, lav_add_mapping, last_glyph, length, 0x10FFF0)
+EDIT(drop_last, lav_drop_mapping, last_glyph, edited, 0x10FFF0)
+
 static const struct { const char *name; void (*call)(void); } FIGURES[] = {
     {"check", bench_check}, {"find_value, nothing found", bench_none}, {"find_value, last glyph", bench_last},
     {"psf1_to_psf2", bench_psf1_to_psf2}, {"psf2_to_psf1", bench_psf2_to_psf1},
     {"psf2_to_vfont2", bench_psf2_to_vfont2}, {"vfont2_to_psf2", bench_vfont2_to_psf2},
     {"glyph", bench_glyph}, {"row", bench_row}, {"pixel", bench_pixel}, {"metrics", bench_metrics},
     {"item", bench_item}, {"find_sequence", bench_sequence}, {"find_value, glyph 0", bench_first},
+    {"add_mapping, glyph 0", bench_add_first}, {"drop_mapping, glyph 0", bench_drop_first},
+    {"add_mapping, one byte", bench_add_short}, {"drop_mapping, one byte", bench_drop_short},
+    {"add_mapping, last glyph", bench_add_last}, {"drop_mapping, last glyph", bench_drop_last},
     {"loader_fresh", bench_loader_fresh}, {"loader_feed", bench_loader_feed}, {"loader_close", bench_loader_close},
 };
 #define LOADER_FIGURES 3 /* the last ones */
 
+/* Lowers the best time of a call by one more turn. */
+static void turn(void (*call)(void), double *best) {
+    struct timespec a, b;
+    clock_gettime(CLOCK_MONOTONIC, &a);
+    call();
+    clock_gettime(CLOCK_MONOTONIC, &b);
+    double took = (b.tv_sec - a.tv_sec) * 1e6 + (b.tv_nsec - a.tv_nsec) / 1e3;
+    if (took < *best) *best = took;
+}
+
 static double best_of(void (*call)(void), int rounds) {
     double best = 1e9;
-    for (int i = 0; i < rounds; i++) {
-        struct timespec a, b;
-        clock_gettime(CLOCK_MONOTONIC, &a);
-        call();
-        clock_gettime(CLOCK_MONOTONIC, &b);
-        double took = (b.tv_sec - a.tv_sec) * 1e6 + (b.tv_nsec - a.tv_nsec) / 1e3;
-        if (took < best) best = took;
-    }
+    for (int i = 0; i < rounds; i++) turn(call, &best);
     return best;
+}
+
+/* All in turn, so that each drop undoes the add before it. */
+static int time_edits(int rounds) {
+    static const struct { const char *name; void (*call)(void); } CALLS[] = {
+        {"check", bench_check}, {"table", bench_table}, {"add_first", bench_add_first}, {"drop_first", bench_drop_first},
+        {"add_short", bench_add_short}, {"drop_short", bench_drop_short}, {"add_last", bench_add_last}, {"drop_last", bench_drop_last},
+    };
+    enum { COUNT = sizeof CALLS / sizeof *CALLS };
+    double best[COUNT];
+    for (int k = 0; k < COUNT; k++) best[k] = 1e9;
+    for (int i = 0; i < rounds; i++) {
+        for (int k = 0; k < COUNT; k++) turn(CALLS[k].call, &best[k]);
+        if (edited != length) return 1;
+    }
+    for (int k = 0; k < COUNT; k++) printf("%s %.2f us ", CALLS[k].name, best[k]);
+    putchar('\n');
+    return 0;
 }
 
 /* The stack that a call used, from a painted stack of its own. */
@@ -126,6 +173,8 @@ int main(int argc, char **argv) {
     last = lav_item(file, length, font.count - 1, 0).value;
     bitmaps = font.bitmaps;
     bitmap_bytes = font.end - font.bitmaps;
+    table = font.end;
+    last_glyph = font.count - 1;
     if (argc == 3) {
         int rounds = atoi(argv[2]);
         printf("check %.2f us lookup %.2f us", best_of(bench_check, rounds), best_of(bench_none, rounds));
@@ -135,6 +184,7 @@ int main(int argc, char **argv) {
         putchar('\n');
         return 0;
     }
+    if (argc == 4 && !strcmp(argv[2], "edits")) return time_edits(atoi(argv[3]));
     if (argc == 4) {
         for (size_t i = 3; i < 7; i++) {
             if (strcmp(argv[2], FIGURES[i].name)) continue;
@@ -145,9 +195,10 @@ int main(int argc, char **argv) {
         }
         return 0;
     }
-    printf("last %X\n", (unsigned)last);
+    printf("last %X\ntable %zu\n", (unsigned)last, length - table);
     bench_copy();
     bench_bitmaps();
+    bench_table();
     size_t figures = sizeof FIGURES / sizeof *FIGURES;
     if (HAS_LOADER) {
         printf("loader %zu\n", LOADER_BYTES);

@@ -7,19 +7,19 @@
  * library, and the caller must keep the three rules that follow.
  *
  * - A slice is a pointer and a number of elements: `file, file_len` are bytes, `values, value_count` are uint32_t. So many elements can
- *   be read there (written, for a buffer). The pointer must not be NULL, not even where the length is 0: pass the address of any byte
- *   then (of a uint32_t for `values`); nothing is read or written there. A slice of uint32_t is aligned.
+ *   be read there (written, for a buffer; both, for the buffer of an edit). The pointer must not be NULL, not even where the length is 0:
+ *   pass the address of any byte then (of a uint32_t for `values`); nothing is read or written there. A slice of uint32_t is aligned.
  * - A lent slice does not change during the call; a buffer, or a record that is lent to be changed (lav_loader), overlaps nothing else
  *   that the call is lent.
  * - The pointers are not kept: memory may be moved or freed after the call.
  *
  * The functions allocate nothing, have no global state and no locks, and call nothing: the archive needs no C library. So they may run
- * in several threads at once, and in an interrupt handler; but lav_check, lav_metrics, the four conversions and the loader's three calls
- * use SSE registers (the compiler's doing; tools/try-boundary reads it off the archive), so a handler that does not save them must not
- * call these nine. They need at most about 600 bytes of stack, lav_loader_feed about 1,800 (docs/BENCHMARK.md), whatever the font. Each
- * call on a file checks the font first, one pass over the header, the vfont2 entries and the Unicode table; a walk or a lookup is another
- * pass over the Unicode table at most, a conversion two. A font that arrives piece by piece is checked as it comes (lav_loader), in the
- * same one pass.
+ * in several threads at once, and in an interrupt handler; but lav_check, lav_metrics, the four conversions, the two edits and the loader's
+ * three calls use SSE registers (the compiler's doing; tools/try-boundary reads it off the archive), so a handler that does not save them
+ * must not call these eleven. They need at most about 600 bytes of stack, lav_loader_feed about 1,800 (docs/BENCHMARK.md), whatever the
+ * font. Each call on a file checks the font first, one pass over the header, the vfont2 entries and the Unicode table; a walk or a lookup
+ * is another pass over the Unicode table at most, a conversion two; an edit is a pass up to the place and one move of the bytes behind it.
+ * A font that arrives piece by piece is checked as it comes (lav_loader), in the same one pass.
  *
  * Numbers in the files are little endian. Glyphs, rows, columns and items are counted from 0.
  */
@@ -44,9 +44,9 @@ extern "C" {
  * record without one). Its number is 0 (LAV_OK) where the question is answered; then its place is 0. Else its number is one of those
  * below, its place tells where, and all other members of the answer are 0.
  *
- * Every call on a file gives the font's own refusal, 1 to 12, before any other. They are tried in this order and the first that applies
- * is given, so a font that is refused is refused by all calls alike. The places of 1 to 12 are offsets in the file; the place of 13 to
- * 16 is 0; those of 17 to 23 are said at each.
+ * Every call on a file gives the font's own refusal, 1 to 12, before any other (but an edit ASK, where it is told more bytes than the
+ * buffer has). They are tried in this order and the first that applies is given, so a font that is refused is refused by all calls alike.
+ * The places of 1 to 12 are offsets in the file; the place of 13 to 16 is 0; those of 17 to 25 are said at each.
  */
 enum {
     LAV_OK = 0,
@@ -65,22 +65,25 @@ enum {
     LAV_TABLE_BAD = 11,  /* no table begins so; place: the first byte after the longest part that could still be completed */
     LAV_TRAILING = 12,   /* bytes after a complete table, or after the bitmaps of a font without one; place: the first such byte */
 
-    LAV_ASK = 13,        /* the question's fault: glyph, item, row or column number too high, value above 10FFFF, empty sequence;
-                            place 0 */
-    LAV_NO_TABLE = 14,   /* a walk or lookup on a font without a Unicode table; place 0 */
+    LAV_ASK = 13,        /* the question's fault: glyph, item, row or column number too high, value above 10FFFF, empty sequence; of an
+                            edit also a surrogate, or a font's length above the buffer's; place 0 */
+    LAV_NO_TABLE = 14,   /* a walk, lookup or edit on a font without a Unicode table; place 0 */
     LAV_UNMAPPED = 15,   /* no glyph lists it; place 0 */
     LAV_NO_GLYPH = 16,   /* a bitmap or metrics asked of a vfont2 entry of size 0; place 0 */
 
-    LAV_WRONG_KIND = 17, /* the conversion wants another kind; place 0 */
+    LAV_WRONG_KIND = 17, /* the conversion wants another kind, an edit wants PSF2; place 0 */
     LAV_GLYPHS = 18,     /* the target can't have these glyphs; to PSF1: not 256 or 512 of them (place 16), then width not 8 (28);
                             vfont2 to PSF2: place is the start of the first entry that has no glyph or whose five metrics are not
                             (greatest height, 0, 0, greatest width, greatest width) */
     LAV_VALUE = 19,      /* the target can't have a value: a surrogate (PSF1 to PSF2), above FFFD (to PSF1); place: its first byte */
-    LAV_SIZE = 20,       /* the output would be over 1,048,576 bytes; place 0 */
-    LAV_ROOM = 21,       /* the lent buffer is shorter than the output; place: the size needed */
+    LAV_SIZE = 20,       /* the output, or the edited font, would be over 1,048,576 bytes; place 0 */
+    LAV_ROOM = 21,       /* the lent buffer is shorter than the output, or than the edited font; place: the size needed */
 
     LAV_LATE = 22,       /* a piece or a close for a loader that is closed, which stays as it was; place 0 */
-    LAV_LINE = 23        /* no call gives it: the program fontload does, for a line that is no frame; place: the line's number, from 1 */
+    LAV_LINE = 23,       /* no call gives it: the program fontload does, for a line that is no frame; place: the line's number, from 1 */
+
+    LAV_HAVE = 24,       /* the glyph lists the value that is to be added as a single already; place 0 */
+    LAV_NOT_THERE = 25   /* the glyph does not list the value that is to be dropped as a single; place 0 */
 };
 
 /* Kinds of font (`kind` of lav_font). */
@@ -91,7 +94,7 @@ enum { LAV_SINGLE = 1, LAV_START = 2, LAV_VALUE_IN_SEQUENCE = 3, LAV_END = 4 };
 
 /* A refusal, the first member of every answer. */
 typedef struct {
-    uint32_t number; /* LAV_OK where the question is answered, else LAV_TOO_LONG to LAV_LATE */
+    uint32_t number; /* LAV_OK where the question is answered, else LAV_TOO_LONG to LAV_LATE, LAV_HAVE or LAV_NOT_THERE */
     uint64_t place;
 } lav_refusal;
 
@@ -309,6 +312,34 @@ lav_number lav_psf2_to_vfont2(const uint8_t *file, size_t file_len, uint8_t *out
 
 /* GLYPHS: an entry without a glyph, or with other metrics than (greatest height, 0, 0, greatest width, greatest width). */
 lav_number lav_vfont2_to_psf2(const uint8_t *file, size_t file_len, uint8_t *out, size_t out_len);
+
+/*
+ * Edits of a font in memory. `buffer` holds a PSF2 font at its front, in its first `len` bytes, and is changed in place: glyph g gets the
+ * value v as its last single, or loses the first listing of v that it has as a single. The answer is the font's new length: by 1 to 4 bytes
+ * more or less, as long as v is in UTF-8. Header (its extra bytes too), bitmaps, and every other item of every description stay; so do the
+ * bytes of the buffer behind the longer of the old and the new font. Bytes that a drop frees, from the new length to the old, become 0. An
+ * add and then a drop of the same value give back the font. A refused edit leaves the buffer as it was.
+ *     lav_number longer = lav_add_mapping(buffer, sizeof buffer, len, g, 0x20AC);
+ *     if (!longer.refusal.number) len = longer.number;
+ *
+ * To learn the size needed, lend a buffer of just the font: ROOM gives it as its place. The time is that of one check, one pass over the
+ * table up to the place and one move of the bytes behind it.
+ *
+ * Refusals, tried in this order:
+ * - ASK (len is above buffer_len);
+ * - 1 to 12, of the first len bytes;
+ * - WRONG_KIND (not PSF2), NO_TABLE;
+ * - ASK (no glyph g, v above 10FFFF, or v a surrogate, D800 to DFFF);
+ * - lav_add_mapping: HAVE (glyph g lists v as a single already), SIZE (the new font would be over 1,048,576 bytes), ROOM (the buffer is
+ *   shorter than the new font; place: the new length);
+ * - lav_drop_mapping: NOT_THERE (glyph g does not list v as a single; in a sequence it may).
+ */
+
+/* Adds value v to glyph g, behind its other singles and before its sequences. */
+lav_number lav_add_mapping(uint8_t *buffer, size_t buffer_len, size_t len, size_t g, uint32_t v);
+
+/* Drops the first listing of value v as a single of glyph g; where it is listed twice, the other one stays. */
+lav_number lav_drop_mapping(uint8_t *buffer, size_t buffer_len, size_t len, size_t g, uint32_t v);
 
 /*
  * A font that arrives piece by piece, over a serial line say, is checked as it comes: a loader is fed any number of pieces of any length,

@@ -3,47 +3,7 @@
  * Build, in the repository's folder after `rt staticlib lavandol`:
  *   gcc -O2 -Wall -Wextra -Iinclude -o target/lookup examples/c/lookup.c target/staticlib/liblavandol.a
  */
-#include <ctype.h>
-#include <inttypes.h>
-#include <lavandol.h>
-#include <stdio.h>
-#include <stdlib.h>
-
-static uint8_t file[1048577]; /* one byte over the limit, so that a longer file is refused as such */
-
-/* The refusals' names; number 0 is none. */
-static const char *const names[] = {
-    "answered", "too long", "kind", "header cut", "version", "header size", "count", "shape", "body cut", "entry", "table cut",
-    "table bad", "trailing", "ask", "no table", "unmapped", "no glyph", "wrong kind", "glyphs", "value", "size", "room",
-    "late", "line",
-};
-
-/* Tells a refusal by number, place and name: `C5: refused 15 0 (unmapped)`. */
-static int refused(const char *what, lav_refusal refusal) {
-    const char *name = refusal.number < sizeof names / sizeof *names ? names[refusal.number] : "unknown";
-    fprintf(stderr, "%s: refused %" PRIu32 " %" PRIu64 " (%s)\n", what, refusal.number, refusal.place, name);
-    return 1;
-}
-
-/* The hexadecimal number of a word: digits alone, and no more than 32 bits. */
-static int read_value(const char *word, uint32_t *value) {
-    for (const char *c = word; *c; c++) {
-        if (!isxdigit((unsigned char)*c)) return 0;
-    }
-    unsigned long long number = strtoull(word, NULL, 16); /* the greatest there is, where it does not fit */
-    *value = (uint32_t)number;
-    return *word && number <= UINT32_MAX;
-}
-
-/* The whole file, or its first 1,048,577 bytes. A folder can be opened, but not read. */
-static int read_file(const char *path, size_t *length) {
-    FILE *in = fopen(path, "rb");
-    if (!in) return 0;
-    *length = fread(file, 1, sizeof file, in);
-    if (ferror(in)) return 0;
-    fclose(in);
-    return 1;
-}
+#include "shared.h"
 
 /* The rows of a glyph's bitmap, from the top, each of whole bytes; pixels from a byte's top bit on. */
 static void draw(const uint8_t *bitmap, size_t height, size_t width) {
@@ -62,7 +22,7 @@ int main(int argc, char **argv) {
         fprintf(stderr, "usage: lookup FONT HEX\n");
         return 2;
     }
-    if (!read_value(argv[2], &value)) {
+    if (!read_number(argv[2], 16, &value)) {
         fprintf(stderr, "%s: not a hexadecimal number of 32 bits\n", argv[2]);
         return 2;
     }

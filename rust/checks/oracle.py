@@ -339,6 +339,53 @@ def convert(f, which, room):
     return out
 
 
+def edit(buf, length, g, v, add):
+    """The new length; changes the buffer."""
+    if length > len(buf):
+        no(13, 0)
+    f = bytes(buf[:length])
+    o = check(f)
+    if o.kind != 'psf2':
+        no(17, 0)
+    if not o.tab:
+        no(14, 0)
+    if g >= o.n:
+        no(13, 0)
+    if v > 0x10FFFF or 0xD800 <= v <= 0xDFFF:
+        no(13, 0)
+    # where the singles end, and where those that are v stand
+    stop, found = None, []
+    for sort, w, at in o.read[g]:
+        if sort != 'single':
+            stop = at
+            break
+        if w == v:
+            found.append(at)
+    word = put8(v)
+    if add:
+        if found:
+            no(24, 0)
+        new = f[:stop] + word + f[stop:]
+    else:
+        if not found:
+            no(25, 0)
+        new = f[:found[0]] + f[found[0] + len(word):]
+    if len(new) > LIMIT:
+        no(20, 0)
+    if len(new) > len(buf):
+        no(21, len(new))
+    front = new + bytes(max(0, length - len(new)))
+    buf[:len(front)] = front
+    return len(new)
+
+
+def checksum(buf):
+    x = 0
+    for b in buf:
+        x = (x * 31 + b) % 4294967291
+    return x
+
+
 def main():
     s = sys.stdin.buffer.read()
     i = 0
@@ -452,12 +499,20 @@ def main():
                 a = f'wrote {len(out)}'
             except No as e:
                 a = 'refused %d %d' % e.args
-            x = 0
-            for b in buf:
-                x = (x * 31 + b) % 4294967291
-            put(f'convert {which} {room} {a} sum {x}\n')
+            put(f'convert {which} {room} {a} sum {checksum(buf)}\n')
         elif op == 0x21:
             f = bytearray(last)
+        elif op in (0x22, 0x23):
+            room, length, g, v = num(4), num(4), num(4), num(4)
+            buf = f[:room].ljust(room, b'\xa5')
+            try:
+                n = edit(buf, length, g, v, op == 0x22)
+                f = buf[:n]
+                a = f'length {n}'
+            except No as e:
+                a = 'refused %d %d' % e.args
+            name = 'add' if op == 0x22 else 'drop'
+            put(f'{name} {room} {length} {g} {v:X} {a} sum {checksum(buf)}\n')
         else:
             raise ValueError(op)
 

@@ -25,6 +25,8 @@ use Rattle.questions.specs.declared.Lookup.{Lookup}
 use Rattle.questions.specs.declared.Lookup.the-variants.{Glyph, Refused as NoLookup}
 use Rattle.convert.specs.declared.Converted.{Converted}
 use Rattle.convert.specs.declared.Converted.the-variants.{Wrote, Refused as NoOutput}
+use Rattle.edit.specs.declared.Edited.{Edited}
+use Rattle.edit.specs.declared.Edited.the-variants.{Length, Refused as NoEdit}
 use Rattle.answers.specs.declared.LavRefusal.{LavRefusal}
 use Rattle.answers.specs.declared.LavFont.{LavFont}
 use Rattle.answers.specs.declared.LavPart.{LavPart}
@@ -140,3 +142,8 @@ walkAnswer (NoWalk r) = refusedItem r
 abbrev pub convertedAnswer : Converted → LavNumber
 convertedAnswer (Wrote n) = numberAnswer n
 convertedAnswer (NoOutput r) = refusedNumber r
+
+-- how long a font is after an edit
+abbrev pub editedAnswer : Edited → LavNumber
+editedAnswer (Length n) = numberAnswer n
+editedAnswer (NoEdit r) = refusedNumber r

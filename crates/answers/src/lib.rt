@@ -3,6 +3,7 @@ use bitmap::GlyphMetrics;
 use bitmap::Part;
 use bitmap::Pixel;
 use convert::Converted;
+use edit::Edited;
 use header::Checked;
 use header::Kind;
 use loader::Reply;
@@ -11,7 +12,7 @@ use questions::Walk;
 use refusal::Refusal;
 use table::Item;
 ghost use mathlib.Core.Path.{_≡_};
-ghost use Rattle.answers.specs.Meaning.{noRefusal, refusalTold, replyTold, kindNumber, flagNumber, refusedFont, fontAnswer, refusedPart, partAnswer, refusedMetrics, metricsAnswer, numberAnswer, refusedNumber, pixelAnswer, lookupAnswer, itemAnswer, refusedItem, walkAnswer, convertedAnswer};
+ghost use Rattle.answers.specs.Meaning.{noRefusal, refusalTold, replyTold, kindNumber, flagNumber, refusedFont, fontAnswer, refusedPart, partAnswer, refusedMetrics, metricsAnswer, numberAnswer, refusedNumber, pixelAnswer, lookupAnswer, itemAnswer, refusedItem, walkAnswer, convertedAnswer, editedAnswer};
 
 // A refusal as C reads it, the first field of every answer: document 01's number and place; both 0 where the call is answered.
 // Only `no_refusal` and `refusal_told` make one.
@@ -305,5 +306,14 @@ pub fn converted_answer(c: Converted) -> LavNumber
     match c {
         Converted::Wrote(n) => number_answer(n),
         Converted::Refused(r) => refused_number(r),
+    }
+}
+
+pub fn edited_answer(e: Edited) -> LavNumber
+    ensures { λ r. ⌜ r ≡ editedAnswer e ⌝ }
+{
+    match e {
+        Edited::Length(n) => number_answer(n),
+        Edited::Refused(r) => refused_number(r),
     }
 }

@@ -1,6 +1,6 @@
 // The boundary for C and Rust: every public call on numbers, slices and a loader's record, each answer one struct by value. What is lent is
-// lent for the call only; nothing is allocated or kept. A conversion changes the buffer that it is lent, and a loader's calls the record; no
-// call changes anything else. Definitions: crates/answers/specs/Meaning.antt. The C side: include/lavandol.h.
+// lent for the call only; nothing is allocated or kept. A conversion or an edit changes the buffer that it is lent, and a loader's calls the
+// record; no call changes anything else. Definitions: crates/answers/specs/Meaning.antt. The C side: include/lavandol.h.
 use answers::LavFont;
 use answers::LavItem;
 use answers::LavMetrics;
@@ -15,8 +15,9 @@ ghost use Rattle.stages.specs.Reading.{checkOf};
 ghost use Rattle.fonts.specs.Reading.{glyphPartOf, rowPartOf, pixelAt, glyphMetricsOf, itemOf, valueGlyph, sequenceGlyph};
 ghost use Rattle.conversion.specs.declared.Conversion.the-variants.{Psf1ToPsf2, Psf2ToPsf1, Psf2ToVfont2, Vfont2ToPsf2};
 ghost use Rattle.convert.specs.Reading.{convertedOf, convertedInto};
+ghost use Rattle.edit.specs.Reading.{addAnswer, addInto, dropAnswer, dropInto};
 ghost use Rattle.loader.specs.Reading.{freshOf, fedOf, feedAnswer, closedOf, closeAnswer};
-ghost use Rattle.answers.specs.Meaning.{replyTold, fontAnswer, partAnswer, metricsAnswer, pixelAnswer, lookupAnswer, walkAnswer, convertedAnswer};
+ghost use Rattle.answers.specs.Meaning.{replyTold, fontAnswer, partAnswer, metricsAnswer, pixelAnswer, lookupAnswer, walkAnswer, convertedAnswer, editedAnswer};
 
 // The check of a font. Refusals: 1 to 12, in their order.
 #[no_mangle]
@@ -139,6 +140,32 @@ pub extern "C" fn lav_vfont2_to_psf2(file: &[u8], out: &mut [u8]) -> LavNumber
 {
     let c = fonts::vfont2_to_psf2(file, out);
     answers::converted_answer(c)
+}
+
+// Adds the value v to glyph g of the PSF2 font in the first len bytes of buf, as its last single: the font's new length. A refused call leaves
+// buf as it was.
+// Refusals: ASK for a length beyond the buffer, the font's own (1 to 12), WRONG KIND, NO TABLE, ASK for the glyph, a value above 10FFFF or a
+// surrogate, HAVE, SIZE, ROOM.
+#[no_mangle]
+pub extern "C" fn lav_add_mapping(buf: &mut [u8], len: usize, g: usize, v: u32) -> LavNumber
+    ensures answer { λ r. ⌜ r ≡ editedAnswer (addAnswer (now (buf .entry)) len g v) ⌝ }
+    ensures buffer { λ r. ⌜ now (buf .exit) ≡ addInto (now (buf .entry)) len g v ⌝ }
+{
+    let e = edit::add_mapping(buf, len, g, v);
+    answers::edited_answer(e)
+}
+
+// Drops the first listing of v as a single of glyph g of the PSF2 font in the first len bytes of buf: the font's new length, and the bytes
+// freed are 0. A refused call leaves buf as it was.
+// Refusals: ASK for a length beyond the buffer, the font's own (1 to 12), WRONG KIND, NO TABLE, ASK for the glyph, a value above 10FFFF or a
+// surrogate, NOT THERE.
+#[no_mangle]
+pub extern "C" fn lav_drop_mapping(buf: &mut [u8], len: usize, g: usize, v: u32) -> LavNumber
+    ensures answer { λ r. ⌜ r ≡ editedAnswer (dropAnswer (now (buf .entry)) len g v) ⌝ }
+    ensures buffer { λ r. ⌜ now (buf .exit) ≡ dropInto (now (buf .entry)) len g v ⌝ }
+{
+    let e = edit::drop_mapping(buf, len, g, v);
+    answers::edited_answer(e)
 }
 
 // A loader that has been fed nothing: the caller keeps the record, and lends it to the two calls below. Of a record that no call has made,

@@ -55,11 +55,11 @@ module _ (s : List ℕ) (f : Font) (y : Bytes s) (sound : checkOf s ≡ Sound f)
       go false v d = rw d (tt, v)
 
 -- whether there is a table
-bare-or : (t : Bool) → (t ≡ false) ⊎ ((t ≡ false) → ⊥)
+pub bare-or : (t : Bool) → (t ≡ false) ⊎ ((t ≡ false) → ⊥)
 bare-or true = inr (λ e. let z : _≡_ {A = ℕ} 0 1 = cc in omega arith)
 bare-or false = inl refl
 
-not-bare : (t : Bool) → ((t ≡ false) → ⊥) → t ≡ true
+pub not-bare : (t : Bool) → ((t ≡ false) → ⊥) → t ≡ true
 not-bare true n = refl
 not-bare false n = absurd (n refl)
 

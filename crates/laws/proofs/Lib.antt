@@ -1,5 +1,5 @@
 -- What the public calls mean. To read first: Demands, and then the pages that it cites: Check, Tables, Bitmaps, Questions, Conversions;
--- Modes (PSF1's modes), Loading (the checker fed by pieces), Program (`fontload`) and Vectors (the cases P1 to P14). The other files are the steps
+-- Modes (PSF1's modes), Edits (mappings added and dropped in place), Loading (the checker fed by pieces), Program (`fontload`) and Vectors (the cases P1 to P14). The other files are the steps
 -- to them.
 pub mod Demands
 pub mod Check
@@ -8,6 +8,7 @@ pub mod Bitmaps
 pub mod Questions
 pub mod Conversions
 pub mod Modes
+pub mod Edits
 pub mod Loading
 pub mod Program
 pub mod Vectors
@@ -20,6 +21,10 @@ mod WellFormed
 mod Located
 mod Converting
 mod Refusing
+mod Retabled
+mod Editing
+mod Adding
+mod Dropping
 mod Marked
 mod Returning
 mod Regions

@@ -30,11 +30,11 @@ is-item : (w : Walked) (i : Item) → walkSays (walkOf w) ≡ gives i → w ≡ 
 is-item (Got j) i e = let h : j ≡ i = cc in ap Got h
 is-item NoItem i e = let z : _≡_ {A = ℕ} 0 1 = cc in absurd (omega arith)
 
-is-found : (w : Found) (g : ℕ) → lookupSays (lookupOf w) ≡ gives g → w ≡ At g
+pub is-found : (w : Found) (g : ℕ) → lookupSays (lookupOf w) ≡ gives g → w ≡ At g
 is-found (At h) g e = let q : h ≡ g = cc in ap At q
 is-found Nothing g e = let z : _≡_ {A = ℕ} 0 1 = cc in absurd (omega arith)
 
-is-unmapped : (w : Found) → lookupSays (lookupOf w) ≡ refuses 15 0 → w ≡ Nothing
+pub is-unmapped : (w : Found) → lookupSays (lookupOf w) ≡ refuses 15 0 → w ≡ Nothing
 is-unmapped (At h) e = let z : _≡_ {A = ℕ} 0 1 = cc in absurd (omega arith)
 is-unmapped Nothing e = refl
 

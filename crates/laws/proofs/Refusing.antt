@@ -457,14 +457,14 @@ one-kind Psf2 Vfont2 = inr (λ e. let z : _≡_ {A = ℕ} 0 1 = cc in omega arit
 one-kind Vfont2 Psf1 = inr (λ e. let z : _≡_ {A = ℕ} 0 1 = cc in omega arith)
 one-kind Vfont2 Psf2 = inr (λ e. let z : _≡_ {A = ℕ} 0 1 = cc in omega arith)
 
-wrong-or : (a b : Kind) → (a ≡ b → ⊥) ⊎ ((a ≡ b → ⊥) → ⊥)
+pub wrong-or : (a b : Kind) → (a ≡ b → ⊥) ⊎ ((a ≡ b → ⊥) → ⊥)
 wrong-or a b = go (one-kind a b)
   where
     go : (a ≡ b) ⊎ (a ≡ b → ⊥) → (a ≡ b → ⊥) ⊎ ((a ≡ b → ⊥) → ⊥)
     go (inl e) = inr (λ n. n e)
     go (inr n) = inl n
 
-not-wrong : (a b : Kind) → ((a ≡ b → ⊥) → ⊥) → a ≡ b
+pub not-wrong : (a b : Kind) → ((a ≡ b → ⊥) → ⊥) → a ≡ b
 not-wrong a b n = go (one-kind a b)
   where
     go : (a ≡ b) ⊎ (a ≡ b → ⊥) → a ≡ b

@@ -1,10 +1,10 @@
 -- The words of the statements: what a call says back, document 01's rows call by call, what a conversion keeps.
-use Prim.Native.Nat.{ℕ, zero, suc, _+_, _*_, _≤_, _<_}
+use Prim.Native.Nat.{ℕ, zero, suc, _+_, _-_, _*_, _≤_, _<_}
 use mathlib.Core.Path.{_≡_}
 use mathlib.Core.Logic.{_⊎_, _↔_}
 use mathlib.Core.Bool.{Bool, true, false}
 use mathlib.Core.List.{List, [], _∷_, _++_}
-use lib.ListN.{length, getD, take, drop}
+use lib.ListN.{length, getD, take, drop, replicate}
 use Rattle.base.specs.Meaning.{le32, Begins, Bytes}
 use Rattle.refusal.specs.Meaning.{numberOf}
 use Rattle.refusal.specs.declared.Refusal.{Refusal}
@@ -41,6 +41,10 @@ use Rattle.conversion.specs.declared.Conversion.the-variants.{Psf1ToPsf2, Psf2T
 use Rattle.conversion.specs.Meaning.{sourceKind, targetKind, frontLen, FirstUneven}
 use Rattle.convert.specs.declared.Converted.{Converted}
 use Rattle.convert.specs.declared.Converted.the-variants.{Wrote as Written, Refused as NotConverted}
+use Rattle.utf8.specs.Meaning.{utf8Bytes}
+use Rattle.mapping.specs.Meaning.{Lists}
+use Rattle.edit.specs.declared.Edited.{Edited}
+use Rattle.edit.specs.declared.Edited.the-variants.{Length, Refused as NotEdited}
 use Rattle.fonts.specs.Reading.{glyphPartOf, rowPartOf, pixelAt, glyphMetricsOf, itemOf, valueGlyph, sequenceGlyph}
 
 -- What a call says back: an answer, or "a number and a place". "When an answer is an enum, a definition gives this paper's number and
@@ -371,3 +375,60 @@ pub record RoundTrip (s o : List ℕ) : Type 0 where
   pub modes : getD s 2 0 ≤ 5
   pub mode : 4 ≤ getD s 2 0 → getD o 2 0 + 2 ≡ getD s 2 0
   pub others : (length o ≡ length s) × ((i : ℕ) → (i ≡ 2 → ⊥) → getD o i 0 ≡ getD s i 0)
+
+-- Edits (document 02, W4): "Order: the font's, 17, 14, 13, 24 or 25, 20, 21."
+
+-- the new length
+abbrev pub editedSays : Edited → Said ℕ
+editedSays (Length n) = gives n
+editedSays (NotEdited r) = told r
+
+-- "ASK also for L beyond the buffer (before all others) and for a surrogate": the rows before 24, of a font in the first len bytes of xs
+abbrev pub EditRows : List ℕ → ℕ → ℕ → ℕ → (List Desc → Said ℕ → Type 0) → Said ℕ → Type 0
+EditRows xs len g v rest =
+    Row (length xs < len) 13 0
+    (Own (take len xs) (λ f.
+    Row (f .kind ≡ Psf2 → ⊥) 17 0
+    (Row (f .table ≡ false) 14 0
+    (Row ((f .count ≤ g) ⊎ ((0x10FFFF < v) ⊎ In 0xD800 0xDFFF v)) 13 0
+    (Reading (take len xs) f rest)))))
+
+-- "HAVE (24) if the glyph already lists it as a single"; the new font is longer by the value's bytes
+abbrev pub AddLast : List ℕ → ℕ → ℕ → ℕ → List Desc → Said ℕ → Type 0
+AddLast xs len g v ds =
+    Row (Lists v g ds) 24 0
+    (Row (limit < len + length (utf8Bytes v)) 20 0
+    (Row (length xs < len + length (utf8Bytes v)) 21 (len + length (utf8Bytes v))
+    (λ a. a ≡ gives (len + length (utf8Bytes v)))))
+
+abbrev pub AddRows : List ℕ → ℕ → ℕ → ℕ → Said ℕ → Type 0
+AddRows xs len g v = EditRows xs len g v (AddLast xs len g v)
+
+-- "NOT THERE (25) if a drop finds none"; it is shorter by the value's bytes
+abbrev pub DropLast : ℕ → ℕ → ℕ → List Desc → Said ℕ → Type 0
+DropLast len g v ds = Row (Lists v g ds → ⊥) 25 0 (λ a. a ≡ gives (len - length (utf8Bytes v)))
+
+abbrev pub DropRows : List ℕ → ℕ → ℕ → ℕ → Said ℕ → Type 0
+DropRows xs len g v = EditRows xs len g v (DropLast len g v)
+
+-- what a good edit makes of a font f in the first len bytes of xs: one in the first n bytes of out, with glyph g's description changed
+pub record Edits (change : List Desc → List Desc) (g : ℕ) (xs : List ℕ) (len : ℕ) (out : List ℕ) (n : ℕ) : Type 0 where
+  pub font : Font
+  pub sound : checkOf (take len xs) ≡ Sound font
+  pub kind : font .kind ≡ Psf2
+  pub marked : font .table ≡ true
+  -- the font is accepted, its header says the same, and its reading is the old one changed
+  pub accepted : checkOf (take n out) ≡ Sound font
+  pub reading : (ds : List Desc) → Describes (take len xs) font true ds → Describes (take n out) font true (change ds)
+  -- "Every other item of every description stays, as do header and bitmaps."
+  pub others : (h k : ℕ) → (h ≡ g → ⊥) → itemOf (take n out) h k ≡ itemOf (take len xs) h k
+  pub front : take (font .end) out ≡ take (font .end) xs
+  pub glyphs : (h : ℕ) → glyphPartOf (take n out) h ≡ glyphPartOf (take len xs) h
+  pub rows : (h i : ℕ) → rowPartOf (take n out) h i ≡ rowPartOf (take len xs) h i
+  pub pixels : (h i j : ℕ) → pixelAt (take n out) h i j ≡ pixelAt (take len xs) h i j
+  pub metrics : (h : ℕ) → glyphMetricsOf (take n out) h ≡ glyphMetricsOf (take len xs) h
+  -- "Bytes past the longer of old and new font stay; bytes freed by a drop become 0."
+  pub behind : (m : ℕ) → len ≤ m → n ≤ m → drop m out ≡ drop m xs
+  pub freed : take (len - n) (drop n out) ≡ replicate (len - n) 0
+  pub whole : length out ≡ length xs
+  pub inside : n ≤ length out

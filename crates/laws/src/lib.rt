@@ -1,1 +1,1 @@
-// Inner layer: no code, only theorems about the public calls of `fonts`. Read proofs/Rows.antt and proofs/Tables.antt.
+// Inner layer: no code, only theorems about the public calls. Read proofs/Lib.antt, which names the pages, and proofs/Demands.antt.

@@ -1,7 +1,7 @@
 -- Document 01, "The numbers said back": a refusal is a reason, which has its number, and a place.
 use Prim.Native.Nat.{ℕ}
 use Rattle.refusal.specs.declared.Reason.{Reason}
-use Rattle.refusal.specs.declared.Reason.the-variants.{TooLong, Kind, HeaderCut, Version, HeaderSize, Count, Shape, BodyCut, Entry, TableCut, TableBad, Trailing, Ask, NoTable, Unmapped, NoGlyph, WrongKind, Glyphs, Value, Size, Room, Late, Line}
+use Rattle.refusal.specs.declared.Reason.the-variants.{TooLong, Kind, HeaderCut, Version, HeaderSize, Count, Shape, BodyCut, Entry, TableCut, TableBad, Trailing, Ask, NoTable, Unmapped, NoGlyph, WrongKind, Glyphs, Value, Size, Room, Late, Line, Have, NotThere}
 use Rattle.refusal.specs.declared.Refusal.{Refusal}
 
 -- the column "No"
@@ -30,6 +30,9 @@ numberOf Room = 21
 -- document 02, W2: "LATE (22, place 0) for a piece or close after the close", "LINE (23, place the line's number from 1) for a bad line"
 numberOf Late = 22
 numberOf Line = 23
+-- W4: "HAVE (24) if the glyph already lists it as a single, NOT THERE (25) if a drop finds none, both place 0"
+numberOf Have = 24
+numberOf NotThere = 25
 
 -- a reason and a place: the columns "Name" and "Place"
 abbrev pub refusal : Reason → ℕ → Refusal

@@ -27,6 +27,8 @@ pub enum Reason {
     Room,
     Late,
     Line,
+    Have,
+    NotThere,
 }
 
 // A refusal: the reason, and its place: an offset in the file, 0 where there is nothing to point at, the size needed (ROOM), a line's
@@ -74,5 +76,7 @@ pub fn number(reason: Reason) -> u32
         Reason::Room => 21,
         Reason::Late => 22,
         Reason::Line => 23,
+        Reason::Have => 24,
+        Reason::NotThere => 25,
     }
 }

@@ -9,11 +9,11 @@ use Rattle.table.specs.declared.Item.{Item}
 use Rattle.table.specs.declared.Item.the-variants.{Single, Start, Value, End}
 use Rattle.table.specs.Meaning.{Seq, Desc, each, seqs, described, itemsOf, items, itemBytes, bytes, OfCoding, encode, startOf, Readable}
 
-each-append : (f : ℕ → Item) (vs : List ℕ) (j k : List Item) → each f vs (j ++ k) ≡ each f vs j ++ k
+pub each-append : (f : ℕ → Item) (vs : List ℕ) (j k : List Item) → each f vs (j ++ k) ≡ each f vs j ++ k
 each-append f [] j k = refl
 each-append f (v ∷ vs) j k = ap (λ (x : List Item). f v ∷ x) (each-append f vs j k)
 
-seqs-append : (qs : List Seq) (j k : List Item) → seqs qs (j ++ k) ≡ seqs qs j ++ k
+pub seqs-append : (qs : List Seq) (j k : List Item) → seqs qs (j ++ k) ≡ seqs qs j ++ k
 seqs-append [] j k = refl
 seqs-append (q ∷ qs) j k =
     ap (λ (x : List Item). Start ∷ Value (q .first) ∷ x)
@@ -50,6 +50,13 @@ of-append c (Single v ∷ is) js o p = (o .0, of-append c is js (o .1) p)
 of-append c (Value v ∷ is) js o p = (o .0, of-append c is js (o .1) p)
 of-append c (Start ∷ is) js o p = of-append c is js o p
 of-append c (End ∷ is) js o p = of-append c is js o p
+
+pub of-right : (c : Coding) (is js : List Item) → OfCoding c (is ++ js) → OfCoding c js
+of-right c [] js o = o
+of-right c (Single v ∷ is) js o = of-right c is js (o .1)
+of-right c (Value v ∷ is) js o = of-right c is js (o .1)
+of-right c (Start ∷ is) js o = of-right c is js o
+of-right c (End ∷ is) js o = of-right c is js o
 
 pub of-left : (c : Coding) (is js : List Item) → OfCoding c (is ++ js) → OfCoding c is
 of-left c [] js o = tt

@@ -5,6 +5,7 @@ use bitmap::GlyphMetrics;
 use bitmap::Part;
 use bitmap::Pixel;
 use convert::Converted;
+use edit::Edited;
 use entries::Metrics;
 use header::Checked;
 use header::Font;
@@ -640,6 +641,64 @@ fn ask_convert(which: u8, file: &[u8], out: &mut [u8]) -> usize {
     len
 }
 
+fn edited(op: u8, buf: &mut [u8], len: usize, g: usize, v: u32) -> Edited {
+    if op == 0x22 {
+        return edit::add_mapping(buf, len, g, v);
+    }
+    edit::drop_mapping(buf, len, g, v)
+}
+
+fn edit_name(op: u8) {
+    if op == 0x22 {
+        say(b"add ");
+    } else {
+        say(b"drop ");
+    }
+}
+
+// An edit of the font in the first `len` bytes of a buffer, with A5s from `old` on: its line; the answer is the font's new length, or `old`.
+fn ask_edit(op: u8, buf: &mut [u8], len: usize, g: usize, v: u32, old: usize) -> usize {
+    let from = least(old, buf.len());
+    fill(buf.len(), 0xA5, &mut buf[from..]);
+    edit_name(op);
+    decimal(buf.len());
+    say(b" ");
+    decimal(len);
+    say(b" ");
+    decimal(g);
+    say(b" ");
+    value(v);
+    say(b" ");
+    let e = edited(op, buf, len, g, v);
+    let mut now = old;
+    match e {
+        Edited::Length(n) => {
+            say(b"length ");
+            decimal(n);
+            now = n;
+        }
+        Edited::Refused(r) => refused(r),
+    }
+    say(b" sum ");
+    io::print_decimal(1, checksum(buf));
+    say(b"\n");
+    now
+}
+
+// The records of edits: the current file in a buffer of so many bytes.
+fn change(script: &[u8], op: u8, file: &mut [u8], c: Cursor) -> Cursor {
+    let a = part(script, c.at, 17);
+    let room = least(base::size(word_at(a, 1)), file.len());
+    let len = base::size(word_at(a, 5));
+    let g = base::size(word_at(a, 9));
+    let now = ask_edit(op, &mut file[..room], len, g, word_at(a, 13), c.len);
+    Cursor {
+        at: grown(script.len(), c.at, 17),
+        len: now,
+        last: c.last,
+    }
+}
+
 // The records of conversions: one more answer line, or the last output taken as the current file.
 fn exchange(script: &[u8], file: &mut [u8], out: &mut [u8], c: Cursor) -> Cursor {
     let a = part(script, c.at, 6);
@@ -671,6 +730,13 @@ fn is_exchange(op: u8) -> bool {
     op < 0x40
 }
 
+fn is_edit(op: u8) -> bool {
+    if op < 0x22 {
+        return false;
+    }
+    op < 0x24
+}
+
 // One record, if one is left.
 fn step(script: &[u8], file: &mut [u8], out: &mut [u8], c: Cursor) -> Cursor {
     let at = c.at;
@@ -685,6 +751,9 @@ fn step(script: &[u8], file: &mut [u8], out: &mut [u8], c: Cursor) -> Cursor {
             len: len,
             last: c.last,
         };
+    }
+    if is_edit(op) {
+        return change(script, op, file, c);
     }
     if is_exchange(op) {
         return exchange(script, file, out, c);
@@ -718,7 +787,7 @@ fn run(script: &[u8], file: &mut [u8; 1048640], out: &mut [u8; 1048640]) {
 }
 
 fn main() {
-    let mut script = [0u8; 262144];
+    let mut script = [0u8; 294912];
     let n = io::read_full(0, &mut script);
     let mut file = [0u8; 1048640];
     let mut out = [0u8; 1048640];

@@ -9,6 +9,7 @@
 //! `compare lines FONTLOAD FILE..` runs the loading program on them (tools/try-loader).
 
 mod ask;
+mod edits;
 mod files;
 mod fonts;
 mod lines;
@@ -63,7 +64,30 @@ fn listed(series: u64, files: Vec<Vec<u8>>, tally: &mut Tally) {
     }
 }
 
-const SERIES: [Series; 12] = [
+/// A part of a series: how many jobs, and what each is.
+type Part = (usize, fn(usize, &mut Tally));
+
+const fn jobs_of(parts: &[Part]) -> usize {
+    let (mut sum, mut i) = (0, 0);
+    while i < parts.len() {
+        sum += parts[i].0;
+        i += 1;
+    }
+    sum
+}
+
+/// A job of a series in parts, which follow one another.
+fn run_part(parts: &[Part], job: usize, tally: &mut Tally) {
+    let mut job = job;
+    for (jobs, part) in parts {
+        if job < *jobs {
+            return part(job, tally);
+        }
+        job -= jobs;
+    }
+}
+
+const SERIES: [Series; 13] = [
     Series { name: "fonts", jobs: FONT_JOBS, run: |j, t| random(1, j, t, fonts::random_font) },
     Series { name: "tails", jobs: TAIL_JOBS, run: |j, t| random(2, j, t, fonts::random_tail) },
     Series { name: "junk", jobs: JUNK_JOBS, run: |j, t| random(3, j, t, fonts::junk) },
@@ -82,6 +106,7 @@ const SERIES: [Series; 12] = [
     Series { name: "pieces", jobs: pieces::JOBS, run: pieces::run },
     Series { name: "tables in pieces", jobs: tables::EDGE_JOBS, run: tables::run_pieces },
     Series { name: "records", jobs: records::JOBS, run: records::run },
+    Series { name: "edits", jobs: edits::JOBS, run: edits::run },
     Series { name: "tables of 4 boundary bytes", jobs: tables::EDGE_JOBS, run: tables::run_edges },
     Series { name: "tables of up to 3 bytes", jobs: tables::JOBS, run: tables::run },
 ];

@@ -4,7 +4,7 @@
 
 use crate::ask::{checked, ours, shape, theirs, Answer, Asking, Shape, Tally};
 use crate::make::Random;
-use crate::{fonts, seed, BATCH, FONT_JOBS, JUNK_JOBS, TAIL_JOBS};
+use crate::{fonts, jobs_of, run_part, seed, Part, BATCH, FONT_JOBS, JUNK_JOBS, TAIL_JOBS};
 use lavandol::Loader;
 
 const LATE: Answer<()> = Err((22, 0));
@@ -141,9 +141,6 @@ fn small(job: usize, tally: &mut Tally) {
     Asking { file: &file, tally }.every_cut();
 }
 
-/// How many jobs, and what each is.
-type Part = (usize, fn(usize, &mut Tally));
-
 const PARTS: [Part; 8] = [
     (80, large),
     (600, small),
@@ -155,21 +152,8 @@ const PARTS: [Part; 8] = [
     (JUNK_JOBS, |j, t| random(13, j, t, fonts::junk)),
 ];
 
-pub const JOBS: usize = {
-    let (mut sum, mut i) = (0, 0);
-    while i < PARTS.len() {
-        sum += PARTS[i].0;
-        i += 1;
-    }
-    sum
-};
+pub const JOBS: usize = jobs_of(&PARTS);
 
 pub fn run(job: usize, tally: &mut Tally) {
-    let mut job = job;
-    for (jobs, part) in PARTS {
-        if job < jobs {
-            return part(job, tally);
-        }
-        job -= jobs;
-    }
+    run_part(&PARTS, job, tally)
 }

@@ -134,6 +134,15 @@ extern "C" {
     pub fn lav_psf2_to_psf1(file: *const u8, len: usize, out: *mut u8, room: usize) -> LavNumber;
     pub fn lav_psf2_to_vfont2(file: *const u8, len: usize, out: *mut u8, room: usize) -> LavNumber;
     pub fn lav_vfont2_to_psf2(file: *const u8, len: usize, out: *mut u8, room: usize) -> LavNumber;
+    pub fn lav_add_mapping(buffer: *mut u8, room: usize, len: usize, g: usize, v: u32)
+        -> LavNumber;
+    pub fn lav_drop_mapping(
+        buffer: *mut u8,
+        room: usize,
+        len: usize,
+        g: usize,
+        v: u32,
+    ) -> LavNumber;
     pub fn lav_loader_fresh() -> LavLoader;
     pub fn lav_loader_feed(loader: *mut LavLoader, piece: *const u8, len: usize) -> LavRefusal;
     pub fn lav_loader_close(loader: *mut LavLoader) -> LavFont;

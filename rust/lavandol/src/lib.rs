@@ -115,8 +115,8 @@ fn number(n: LavNumber) -> Result<usize, Refusal> {
 /// Checks a font. Refusals: 1 to 12, in their order.
 pub fn check(file: &[u8]) -> Result<Font, Refusal> {
     // SAFETY (here and below): the library reads the slices it is lent, writes to
-    // none but a conversion's `out`, within their lengths and during the call only,
-    // and asks nothing of its arguments.
+    // none but a conversion's `out` and an edit's `buffer`, within their lengths and
+    // during the call only, and asks nothing of its arguments.
     font(unsafe { lav_check(file.as_ptr(), file.len()) })
 }
 
@@ -210,6 +210,35 @@ pub fn psf2_to_vfont2(file: &[u8], out: &mut [u8]) -> Result<usize, Refusal> {
 /// GLYPHS, SIZE, ROOM.
 pub fn vfont2_to_psf2(file: &[u8], out: &mut [u8]) -> Result<usize, Refusal> {
     number(unsafe { lav_vfont2_to_psf2(file.as_ptr(), file.len(), out.as_mut_ptr(), out.len()) })
+}
+
+/// Adds v to glyph g of the PSF2 font in the first `len` bytes of `buffer`, as its last
+/// single: the font's new length. The font is changed in place; its header, its bitmaps, every
+/// other item of every description and the bytes behind the font as it is then stay. A refused
+/// call leaves `buffer` as it was; ROOM's place is the size needed. Refusals: ASK for a `len`
+/// above the buffer's, 1 to 12, WRONG KIND, NO TABLE, ASK for the glyph and for a value above
+/// 10FFFF or a surrogate, HAVE, SIZE, ROOM.
+///
+/// ```
+/// # let (file, mut buffer) = (lavandol::SMALL, [0; 64]);
+/// buffer[..file.len()].copy_from_slice(file);
+/// let len = lavandol::add_mapping(&mut buffer, file.len(), 1, 0x212B)?;
+/// assert_eq!(lavandol::find_value(&buffer[..len], 0x212B), Ok(1));
+/// assert_eq!(lavandol::drop_mapping(&mut buffer, len, 1, 0x212B)?, file.len());
+/// assert_eq!(&buffer[..file.len()], file);
+/// # Ok::<(), lavandol::Refusal>(())
+/// ```
+pub fn add_mapping(buffer: &mut [u8], len: usize, g: usize, v: u32) -> Result<usize, Refusal> {
+    number(unsafe { lav_add_mapping(buffer.as_mut_ptr(), buffer.len(), len, g, v) })
+}
+
+/// Drops the first listing of v as a single of glyph g, in the PSF2 font in the first `len`
+/// bytes of `buffer`: the font's new length. The font is changed in place, and the bytes that
+/// are freed become 0; all else stays, as in `add_mapping`. A refused call leaves `buffer` as
+/// it was. Refusals: ASK for a `len` above the buffer's, 1 to 12, WRONG KIND, NO TABLE, ASK for
+/// the glyph and for a value above 10FFFF or a surrogate, NOT THERE.
+pub fn drop_mapping(buffer: &mut [u8], len: usize, g: usize, v: u32) -> Result<usize, Refusal> {
+    number(unsafe { lav_drop_mapping(buffer.as_mut_ptr(), buffer.len(), len, g, v) })
 }
 
 /// A font of 45 bytes: glyph 0 lists A, glyph 1 lists Å and the sequence A, ring

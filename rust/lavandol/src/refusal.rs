@@ -6,7 +6,8 @@ use core::fmt;
 macro_rules! reasons {
     ($($(#[$words:meta])* $number:literal $reason:ident $name:literal,)*) => {
         /// Why a call is refused: the refusals of include/lavandol.h. A font's own, 1 to
-        /// 12, are tried in this order, and every call on a file gives them before any other.
+        /// 12, are tried in this order, and every call on a file gives them before any other
+        /// (but an edit `Ask`, where the font's length is above the buffer's).
         #[derive(Debug, Clone, Copy, PartialEq, Eq, Hash)]
         pub enum Reason {
             $($(#[$words])* $reason,)*
@@ -71,16 +72,16 @@ reasons! {
     /// Bytes after a complete table, or after the bitmaps of a font without one; place: the
     /// first of them.
     12 Trailing "trailing",
-    /// Glyph, item, row or column number too high, value above 10FFFF, empty sequence;
-    /// place 0.
+    /// Glyph, item, row or column number too high, value above 10FFFF, empty sequence; of an
+    /// edit also a surrogate, or a font's length above the buffer's; place 0.
     13 Ask "ask",
-    /// A walk or lookup on a font without a Unicode table; place 0.
+    /// A walk, lookup or edit on a font without a Unicode table; place 0.
     14 NoTable "no table",
     /// No glyph lists it; place 0.
     15 Unmapped "unmapped",
     /// A bitmap or metrics asked of a vfont2 entry of size 0; place 0.
     16 NoGlyph "no glyph",
-    /// The conversion wants another kind; place 0.
+    /// The conversion wants another kind, an edit wants PSF2; place 0.
     17 WrongKind "wrong kind",
     /// The target can't have these glyphs. To PSF1: not 256 or 512 of them (place 16), then
     /// width not 8 (28). From vfont2: an entry that has no glyph, or whose five metrics are
@@ -89,15 +90,20 @@ reasons! {
     /// The target can't have a value: a surrogate (PSF1 to PSF2), above FFFD (to PSF1);
     /// place: its first byte.
     19 Value "value",
-    /// The output would be over 1,048,576 bytes; place 0.
+    /// The output, or the edited font, would be over 1,048,576 bytes; place 0.
     20 Size "size",
-    /// The lent buffer is shorter than the output; place: the size needed.
+    /// The lent buffer is shorter than the output, or than the edited font; place: the size
+    /// needed.
     21 Room "room",
     /// A piece or a close for a loader that is closed, which stays as it was; place 0.
     22 Late "late",
     /// No call gives it: the program `fontload` does, for a line that is no frame; place: the
     /// line's number, from 1.
     23 Line "line",
+    /// The glyph lists the value that is to be added as a single already; place 0.
+    24 Have "have",
+    /// The glyph does not list the value that is to be dropped as a single; place 0.
+    25 NotThere "not there",
 }
 
 /// Why a call is refused, and where: `place` is an offset in the file, 0 where there is

@@ -7,7 +7,7 @@ fn every_number_has_one_reason() {
     for number in (0..1000).chain([u32::MAX - 1, u32::MAX]) {
         let reason = Reason::of(number);
         assert_eq!(reason.number(), number);
-        let known = (1..=23).contains(&number);
+        let known = (1..=25).contains(&number);
         assert_eq!(matches!(reason, Reason::Unknown(_)), !known);
         assert_eq!(reason.name() == "unknown", !known);
     }
@@ -17,7 +17,7 @@ fn every_number_has_one_reason() {
 #[test]
 fn names_are_those_of_the_header() {
     let header = include_str!("../../../include/lavandol.h");
-    for number in 1..=23 {
+    for number in 1..=25 {
         let name = Reason::of(number).name().to_uppercase().replace(' ', "_");
         let line = |end| format!("    LAV_{name} = {number}{end}");
         assert!(header.contains(&line(",")) || header.contains(&line(" ")), "{name}");

@@ -6,7 +6,7 @@ use crate::table::{Coding, Placed};
 use crate::*;
 
 /// The font, if it is of the wanted kind.
-fn source(file: &[u8], kind: Kind) -> Result<Font, Refusal> {
+pub(crate) fn source(file: &[u8], kind: Kind) -> Result<Font, Refusal> {
     let font = check(file)?;
     if font.kind != kind {
         return refuse(WRONG_KIND, 0);
@@ -49,7 +49,7 @@ fn item_bytes(coding: Coding, placed: &Placed) -> Vec<u8> {
 }
 
 /// The whole table in a coding that can hold it; nothing for a bare font.
-fn table_bytes(font: &Font, coding: Coding) -> Vec<u8> {
+pub(crate) fn table_bytes(font: &Font, coding: Coding) -> Vec<u8> {
     font.reading.iter().flatten().flat_map(|p| item_bytes(coding, p)).collect()
 }
 
@@ -75,7 +75,7 @@ fn long_header(kind: Kind, font: &Font, bytes: usize) -> Vec<u8> {
 
 /// SIZE, ROOM, then the output at the buffer's front. `size` is worked out by
 /// the paper's sum, `output` builds the bytes.
-fn deliver(
+pub(crate) fn deliver(
     size: usize,
     out: &mut [u8],
     output: impl FnOnce() -> Vec<u8>,

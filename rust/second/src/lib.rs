@@ -6,12 +6,14 @@
 //! - `table`: the Unicode table, refusals 10 to 12, and its reading
 //! - `ask`: questions on glyphs and on the table, refusals 13 to 16
 //! - `convert`: the four conversions, refusals 17 to 21
+//! - `edit`: adding and dropping a mapping, refusals 24 and 25
 //! - `lister`: the text of the listing program
 //! - `loader`: the check of a font that arrives in pieces, refusals 22 and 23, and the
 //!   text of the program that reads them
 
 mod ask;
 mod convert;
+mod edit;
 mod font;
 mod lister;
 mod loader;
@@ -19,6 +21,7 @@ pub mod table;
 
 pub use ask::{find_sequence, find_value, glyph, metrics, pixel, row, walk};
 pub use convert::{psf1_to_psf2, psf2_to_psf1, psf2_to_vfont2, vfont2_to_psf2};
+pub use edit::{add_mapping, drop_mapping};
 pub use font::{check, Entry, Font, Kind};
 pub use lister::{first_line, list};
 pub use loader::{fontload, Loader};
@@ -63,6 +66,8 @@ pub const SIZE: u32 = 20;
 pub const ROOM: u32 = 21;
 pub const LATE: u32 = 22;
 pub const LINE: u32 = 23;
+pub const HAVE: u32 = 24;
+pub const NOT_THERE: u32 = 25;
 
 /// A refusal as the error of a call.
 pub(crate) fn refuse<T>(number: u32, place: usize) -> Result<T, Refusal> {

@@ -16,6 +16,24 @@ pub fn conversion(which: u8) -> Conversion {
     }
 }
 
+type Edit = fn(&mut [u8], usize, usize, u32) -> Result<usize, Refusal>;
+
+/// The buffer behind an edit of the file, and what the edit answers.
+pub fn edited(
+    op: u8,
+    file: &[u8],
+    room: usize,
+    len: usize,
+    g: usize,
+    v: u32,
+) -> (Vec<u8>, Result<usize, Refusal>) {
+    let call: Edit = if op == ADD { second::add_mapping } else { second::drop_mapping };
+    let mut buffer = file[..room.min(file.len())].to_vec();
+    buffer.resize(room, 0xA5);
+    let answer = call(&mut buffer, len, g, v);
+    (buffer, answer)
+}
+
 /// Takes arguments off the front of the script.
 struct Reader<'a>(&'a [u8]);
 
@@ -88,7 +106,7 @@ pub fn answer(script: &[u8]) -> (String, usize, usize) {
     let mut last: Vec<u8> = Vec::new();
     while !script.0.is_empty() {
         let op = script.number(1) as u8;
-        if (CHECK..=CONVERT).contains(&op) || LOAD <= op {
+        if (CHECK..=DROP).contains(&op) && op != TAKE || LOAD <= op {
             questions += 1;
             asked += file.len();
         }
@@ -206,6 +224,23 @@ pub fn answer(script: &[u8]) -> (String, usize, usize) {
                 writeln!(text, "convert {which} {room} {words} sum {}", checksum(&out)).unwrap();
             }
             TAKE => file = last.clone(),
+            ADD | DROP => {
+                let name = if op == ADD { "add" } else { "drop" };
+                let [room, len, g] = [(); 3].map(|_| script.number(4) as usize);
+                let v = script.number(4) as u32;
+                assert!(room <= LONGEST);
+                let (mut buffer, answer) = edited(op, &file, room, len, g, v);
+                let sum = checksum(&buffer);
+                let words = match answer {
+                    Ok(length) => {
+                        buffer.truncate(length);
+                        file = buffer;
+                        format!("length {length}")
+                    }
+                    Err(r) => refused(r),
+                };
+                writeln!(text, "{name} {room} {len} {g} {v:X} {words} sum {sum}").unwrap();
+            }
             _ => panic!("no such op: {op:02X}"),
         }
         assert!(file.len() <= LONGEST);

@@ -1,9 +1,10 @@
-//! Writes four corpora of questions and expected answers: OUTDIR/fonts/{stdin,stdout},
-//! and likewise OUTDIR/conversions, OUTDIR/metrics and OUTDIR/loads.
+//! Writes five corpora of questions and expected answers: OUTDIR/fonts/{stdin,stdout},
+//! and likewise OUTDIR/conversions, OUTDIR/metrics, OUTDIR/loads and OUTDIR/edits.
 //! With the word `answer` alone: answers a script from standard input.
 
 mod answer;
 mod conversions;
+mod edits;
 mod fonts;
 mod loads;
 mod make;
@@ -37,4 +38,5 @@ fn main() {
     write(&out.join("conversions"), &conversions::script());
     write(&out.join("metrics"), &metrics::script());
     write(&out.join("loads"), &loads::script());
+    write(&out.join("edits"), &edits::script());
 }

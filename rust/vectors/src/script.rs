@@ -19,6 +19,12 @@ pub const CUTS: u8 = 0x18;
 pub const LATE: u8 = 0x19;
 pub const CONVERT: u8 = 0x20;
 pub const TAKE: u8 = 0x21;
+/// Room, len, glyph and value: a mapping is added in a buffer of so many bytes that has the
+/// current file at its front (or what fits of it) and A5 behind it. If it is good, the
+/// edited font becomes the current file.
+pub const ADD: u8 = 0x22;
+/// The same, but the mapping is dropped.
+pub const DROP: u8 = 0x23;
 /// This and the 63 after it: the file in pieces of 1 to 63 bytes; this one alone: in one.
 pub const LOAD: u8 = 0x40;
 
@@ -194,6 +200,26 @@ impl Script {
         self.file = self.last.clone().expect("a good conversion came before");
     }
 
+    fn edit(&mut self, op: u8, room: usize, len: usize, g: usize, v: u32) {
+        assert!(room <= LONGEST);
+        self.bytes.push(op);
+        for number in [room as u32, len as u32, g as u32, v] {
+            self.bytes.extend_from_slice(&number.to_le_bytes());
+        }
+        if let (mut buffer, Ok(length)) = crate::answer::edited(op, &self.file, room, len, g, v) {
+            buffer.truncate(length);
+            self.file = buffer;
+        }
+    }
+
+    pub fn add(&mut self, room: usize, len: usize, g: usize, v: u32) {
+        self.edit(ADD, room, len, g, v);
+    }
+
+    pub fn drop(&mut self, room: usize, len: usize, g: usize, v: u32) {
+        self.edit(DROP, room, len, g, v);
+    }
+
     // from here on: several records at once
 
     /// Checks the file with some bytes changed, and takes the change back.
@@ -243,5 +269,29 @@ impl Script {
     pub fn convert_take(&mut self, which: u8) {
         self.convert_exact(which).expect("a good conversion");
         self.take();
+    }
+
+    /// An add and a drop, both refused.
+    pub fn both_refused(&mut self, room: usize, len: usize, g: usize, v: u32) {
+        let before = self.file.clone();
+        self.add(room, len, g, v);
+        self.drop(room, len, g, v);
+        assert!(self.file == before, "a good edit");
+    }
+
+    /// A good add to the current file: a buffer one byte short, then one as long as needed.
+    pub fn add_exact(&mut self, g: usize, v: u32) {
+        let len = self.file.len();
+        let bytes = char::from_u32(v).expect("a value").len_utf8();
+        self.add(len + bytes - 1, len, g, v);
+        self.add(len + bytes, len, g, v);
+        assert!(self.file.len() == len + bytes, "a refused edit");
+    }
+
+    /// A good drop of the current file, in a buffer with nine bytes behind it.
+    pub fn drop_good(&mut self, g: usize, v: u32) {
+        let len = self.file.len();
+        self.drop(len + 9, len, g, v);
+        assert!(self.file.len() < len, "a refused edit");
     }
 }

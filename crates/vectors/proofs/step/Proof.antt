@@ -32,20 +32,32 @@ same-length c = search needs
 returns-2 : tie.Need-returns-2
 returns-2 c = search needs
 
+is-edit-requires : tie.Need-is-edit-requires
+is-edit-requires c κs = search needs
+
+change-requires : tie.Need-change-requires
+change-requires c κs = search needs
+
+same-length-2 : tie.Need-same-length-2
+same-length-2 c = search needs
+
+returns-3 : tie.Need-returns-3
+returns-3 c = search needs
+
 is-exchange-requires : tie.Need-is-exchange-requires
 is-exchange-requires c κs = search needs
 
 exchange-requires : tie.Need-exchange-requires
 exchange-requires c κs = search needs
 
-same-length-2 : tie.Need-same-length-2
-same-length-2 c = search needs
-
 same-length-3 : tie.Need-same-length-3
 same-length-3 c = search needs
 
-returns-3 : tie.Need-returns-3
-returns-3 c = search needs
+same-length-4 : tie.Need-same-length-4
+same-length-4 c = search needs
+
+returns-4 : tie.Need-returns-4
+returns-4 c = search needs
 
 least-requires : tie.Need-least-requires
 least-requires c κs = search needs
@@ -54,7 +66,7 @@ slice-reshare-prefix-ask : tie.Need-slice-reshare-prefix-ask
 slice-reshare-prefix-ask c = search needs
 
 slice-aggregate-ask : tie.Need-slice-aggregate-ask
-slice-aggregate-ask c = let h : c .before .least .result ≤ length (c .before .before .before .before .before .before .before .before .before .before .args .file .now) = omega arith in sym (length-take-le _ _ h)
+slice-aggregate-ask c = let h : c .before .least .result ≤ length (c .before .before .before .before .before .before .before .before .before .before .before .before .args .file .now) = omega arith in sym (length-take-le _ _ h)
 
 ask-requires : tie.Need-ask-requires
 ask-requires c κs = search needs
@@ -62,11 +74,11 @@ ask-requires c κs = search needs
 grown-requires-2 : tie.Need-grown-requires-2
 grown-requires-2 c κs = search needs
 
-same-length-4 : tie.Need-same-length-4
-same-length-4 c = search needs
+same-length-5 : tie.Need-same-length-5
+same-length-5 c = search needs
 
-returns-4 : tie.Need-returns-4
-returns-4 c = search needs
+returns-5 : tie.Need-returns-5
+returns-5 c = search needs
 
 pub step-spec : {M : Type 1} → statement M
 step-spec =
@@ -80,15 +92,19 @@ step-spec =
     grown-requires
     same-length
     returns-2
+    is-edit-requires
+    change-requires
+    same-length-2
+    returns-3
     is-exchange-requires
     exchange-requires
-    same-length-2
     same-length-3
-    returns-3
+    same-length-4
+    returns-4
     least-requires
     slice-reshare-prefix-ask
     slice-aggregate-ask
     ask-requires
     grown-requires-2
-    same-length-4
-    returns-4)
+    same-length-5
+    returns-5)

@@ -1,0 +1,2 @@
+-- Laws of the edits.
+pub mod Cases

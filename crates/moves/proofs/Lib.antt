@@ -1,0 +1,2 @@
+-- The laws of moves within a buffer.
+pub mod Moves

@@ -1,0 +1,2 @@
+-- Bytes moved within a buffer.
+pub mod Reading
