@@ -1,11 +1,11 @@
 -- What a good add leaves, what lookups answer then, and the drop after it (Edits says what is shown).
 use mathlib.Core.Path.{_≡_, refl, sym, _∙_, ap, subst}
 use mathlib.Core.Logic.{_⊎_, inl, inr}
-use mathlib.Core.List.{List, [], _++_, append-nil, append-assoc}
+use mathlib.Core.List.{List, [], _++_, append-nil}
 use Prim.Native.Nat.{ℕ, _+_, _-_, _≤_, min}
 use native.Mathlib.Omega.{arith}
 use lib.ListN.{length, take, drop, replicate, length-append, length-replicate, take-append-drop}
-use lib.Seq.{take-at, length-take-le}
+use lib.Seq.{length-take-le}
 use Rattle.base.specs.Meaning.{Bytes}
 use Rattle.base.specs.Reading.{over}
 use Rattle.base.proofs.Parts.{bytes-take, bytes-drop, bytes-append}
@@ -28,7 +28,7 @@ use Rattle.edit.specs.declared.Edited.the-variants.{Length}
 use Rattle.edit.specs.Reading.{addInto, dropAnswer, dropInto}
 use Rattle.laws.specs.Meaning.{gives, refuses, lookupSays, Edits}
 use Rattle.laws.proofs.Converting.{rest-is}
-use Rattle.laws.proofs.Retabled.{over-over, Editable, same-front, new-tail, new-sound, edits, value-moved, sequence-moved, old-value, new-value}
+use Rattle.laws.proofs.Retabled.{over-front, over-over, Editable, same-front, new-tail, new-sound, edits, value-moved, sequence-moved, old-value, new-value}
 use Rattle.laws.proofs.Editing.{given-length, no-refusal, scalar-value, either-way, drops, drops-into, adds-into, AddGood, longer-by}
 
 -- a good add: what the buffer holds then
@@ -155,10 +155,7 @@ module _ (xs : List ℕ) (y : Bytes xs) (len g v n : ℕ) (r : AddGood xs y len 
       ∙ over-over (old ++ replicate (n - len) 0) new xs (back-long ∙ sym long)
 
   pub drop-after-font : take len (dropInto out n g v) ≡ old
-  unfolding over
-  drop-after-font =
-      let z : List ℕ = replicate (n - len) 0 in
-      ap (take len) (drop-after-into ∙ append-assoc old z (drop (length (old ++ z)) xs)) ∙ take-at old (z ++ drop (length (old ++ z)) xs) len (length-take-le len xs (a .within))
+  drop-after-font = ap (take len) drop-after-into ∙ over-front old (replicate (n - len) 0) xs len (length-take-le len xs (a .within))
 
   pub drop-after-behind : drop n (dropInto out n g v) ≡ drop n xs
   drop-after-behind = ap (drop n) drop-after-into ∙ rest-is (old ++ replicate (n - len) 0) xs n back-long

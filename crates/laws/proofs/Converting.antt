@@ -1,11 +1,11 @@
 -- What a conversion that is ready writes: the font, written anew as a file of the target's kind.
 use mathlib.Core.Path.{_≡_, refl, sym, _∙_, ap, subst}
 use mathlib.Core.Logic.{_⊎_, inl, inr}
-use mathlib.Core.List.{List}
-use Prim.Native.Nat.{ℕ, _+_, _*_, _≤_, _<_}
+use mathlib.Core.List.{List, _++_}
+use Prim.Native.Nat.{ℕ, _+_, _-_, _*_, _≤_, _<_}
 use native.Mathlib.Omega.{arith}
 use lib.ListN.{length, take, drop}
-use lib.Seq.{take-at, drop-at, drop-drop}
+use lib.Seq.{take-at, drop-append-add, drop-drop}
 use Rattle.base.specs.Meaning.{Bytes}
 use Rattle.base.specs.Reading.{over}
 use Rattle.base.proofs.Parts.{bytes-drop}
@@ -377,9 +377,15 @@ front-is : (p xs : List ℕ) (n : ℕ) → length p ≡ n → take n (over p xs)
 unfolding over
 front-is p xs n e = take-at p (drop (length p) xs) n e
 
-pub rest-is : (p xs : List ℕ) (n : ℕ) → length p ≡ n → drop n (over p xs) ≡ drop n xs
+pub rest-from : (p xs : List ℕ) (m : ℕ) → length p ≤ m → drop m (over p xs) ≡ drop m xs
 unfolding over
-rest-is p xs n e = drop-at p (drop (length p) xs) n e ∙ ap (λ (m : ℕ). drop m xs) e
+rest-from p xs m h =
+    let e : length p + (m - length p) ≡ m = omega arith in
+    ap (λ (x : ℕ). drop x (p ++ drop (length p) xs)) (sym e) ∙ drop-append-add p (drop (length p) xs) (m - length p)
+    ∙ drop-drop (m - length p) (length p) xs ∙ ap (λ (x : ℕ). drop x xs) e
+
+pub rest-is : (p xs : List ℕ) (n : ℕ) → length p ≡ n → drop n (over p xs) ≡ drop n xs
+rest-is p xs n e = rest-from p xs n (omega arith)
 
 -- the answer and the buffer
 module _ (c : Conversion) (s xs : List ℕ) where

@@ -9,7 +9,7 @@ use lib.ListN.{length, take, replicate}
 use lib.Seq.{length-take-le}
 use Rattle.base.specs.Meaning.{Bytes}
 use Rattle.base.specs.Reading.{over}
-use Rattle.base.proofs.Parts.{bytes-take, byte-at}
+use Rattle.base.proofs.Parts.{bytes-take}
 use Rattle.coding.specs.declared.Coding.the-variants.{Utf8}
 use Rattle.utf8.specs.Meaning.{utf8Bytes}
 use Rattle.table.specs.Meaning.{Desc, items, encode, Readable}
@@ -23,10 +23,10 @@ use Rattle.header.specs.declared.Font.{Font}
 use Rattle.header.specs.declared.Checked.the-variants.{Sound}
 use Rattle.header.specs.Meaning.{limit}
 use Rattle.stages.specs.Reading.{checkOf}
-use Rattle.stages.proofs.Cases.{accepted, placed}
 use Rattle.questions.specs.Reading.{lookupOf}
 use Rattle.fonts.specs.Reading.{valueGlyph, sequenceGlyph}
 use Rattle.content.specs.Meaning.{Describes}
+use Rattle.content.proofs.Source.{is-placed}
 use Rattle.mapping.specs.Meaning.{Lists, withoutSingle, dropped, LowestOther, NoOther}
 use Rattle.mapping.proofs.Changing.{readable-dropped}
 use Rattle.mapping.proofs.Looking.{dropped-other, sequence-same, dropped-still, other-lowest, lowest-other, other-nowhere, nowhere-other}
@@ -78,7 +78,7 @@ module _ (xs : List ℕ) (y : Bytes xs) (len g v n : ℕ) (r : DropGood xs y len
 
   small : n ≤ limit
   small =
-      let p = placed old (a .font) (byte-at old (bytes-take len xs y) 3) (accepted old (a .font) (a .sound) .0) in
+      let p = is-placed old (a .font) (bytes-take len xs y) (a .sound) in
       omega (arith, p .0, length-take-le len xs (a .within), r .shrunk)
 
   room : n + (len - n) ≤ length xs

@@ -17,12 +17,13 @@ use Rattle.refusal.specs.declared.Reason.the-variants.{Ask, NoTable, WrongKind,
 use Rattle.refusal.specs.declared.Refusal.{Refusal}
 use Rattle.coding.specs.declared.Coding.the-variants.{Utf8}
 use Rattle.coding.specs.Meaning.{valueOf, valueBytes}
+use Rattle.coding.proofs.Written.{utf8-value}
 use Rattle.utf8.specs.Meaning.{Scalar, utf8Bytes}
 use Rattle.utf8.specs.Reading.{isScalar}
 use Rattle.utf8.proofs.Written.{scalar-exactly}
 use Rattle.table.specs.Meaning.{Desc, encode, Readable}
 use Rattle.header.specs.declared.Kind.{Kind}
-use Rattle.header.specs.declared.Kind.the-variants.{Psf1, Psf2, Vfont2}
+use Rattle.header.specs.declared.Kind.the-variants.{Psf2}
 use Rattle.header.specs.declared.Font.{Font}
 use Rattle.header.specs.declared.Checked.{Checked}
 use Rattle.header.specs.declared.Checked.the-variants.{Sound, Refused as Unsound}
@@ -47,14 +48,8 @@ use Rattle.edit.specs.Reading.{longer, soughtAt, soughtOn, soughtIn, soughtOf, 
 use Rattle.laws.specs.Meaning.{Exact, Said, gives, refuses, editedSays, In, given, skipped, own as own-given, sound as sound-given, reads, EditRows, AddLast, AddRows, DropLast, DropRows}
 use Rattle.laws.proofs.Exactly.{is, row, own-first, reading-of, less, at-most, either}
 use Rattle.laws.proofs.Asking.{described, bare-or, not-bare}
-use Rattle.laws.proofs.Refusing.{wrong-or, not-wrong}
+use Rattle.laws.proofs.Refusing.{alike, not-alike, wrong-or, not-wrong}
 use Rattle.laws.proofs.Retabled.{front-long, Editable}
-
--- another kind
-not-alike : (k : Kind) → (k ≡ Psf2 → ⊥) → sameKind Psf2 k ≡ false
-not-alike Psf1 n = refl
-not-alike Psf2 n = absurd (n refl)
-not-alike Vfont2 n = refl
 
 -- a value that may not be asked for
 abbrev Unfit : ℕ → Type 0
@@ -143,11 +138,11 @@ module _ (xs : List ℕ) (len g v : ℕ) where
 
     module _ (f : Font) (e : checkOf file ≡ Sound f) where
       other-kind : (f .kind ≡ Psf2 → ⊥) → soughtOf xs len g v ≡ NotSought (refusal WrongKind 0)
-      other-kind n = near (Unsound (refusal WrongKind 0)) (wrong-kind Psf2 file f e (not-alike (f .kind) n))
+      other-kind n = near (Unsound (refusal WrongKind 0)) (wrong-kind Psf2 file f e (not-alike Psf2 (f .kind) n))
 
       module _ (kind : f .kind ≡ Psf2) where
         right : soughtOf xs len g v ≡ soughtOn file g v f
-        right = near (Sound f) (right-kind Psf2 file f e (subst (λ (k : Kind). sameKind Psf2 k ≡ true) (sym kind) refl))
+        right = near (Sound f) (right-kind Psf2 file f e (subst (λ (k : Kind). sameKind Psf2 k ≡ true) (sym kind) (alike Psf2)))
 
         no-table : f .table ≡ false → soughtOf xs len g v ≡ NotSought (refusal NoTable 0)
         no-table t = right ∙ sym (cases.bare file g v f t)
@@ -170,11 +165,7 @@ given-length e = cc
 pub no-refusal : {A : Type 0} {n p q : ℕ} → _≡_ {A = Said ℕ} (gives n) (refuses p q) → A
 no-refusal e = let z : _≡_ {A = ℕ} 0 1 = cc in absurd (omega arith)
 
--- the bytes of a value in UTF-8
-pub utf8-value : (v : ℕ) → valueBytes Utf8 v ≡ utf8Bytes v
-unfolding valueBytes
-utf8-value v = refl
-
+-- a value of UTF-8
 pub scalar-value : (v : ℕ) → Scalar v → valueOf Utf8 v
 unfolding valueOf
 scalar-value v p = p
@@ -258,7 +249,7 @@ module _ (xs : List ℕ) (y : Bytes xs) (len g v : ℕ) where
 
       sought-hole : soughtOf xs len g v ≡ Listed from (from + size)
       sought-hole =
-          let q : end + (length (h .front) + length (valueBytes Utf8 v)) ≡ from + size = omega (arith, ap length (utf8-value v)) in
+          let q : end + (length (h .front) + length (valueBytes Utf8 v)) ≡ from + size = omega (arith, ap length (utf8-value Utf8 v refl)) in
           sought-as (ListedAt (length (h .front)) (length (h .front) + length (valueBytes Utf8 v))) (h .place) ∙ ap (Listed from) q
 
       have : addAnswer xs len g v ≡ Refused (refusal Have 0)
@@ -279,7 +270,7 @@ module _ (xs : List ℕ) (y : Bytes xs) (len g v : ℕ) where
           ∙ ap (λ (x : List ℕ). over (x ++ replicate size 0) xs) (out ∙ ap (λ (x : List ℕ). take end s ++ x) (sym (h .less)))
         where
           out : removed from size s ≡ take end s ++ (h .front ++ h .back)
-          out = removed-behind s (h .front) (utf8Bytes v) (h .back) end placed-end (a .same ∙ h .same ∙ ap (λ (x : List ℕ). h .front ++ (x ++ h .back)) (utf8-value v))
+          out = removed-behind s (h .front) (utf8Bytes v) (h .back) end placed-end (a .same ∙ h .same ∙ ap (λ (x : List ℕ). h .front ++ (x ++ h .back)) (sym (utf8-value Utf8 v refl)))
 
     module _ (p : Gap Utf8 v g ds) where
       abbrev to : ℕ
@@ -308,7 +299,7 @@ module _ (xs : List ℕ) (y : Bytes xs) (len g v : ℕ) where
           sym (put (Length (len + size)) (cases.fits (length xs) len v size refl h k) .1)
           ∙ ap (λ (x : List ℕ). over x xs)
           (inserted-behind s (p .front) (utf8Bytes v) (p .back) end placed-end (a .same ∙ p .same)
-          ∙ ap (λ (x : List ℕ). take end s ++ x) (ap (λ (x : List ℕ). p .front ++ (x ++ p .back)) (sym (utf8-value v)) ∙ sym (p .more)))
+          ∙ ap (λ (x : List ℕ). take end s ++ x) (ap (λ (x : List ℕ). p .front ++ (x ++ p .back)) (utf8-value Utf8 v refl) ∙ sym (p .more)))
 
   -- all rows
   pub add-rows : Exact (editedSays (addAnswer xs len g v)) (AddRows xs len g v)
@@ -407,7 +398,7 @@ module _ (xs : List ℕ) (y : Bytes xs) (len g v : ℕ) (ds : List Desc) (a : Ed
   pub longer-by : Gap Utf8 v g ds → length (take stop (take len xs) ++ encode Utf8 (added v g ds)) ≡ len + length (utf8Bytes v)
   longer-by p =
       let t = tabled (added v g ds) in
-      omega (arith, t .0, t .1, ap length (p .same), ap length (p .more), length-append (p .front) (p .back), length-append (p .front) (valueBytes Utf8 v ++ p .back), length-append (valueBytes Utf8 v) (p .back), ap length (utf8-value v))
+      omega (arith, t .0, t .1, ap length (p .same), ap length (p .more), length-append (p .front) (p .back), length-append (p .front) (valueBytes Utf8 v ++ p .back), length-append (valueBytes Utf8 v) (p .back), ap length (utf8-value Utf8 v refl))
 
   pub shorter-by : Hole Utf8 v g ds → (length (take stop (take len xs) ++ encode Utf8 (dropped v g ds)) ≡ len - length (utf8Bytes v)) × (length (utf8Bytes v) ≤ len)
   shorter-by h =
@@ -417,6 +408,6 @@ module _ (xs : List ℕ) (y : Bytes xs) (len g v : ℕ) (ds : List Desc) (a : Ed
     where
       omega-of : Hole Utf8 v g ds → (length (encode Utf8 ds) ≡ length (h .front) + (length (utf8Bytes v) + length (h .back))) × (length (encode Utf8 (dropped v g ds)) ≡ length (h .front) + length (h .back))
       omega-of o = (
-        omega (arith, ap length (h .same), length-append (h .front) (valueBytes Utf8 v ++ h .back), length-append (valueBytes Utf8 v) (h .back), ap length (utf8-value v)),
+        omega (arith, ap length (h .same), length-append (h .front) (valueBytes Utf8 v ++ h .back), length-append (valueBytes Utf8 v) (h .back), ap length (utf8-value Utf8 v refl)),
         omega (arith, ap length (h .less), length-append (h .front) (h .back)),
       )

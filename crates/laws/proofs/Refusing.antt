@@ -54,6 +54,19 @@ use Rattle.laws.specs.Meaning.{Exact, convertedSays, GlyphsAt, Holds, Fi
 use Rattle.laws.proofs.Exactly.{is, row, row-at, own-first, reading-of, less}
 use Rattle.laws.proofs.Asking.{described, read-as}
 
+-- the kind that is wanted, and another
+pub alike : (k : Kind) → sameKind k k ≡ true
+alike Psf1 = refl
+alike Psf2 = refl
+alike Vfont2 = refl
+
+pub not-alike : (k j : Kind) → (j ≡ k → ⊥) → sameKind k j ≡ false
+not-alike k j n = go (sameKind k j) refl
+  where
+    go : (t : Bool) → sameKind k j ≡ t → sameKind k j ≡ false
+    go true q = absurd (n (kind-same k j q))
+    go false q = q
+
 -- 1 to 12, then 17
 module _ (c : Conversion) (s : List ℕ) (m : ℕ) where
   pub from-prepared : (p : Prepared) → p ≡ preparedOf c s → convertedOf c s m ≡ converted p m
@@ -66,16 +79,7 @@ module _ (c : Conversion) (s : List ℕ) (m : ℕ) where
   module _ (f : Font) (e : checkOf s ≡ Sound f) where
     pub kind-given : (f .kind ≡ sourceKind c → ⊥) → convertedOf c s m ≡ Refused (refusal WrongKind 0)
     kind-given n =
-        from-prepared (Unprepared (refusal WrongKind 0)) (opened-as c s (Unsound (refusal WrongKind 0)) (sym (wrong-kind (sourceKind c) s f e (go (sameKind (sourceKind c) (f .kind)) refl))))
-      where
-        go : (t : Bool) → sameKind (sourceKind c) (f .kind) ≡ t → sameKind (sourceKind c) (f .kind) ≡ false
-        go true q = absurd (n (kind-same (sourceKind c) (f .kind) q))
-        go false q = q
-
-    alike : (k : Kind) → sameKind k k ≡ true
-    alike Psf1 = refl
-    alike Psf2 = refl
-    alike Vfont2 = refl
+        from-prepared (Unprepared (refusal WrongKind 0)) (opened-as c s (Unsound (refusal WrongKind 0)) (sym (wrong-kind (sourceKind c) s f e (not-alike (sourceKind c) (f .kind) n))))
 
     -- a font of the kind that is wanted is prepared
     pub on-kind : f .kind ≡ sourceKind c → preparedOn c s f ≡ preparedOf c s

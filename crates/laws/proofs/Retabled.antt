@@ -10,10 +10,10 @@ use native.Mathlib.Nat.{mul-le-mul-right}
 use lib.Dec.{ltb}
 use borrow.Author.Tests.{ltb-true}
 use lib.ListN.{length, take, drop, replicate, length-append, length-replicate, take-append-drop}
-use lib.Seq.{take-at, drop-at, take-take, length-take-le, drop-append-add, drop-drop}
+use lib.Seq.{take-at, drop-at, take-take, length-take-le}
 use Rattle.base.specs.Meaning.{pick, Bytes}
 use Rattle.base.specs.Reading.{when, over}
-use Rattle.base.proofs.Parts.{bytes-take, byte-at}
+use Rattle.base.proofs.Parts.{bytes-take}
 use Rattle.base.proofs.Over.{length-over}
 use Rattle.base.proofs.Tests.{below}
 use Rattle.refusal.specs.Meaning.{refusal}
@@ -36,7 +36,7 @@ use Rattle.header.specs.Reading.{saysOf}
 use Rattle.header.proofs.Front.{says-front, parts}
 use Rattle.stages.specs.Meaning.{codingOf, tailOf}
 use Rattle.stages.specs.Reading.{throughBody, throughEntries, checkOf}
-use Rattle.stages.proofs.Cases.{accepted, passed-entries, passed-body, placed, body-after, body-whole, entries-after, entries-of}
+use Rattle.stages.proofs.Cases.{accepted, body-after, body-whole, entries-after, entries-of}
 use Rattle.bitmap.specs.declared.Bitmap.{Bitmap}
 use Rattle.bitmap.specs.declared.Located.{Located}
 use Rattle.bitmap.specs.declared.Located.the-variants.{Found, Refused as NotLocated}
@@ -49,6 +49,7 @@ use Rattle.questions.specs.declared.Lookup.the-variants.{Refused as NoLookup}
 use Rattle.questions.specs.Reading.{fontItems, walkOf, lookupOf, askable}
 use Rattle.fonts.specs.Reading.{glyphPartOf, rowPartOf, pixelAt, glyphMetricsOf, itemOf, valueGlyph, sequenceGlyph}
 use Rattle.content.specs.Meaning.{Describes}
+use Rattle.content.proofs.Source.{is-placed, says-font}
 use Rattle.content.proofs.Tails.{Tail, tail-sound}
 use Rattle.content.proofs.Stretches.{part-of-take}
 use Rattle.content.proofs.Same.{same-pixels}
@@ -57,11 +58,12 @@ use Rattle.mapping.proofs.Changing.{length-changed}
 use Rattle.mapping.proofs.Looking.{item-same}
 use Rattle.laws.specs.Meaning.{Edits}
 use Rattle.laws.proofs.Asking.{walks, looks, value-asked, sequence-asked}
+use Rattle.laws.proofs.Converting.{rest-from}
 use Rattle.laws.proofs.Located.{part-asked, row-asked, pixel-asked, metrics-asked}
 
 -- the table of an accepted font stands in the file
 pub front-long : (s : List ℕ) (f : Font) → Bytes s → checkOf s ≡ Sound f → f .end ≤ length s
-front-long s f y sound = placed s f (byte-at s y 3) (accepted s f sound .0) .7
+front-long s f y sound = is-placed s f y sound .7
 
 -- a font with another table behind the same front is accepted, and its tail is that table
 module _ (s : List ℕ) (f : Font) (y : Bytes s) (sound : checkOf s ≡ Sound f) (kind : f .kind ≡ Psf2) (marked : f .table ≡ true) (es : List Desc)
@@ -78,13 +80,11 @@ module _ (s : List ℕ) (f : Font) (y : Bytes s) (sound : checkOf s ≡ Sound f)
   pub retabled-front : take (f .end) retabled ≡ take (f .end) s
   retabled-front = take-at (take (f .end) s) (encode Utf8 es) (f .end) front-length
 
-  says : checkOf s ≡ Sound f → saysOf retabled ≡ Sound f
-  says e =
-      let b = passed-body s f (passed-entries s f (accepted s f e .0) .0) in
-      let p = parts s f (b .1) in
-      let h : 32 ≤ length (take (f .end) s) = omega (arith, front-length, p .2) in
-      says-front (take (f .end) s) (encode Utf8 es) h ∙ sym (says-front (take (f .end) s) (drop (f .end) s) h)
-      ∙ ap saysOf (take-append-drop (f .end) s) ∙ b .1
+  says : saysOf retabled ≡ Sound f
+  says =
+      let e = says-font s f y sound in
+      let h : 32 ≤ length (take (f .end) s) = omega (arith, front-length, parts s f e .2) in
+      says-front (take (f .end) s) (encode Utf8 es) h ∙ sym (says-front (take (f .end) s) (drop (f .end) s) h) ∙ ap saysOf (take-append-drop (f .end) s) ∙ e
 
   pub retabled-sound : length retabled ≤ limit → checkOf retabled ≡ Sound f
   retabled-sound h = tail-sound retabled f tail-bytes through (subst (λ (t : Bool). Tail t (codingOf (f .kind)) (f .count) (tailOf retabled f)) (sym marked) is-table)
@@ -95,7 +95,7 @@ module _ (s : List ℕ) (f : Font) (y : Bytes s) (sound : checkOf s ≡ Sound f)
       through : throughEntries retabled ≡ Sound f
       through =
           let l : f .end ≤ length retabled = omega (arith, front-length, length-append (take (f .end) s) (encode Utf8 es)) in
-          let b : throughBody retabled ≡ Sound f = sym (body-after retabled (Sound f) (says sound) h) ∙ sym (body-whole (length retabled) f l) in
+          let b : throughBody retabled ≡ Sound f = sym (body-after retabled (Sound f) says h) ∙ sym (body-whole (length retabled) f l) in
           sym (entries-after retabled (Sound f) b) ∙ sym (entries-of retabled f Psf2 kind)
 
       is-table : IsTable (codingOf (f .kind)) (f .count) (tailOf retabled f)
@@ -107,13 +107,10 @@ module _ (s : List ℕ) (f : Font) (y : Bytes s) (sound : checkOf s ≡ Sound f)
   retabled-describes =
       (count, subst (λ (k : Kind). Readable (codingOf k) es) (sym kind) values, subst (λ (k : Kind). tailOf retabled f ≡ encode (codingOf k) es) (sym kind) retabled-tail)
 
--- what stands behind bytes laid over the front
-over-behind : (p xs : List ℕ) (m : ℕ) → length p ≤ m → drop m (over p xs) ≡ drop m xs
+-- bytes laid over a front: the first of them, and others laid over as many
+pub over-front : (p q xs : List ℕ) (n : ℕ) → length p ≡ n → take n (over (p ++ q) xs) ≡ p
 unfolding over
-over-behind p xs m h =
-    let e : length p + (m - length p) ≡ m = omega arith in
-    ap (λ (x : ℕ). drop x (p ++ drop (length p) xs)) (sym e) ∙ drop-append-add p (drop (length p) xs) (m - length p)
-    ∙ drop-drop (m - length p) (length p) xs ∙ ap (λ (x : ℕ). drop x xs) e
+over-front p q xs n e = ap (take n) (append-assoc p q (drop (length (p ++ q)) xs)) ∙ take-at p (q ++ drop (length (p ++ q)) xs) n e
 
 pub over-over : (p q xs : List ℕ) → length p ≡ length q → over p (over q xs) ≡ over p xs
 unfolding over
@@ -206,8 +203,8 @@ module _ (xs : List ℕ) (y : Bytes xs) (len g v : ℕ) (ds : List Desc) (a : Ed
 
   -- its parts in the buffer
   new-front : take n out ≡ new
-  unfolding over zeros
-  new-front = ap (take n) (laid ∙ append-assoc new zeros (drop (length (new ++ zeros)) xs)) ∙ take-at new (zeros ++ drop (length (new ++ zeros)) xs) n long
+  unfolding zeros
+  new-front = ap (take n) laid ∙ over-front new zeros xs n long
 
   new-freed : take (len - n) (drop n out) ≡ replicate (len - n) 0
   unfolding over zeros
@@ -218,7 +215,7 @@ module _ (xs : List ℕ) (y : Bytes xs) (len g v : ℕ) (ds : List Desc) (a : Ed
 
   new-behind : (m : ℕ) → len ≤ m → n ≤ m → drop m out ≡ drop m xs
   unfolding zeros
-  new-behind m l k = ap (drop m) laid ∙ over-behind (new ++ zeros) xs m (omega (arith, all-long))
+  new-behind m l k = ap (drop m) laid ∙ rest-from (new ++ zeros) xs m (omega (arith, all-long))
 
   new-whole : length out ≡ length xs
   unfolding zeros
@@ -276,7 +273,7 @@ module _ (xs : List ℕ) (y : Bytes xs) (len g v : ℕ) (ds : List Desc) (a : Ed
   new-pixels : (h i j : ℕ) → pixelAt (take n out) h i j ≡ pixelAt old h i j
   new-pixels h i j =
       pixel-asked (take n out) f new-sound h i j
-      ∙ same-pixel f (a .kind) old (take n out) (placed old f (byte-at old old-bytes 3) (accepted old f (a .sound) .0)) same-front h i j
+      ∙ same-pixel f (a .kind) old (take n out) (is-placed old f old-bytes (a .sound)) same-front h i j
       ∙ sym (pixel-asked old f (a .sound) h i j)
 
   pub edits : Edits (changed change g) g xs len out n
