@@ -6,6 +6,9 @@
  *                          and of a load in frames, in microseconds
  *   driver FONT edits ROUNDS   prints the best time of a check, of a copy of the table, and of an add and a drop at glyph 0 and at the last
  *                          glyph, in microseconds
+ *   driver FONT differences OTHER          compares two fonts: prints the count of pairs and the stack that the call used
+ *   driver FONT differences OTHER ROUNDS   prints the best time of a check of each and of their comparison, with room for any pairs and with
+ *                          just the room that it needs, in microseconds
  */
 #include <lavandol.h>
 #include <stdio.h>
@@ -15,15 +18,16 @@
 #include <ucontext.h>
 
 #define ROOM 1048576
-static uint8_t file[ROOM + 1], out[ROOM];
-static size_t length, bitmaps, bitmap_bytes, table, last_glyph;
+static uint8_t file[ROOM + 1], other[ROOM + 1], out[ROOM];
+static size_t length, other_length, bitmaps, bitmap_bytes, table, last_glyph;
 static uint32_t first, last; /* the first value of glyph 0 and of the last glyph */
 static volatile size_t kept; /* so that no call is left out */
 
-/* A library from before these calls were there is measured without them; NO_LOADER, NO_EDITS: its header has no loader, no edits. */
+/* A library from before these calls were there is measured without them; NO_LOADER, NO_EDITS, NO_DIFFERENCES: its header lacks them. */
 #pragma weak lav_metrics
 #pragma weak lav_add_mapping
 #pragma weak lav_drop_mapping
+#pragma weak lav_differences
 #pragma weak lav_loader_fresh
 #pragma weak lav_loader_feed
 #pragma weak lav_loader_close
@@ -98,6 +102,26 @@ EDIT(drop_short, lav_drop_mapping, 0, edited, 1)
 EDIT(add_last, lav_add_mapping, last_glyph, length, 0x10FFF0)
 EDIT(drop_last, lav_drop_mapping, last_glyph, edited, 0x10FFF0)
 
+/* Two fonts compared. */
+#ifdef NO_DIFFERENCES
+#define HAS_DIFFERENCES 0
+static size_t compared;
+static void bench_differences(void) {}
+static void bench_fitting(void) {}
+#else
+#define HAS_DIFFERENCES (lav_differences != 0)
+static uint32_t pairs[2 * (4096 + 4096)]; /* room for any pairs */
+static size_t compared; /* pairs by the last comparison */
+static size_t compare(size_t room) {
+    lav_differences_answer answer = lav_differences(file, length, other, other_length, pairs, room);
+    return REFUSED(answer) ? SIZE_MAX : answer.count;
+}
+__attribute__((noinline)) void bench_differences(void) { compared = compare(sizeof pairs / sizeof *pairs); }
+/* Again, with room for just the pairs that were found. */
+__attribute__((noinline)) void bench_fitting(void) { kept += compare(2 * compared); }
+#endif
+FIGURE(check_other, lav_check(other, other_length).count)
+
 static const struct { const char *name; void (*call)(void); } FIGURES[] = {
     {"check", bench_check}, {"find_value, nothing found", bench_none}, {"find_value, last glyph", bench_last},
     {"psf1_to_psf2", bench_psf1_to_psf2}, {"psf2_to_psf1", bench_psf2_to_psf1},
@@ -162,11 +186,40 @@ static size_t stack_of(void (*call)(void)) {
     return sizeof stack - untouched;
 }
 
-int main(int argc, char **argv) {
-    FILE *in = argc > 1 ? fopen(argv[1], "rb") : NULL;
-    if (!in) return 2;
-    length = fread(file, 1, sizeof file, in);
+static size_t read_font(const char *path, uint8_t *to) {
+    FILE *in = fopen(path, "rb");
+    if (!in) exit(2);
+    size_t bytes = fread(to, 1, ROOM + 1, in);
     fclose(in);
+    return bytes;
+}
+
+/* The comparison of the font with another, which is read here. */
+static int differences(const char *path, int rounds) {
+    other_length = read_font(path, other);
+    if (!HAS_DIFFERENCES) return 1;
+    if (rounds) {
+        double best[4] = {1e9, 1e9, 1e9, 1e9};
+        for (int i = 0; i < rounds; i++) {
+            turn(bench_check, &best[0]);
+            turn(bench_check_other, &best[1]);
+            turn(bench_differences, &best[2]);
+            turn(bench_fitting, &best[3]);
+        }
+        printf("check %.2f us other %.2f us differences %.2f us fitting %.2f us\n", best[0], best[1], best[2], best[3]);
+    } else {
+        bench_check();
+        bench_check_other();
+        size_t base = stack_of(bench_empty), used = stack_of(bench_differences);
+        bench_fitting();
+        printf("pairs %zu\nstack %zu differences\n", compared, used - base);
+    }
+    return compared == SIZE_MAX;
+}
+
+int main(int argc, char **argv) {
+    if (argc < 2) return 2;
+    length = read_font(argv[1], file);
     lav_font font = lav_check(file, length);
     if (REFUSED(font)) return 1;
     first = lav_item(file, length, 0, 0).value;
@@ -184,6 +237,7 @@ int main(int argc, char **argv) {
         putchar('\n');
         return 0;
     }
+    if (argc >= 4 && !strcmp(argv[2], "differences")) return differences(argv[3], argc > 4 ? atoi(argv[4]) : 0);
     if (argc == 4 && !strcmp(argv[2], "edits")) return time_edits(atoi(argv[3]));
     if (argc == 4) {
         for (size_t i = 3; i < 7; i++) {

@@ -6,20 +6,23 @@
  * write nothing outside the slices that it is lent. The proof ends at this header: nothing checks the declarations below against the
  * library, and the caller must keep the three rules that follow.
  *
- * - A slice is a pointer and a number of elements: `file, file_len` are bytes, `values, value_count` are uint32_t. So many elements can
- *   be read there (written, for a buffer; both, for the buffer of an edit). The pointer must not be NULL, not even where the length is 0:
- *   pass the address of any byte then (of a uint32_t for `values`); nothing is read or written there. A slice of uint32_t is aligned.
+ * - A slice is a pointer and a number of elements: `file, file_len` are bytes, `values, value_count` and `pairs, pairs_len` are uint32_t.
+ *   So many elements can be read there (written, for a buffer; both, for the buffer of an edit). The pointer must not be NULL, not even
+ *   where the length is 0: pass the address of any byte then (of a uint32_t for `values` and `pairs`); nothing is read or written there.
+ *   A slice of uint32_t is aligned.
  * - A lent slice does not change during the call; a buffer, or a record that is lent to be changed (lav_loader), overlaps nothing else
  *   that the call is lent.
  * - The pointers are not kept: memory may be moved or freed after the call.
  *
  * The functions allocate nothing, have no global state and no locks, and call nothing: the archive needs no C library. So they may run
- * in several threads at once, and in an interrupt handler; but lav_check, lav_metrics, the four conversions, the two edits and the loader's
- * three calls use SSE registers (the compiler's doing; tools/try-boundary reads it off the archive), so a handler that does not save them
- * must not call these eleven. They need at most about 600 bytes of stack, lav_loader_feed about 1,800 (docs/BENCHMARK.md), whatever the
- * font. Each call on a file checks the font first, one pass over the header, the vfont2 entries and the Unicode table; a walk or a lookup
- * is another pass over the Unicode table at most, a conversion two; an edit is a pass up to the place and one move of the bytes behind it.
- * A font that arrives piece by piece is checked as it comes (lav_loader), in the same one pass.
+ * in several threads at once, and in an interrupt handler; but lav_check, lav_metrics, the four conversions, the two edits, lav_differences
+ * and the loader's three calls use SSE registers (the compiler's doing; tools/try-boundary reads it off the archive), so a handler that
+ * does not save them must not call these twelve. They need at most about 600 bytes of stack, lav_differences about 1,100, lav_loader_feed
+ * about 1,800 (docs/BENCHMARK.md), whatever the font. Each call on a file checks the font first, one pass over the header, the vfont2
+ * entries and the Unicode table; a walk or a lookup is another pass over the Unicode table at most, a conversion two; an edit is a pass up to
+ * the place and one move of the bytes behind it; a comparison is one pass over the bitmaps and tables of both fonts, side by side, and a
+ * second one where the buffer might have been too short. A font that arrives piece by piece is checked as it comes (lav_loader), in the same one
+ * pass.
  *
  * Numbers in the files are little endian. Glyphs, rows, columns and items are counted from 0.
  */
@@ -42,7 +45,7 @@ extern "C" {
 /*
  * Refusals. The first member of each answer is `refusal`, a lav_refusal (lav_loader_feed answers a lav_refusal alone, lav_loader_fresh a
  * record without one). Its number is 0 (LAV_OK) where the question is answered; then its place is 0. Else its number is one of those
- * below, its place tells where, and all other members of the answer are 0.
+ * below, its place tells where, and all other members of the answer are 0 (but `font` of lav_differences, which tells whose it is).
  *
  * Every call on a file gives the font's own refusal, 1 to 12, before any other (but an edit ASK, where it is told more bytes than the
  * buffer has). They are tried in this order and the first that applies is given, so a font that is refused is refused by all calls alike.
@@ -77,7 +80,8 @@ enum {
                             (greatest height, 0, 0, greatest width, greatest width) */
     LAV_VALUE = 19,      /* the target can't have a value: a surrogate (PSF1 to PSF2), above FFFD (to PSF1); place: its first byte */
     LAV_SIZE = 20,       /* the output, or the edited font, would be over 1,048,576 bytes; place 0 */
-    LAV_ROOM = 21,       /* the lent buffer is shorter than the output, or than the edited font; place: the size needed */
+    LAV_ROOM = 21,       /* the lent buffer is shorter than the output, or than the edited font; place: the size needed, in bytes; of
+                            lav_differences: it has fewer numbers than the pairs; place: the count of numbers needed */
 
     LAV_LATE = 22,       /* a piece or a close for a loader that is closed, which stays as it was; place 0 */
     LAV_LINE = 23,       /* no call gives it: the program fontload does, for a line that is no frame; place: the line's number, from 1 */
@@ -91,6 +95,16 @@ enum { LAV_PSF1 = 1, LAV_PSF2 = 2, LAV_VFONT2 = 3 };
 
 /* Kinds of item in a glyph's description (`kind` of lav_item_answer). */
 enum { LAV_SINGLE = 1, LAV_START = 2, LAV_VALUE_IN_SEQUENCE = 3, LAV_END = 4 };
+
+/* Kinds of difference between two fonts (the first number of each pair that lav_differences writes). */
+enum {
+    LAV_ONLY_IN_FIRST = 1,  /* the glyph's number is not below the second font's count */
+    LAV_ONLY_IN_SECOND = 2, /* it is not below the first font's count */
+    LAV_METRICS_DIFFER = 3, /* the metrics differ, or just one of the fonts has no glyph there (a vfont2 entry of size 0) */
+    LAV_PIXELS_DIFFER = 4,  /* the metrics agree, a pixel does not */
+    LAV_ITEMS_DIFFER = 5,   /* the descriptions differ in an item */
+    LAV_TABLE_DIFFERS = 6   /* just one of the fonts has a Unicode table; the pair's second number is 0 */
+};
 
 /* A refusal, the first member of every answer. */
 typedef struct {
@@ -141,6 +155,13 @@ typedef struct {
     lav_refusal refusal;
     size_t number;
 } lav_number;
+
+/* What a comparison of two fonts answers. */
+typedef struct {
+    lav_refusal refusal;
+    uint32_t font; /* which font was refused, 1 or 2; 0 where the call is answered, and for ROOM */
+    size_t count;  /* pairs written: 0 where the fonts agree */
+} lav_differences_answer;
 
 /*
  * The state of a font's check while the font arrives: see lav_loader_fresh. The caller owns the record and lends it; its members, and the
@@ -214,6 +235,10 @@ LAVANDOL_AT(lav_item_answer, value, 20);
 LAVANDOL_SIZE(lav_number, 24);
 LAVANDOL_AT(lav_number, refusal, 0);
 LAVANDOL_AT(lav_number, number, 16);
+LAVANDOL_SIZE(lav_differences_answer, 32);
+LAVANDOL_AT(lav_differences_answer, refusal, 0);
+LAVANDOL_AT(lav_differences_answer, font, 16);
+LAVANDOL_AT(lav_differences_answer, count, 24);
 LAVANDOL_SIZE(lav_held, 40);
 LAVANDOL_AT(lav_held, len, 0);
 LAVANDOL_AT(lav_held, bytes, 8);
@@ -340,6 +365,33 @@ lav_number lav_add_mapping(uint8_t *buffer, size_t buffer_len, size_t len, size_
 
 /* Drops the first listing of value v as a single of glyph g; where it is listed twice, the other one stays. */
 lav_number lav_drop_mapping(uint8_t *buffer, size_t buffer_len, size_t len, size_t g, uint32_t v);
+
+/*
+ * What differs between two fonts, of any kinds: so many pairs of numbers at the front of the lent buffer `pairs`, each a kind
+ * (LAV_ONLY_IN_FIRST to LAV_TABLE_DIFFERS) and a glyph. The answer's `count` is that of the pairs, so 2 * count numbers are written; other
+ * numbers in the buffer stay. `pairs_len` counts numbers. The count is 0 exactly where the fonts agree in glyph count, presence of a table,
+ * metrics, pixels and items.
+ *
+ * - Where just one font has a Unicode table, the pair (LAV_TABLE_DIFFERS, 0) comes first, and descriptions are not compared.
+ * - Then by glyph number, and by kind within one glyph. A number below both counts has no pair, one, or two: LAV_METRICS_DIFFER or
+ *   LAV_PIXELS_DIFFER, and LAV_ITEMS_DIFFER. Each other number has LAV_ONLY_IN_FIRST or LAV_ONLY_IN_SECOND alone.
+ * - Glyphs of PSF1 and PSF2 have the metrics (height, 0, 0, width, width). Two missing glyphs agree (vfont2 entries of size 0), whatever
+ *   their other fields are. Values are compared as numbers, so PSF1 may agree with PSF2. Bits after a row's last pixel, addresses, the kind
+ *   of file and its header's size do not count.
+ *
+ * Two fonts have no more pairs than glyphs together, so 2 * 8192 numbers are always enough. With room for two numbers for each glyph of both
+ * fonts the pairs are written in one pass over the fonts; with less room they are counted in one pass and, where there are any, written in
+ * another. To learn how many numbers are needed, lend a buffer of length 0, with the address of any uint32_t: ROOM gives it as its place, or
+ * the count is 0. A refused call writes nothing.
+ *     lav_differences_answer d = lav_differences(old, old_len, new, new_len, pairs, 2 * 8192);
+ *     if (d.refusal.number) return refused(d.font, d.refusal);
+ *     for (size_t i = 0; i < d.count; i++) report(pairs[2 * i], pairs[2 * i + 1]);
+ *
+ * Refusals, tried in this order: 1 to 12 of the first font (`font` is 1), 1 to 12 of the second (`font` is 2), ROOM (`font` is 0; place:
+ * the count of numbers needed).
+ */
+lav_differences_answer lav_differences(const uint8_t *first, size_t first_len, const uint8_t *second, size_t second_len, uint32_t *pairs,
+                                       size_t pairs_len);
 
 /*
  * A font that arrives piece by piece, over a serial line say, is checked as it comes: a loader is fed any number of pieces of any length,

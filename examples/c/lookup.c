@@ -26,7 +26,7 @@ int main(int argc, char **argv) {
         fprintf(stderr, "%s: not a hexadecimal number of 32 bits\n", argv[2]);
         return 2;
     }
-    if (!read_file(argv[1], &length)) {
+    if (!read_file(file, argv[1], &length)) {
         perror(argv[1]);
         return 2;
     }

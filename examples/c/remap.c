@@ -23,7 +23,7 @@ int main(int argc, char **argv) {
         fprintf(stderr, "usage: remap FONT add|drop GLYPH HEX OUT\n");
         return 2;
     }
-    if (!read_file(argv[1], &length)) {
+    if (!read_file(file, argv[1], &length)) {
         perror(argv[1]);
         return 2;
     }

@@ -1,4 +1,4 @@
-/* What the examples lookup and remap share: a font file in memory, numbers as words, and refusals told. */
+/* What the examples lookup, remap and changes share: a font file in memory, numbers as words, and refusals told. */
 #include <ctype.h>
 #include <inttypes.h>
 #include <lavandol.h>
@@ -23,7 +23,7 @@ static int refused(const char *what, lav_refusal refusal) {
 }
 
 /* The number of a word, decimal or hexadecimal: digits alone, and no more than 32 bits. */
-static int read_number(const char *word, int base, uint32_t *value) {
+static inline int read_number(const char *word, int base, uint32_t *value) {
     for (const char *c = word; *c; c++) {
         if (!(base == 16 ? isxdigit((unsigned char)*c) : isdigit((unsigned char)*c))) return 0;
     }
@@ -32,11 +32,11 @@ static int read_number(const char *word, int base, uint32_t *value) {
     return *word && number <= UINT32_MAX;
 }
 
-/* The whole file, or its first 1,048,577 bytes. A folder can be opened, but not read. */
-static int read_file(const char *path, size_t *length) {
+/* The whole file, or its first 1,048,577 bytes, to a buffer as long as the one above. A folder can be opened, but not read. */
+static int read_file(uint8_t *to, const char *path, size_t *length) {
     FILE *in = fopen(path, "rb");
     if (!in) return 0;
-    *length = fread(file, 1, sizeof file - 4, in);
+    *length = fread(to, 1, sizeof file - 4, in);
     if (ferror(in)) return 0;
     fclose(in);
     return 1;

@@ -379,6 +379,49 @@ def edit(buf, length, g, v, add):
     return len(new)
 
 
+def rows(f, c):
+    """Each row's pixels as a number, without the fillers."""
+    at, h, w = c
+    k = (w + 7) // 8
+    return [int.from_bytes(f[at + y * k:at + y * k + k], 'big') >> 8 * k - w for y in range(h)]
+
+
+def differences(first, second, room):
+    """The pairs, flat; a refusal with the font it is of."""
+    o = []
+    for number, f in ((1, first), (2, second)):
+        try:
+            o.append(check(f))
+        except No as e:
+            raise No(*e.args, number)
+    a, b = o
+    out = []
+    if a.tab != b.tab:
+        out += [6, 0]
+    for g in range(max(a.n, b.n)):
+        if g >= b.n:
+            out += [1, g]
+            continue
+        if g >= a.n:
+            out += [2, g]
+            continue
+        x, y = a.cells[g], b.cells[g]
+        if (x is None) != (y is None):
+            out += [3, g]
+        elif x is not None:
+            if metrics(first, g) != metrics(second, g):
+                out += [3, g]
+            elif rows(first, x) != rows(second, y):
+                out += [4, g]
+        if a.tab and b.tab:
+            # items without their places
+            if [it[:2] for it in a.read[g]] != [it[:2] for it in b.read[g]]:
+                out += [5, g]
+    if len(out) > room:
+        raise No(21, len(out), 0)
+    return out
+
+
 def checksum(buf):
     x = 0
     for b in buf:
@@ -513,6 +556,19 @@ def main():
                 a = 'refused %d %d' % e.args
             name = 'add' if op == 0x22 else 'drop'
             put(f'{name} {room} {length} {g} {v:X} {a} sum {checksum(buf)}\n')
+        elif op == 0x24:
+            last = bytes(f)
+        elif op == 0x25:
+            which, room = num(1), num(2)
+            buf = [0xA5A5A5A5] * room
+            first, second = (last, bytes(f)) if which else (bytes(f), last)
+            try:
+                out = differences(first, second, room)
+                buf[:len(out)] = out
+                a = ' '.join(map(str, ['pairs', len(out) // 2] + out))
+            except No as e:
+                a = 'font %d refused %d %d' % (e.args[2], *e.args[:2])
+            put(f'differences {which} {room} {a} sum {checksum(buf)}\n')
         else:
             raise ValueError(op)
 

@@ -27,12 +27,15 @@ use Rattle.convert.specs.declared.Converted.{Converted}
 use Rattle.convert.specs.declared.Converted.the-variants.{Wrote, Refused as NoOutput}
 use Rattle.edit.specs.declared.Edited.{Edited}
 use Rattle.edit.specs.declared.Edited.the-variants.{Length, Refused as NoEdit}
+use Rattle.differences.specs.declared.Compared.{Compared}
+use Rattle.differences.specs.declared.Compared.the-variants.{Pairs, Refused as NoPairs}
 use Rattle.answers.specs.declared.LavRefusal.{LavRefusal}
 use Rattle.answers.specs.declared.LavFont.{LavFont}
 use Rattle.answers.specs.declared.LavPart.{LavPart}
 use Rattle.answers.specs.declared.LavMetrics.{LavMetrics}
 use Rattle.answers.specs.declared.LavItem.{LavItem}
 use Rattle.answers.specs.declared.LavNumber.{LavNumber}
+use Rattle.answers.specs.declared.LavDifferences.{LavDifferences}
 
 -- a refusal: document 01's number (the column "No", `numberOf`) and place
 abbrev pub refusalTold : Refusal → LavRefusal
@@ -147,3 +150,8 @@ convertedAnswer (NoOutput r) = refusedNumber r
 abbrev pub editedAnswer : Edited → LavNumber
 editedAnswer (Length n) = numberAnswer n
 editedAnswer (NoEdit r) = refusedNumber r
+
+-- how many pairs of differences two fonts have; or the refusal, and whose it is
+abbrev pub comparedAnswer : Compared → LavDifferences
+comparedAnswer (Pairs n) = record { refusal = noRefusal; font = 0; count = n }
+comparedAnswer (NoPairs w r) = record { refusal = refusalTold r; font = w; count = 0 }

@@ -3,6 +3,7 @@ use bitmap::GlyphMetrics;
 use bitmap::Part;
 use bitmap::Pixel;
 use convert::Converted;
+use differences::Compared;
 use edit::Edited;
 use header::Checked;
 use header::Kind;
@@ -12,7 +13,7 @@ use questions::Walk;
 use refusal::Refusal;
 use table::Item;
 ghost use mathlib.Core.Path.{_≡_};
-ghost use Rattle.answers.specs.Meaning.{noRefusal, refusalTold, replyTold, kindNumber, flagNumber, refusedFont, fontAnswer, refusedPart, partAnswer, refusedMetrics, metricsAnswer, numberAnswer, refusedNumber, pixelAnswer, lookupAnswer, itemAnswer, refusedItem, walkAnswer, convertedAnswer, editedAnswer};
+ghost use Rattle.answers.specs.Meaning.{noRefusal, refusalTold, replyTold, kindNumber, flagNumber, refusedFont, fontAnswer, refusedPart, partAnswer, refusedMetrics, metricsAnswer, numberAnswer, refusedNumber, pixelAnswer, lookupAnswer, itemAnswer, refusedItem, walkAnswer, convertedAnswer, editedAnswer, comparedAnswer};
 
 // A refusal as C reads it, the first field of every answer: document 01's number and place; both 0 where the call is answered.
 // Only `no_refusal` and `refusal_told` make one.
@@ -75,6 +76,16 @@ pub struct LavItem {
 pub struct LavNumber {
     pub refusal: LavRefusal,
     pub number: usize,
+}
+
+// The differences of two fonts.
+#[repr(C)]
+pub struct LavDifferences {
+    pub refusal: LavRefusal,
+    // whose refusal it is: 1 the first font's, 2 the second's, 0 neither's
+    pub font: u32,
+    // pairs of kind and glyph
+    pub count: usize,
 }
 
 pub fn no_refusal() -> LavRefusal
@@ -315,5 +326,22 @@ pub fn edited_answer(e: Edited) -> LavNumber
     match e {
         Edited::Length(n) => number_answer(n),
         Edited::Refused(r) => refused_number(r),
+    }
+}
+
+pub fn compared_answer(c: Compared) -> LavDifferences
+    ensures { λ r. ⌜ r ≡ comparedAnswer c ⌝ }
+{
+    match c {
+        Compared::Pairs(n) => LavDifferences {
+            refusal: no_refusal(),
+            font: 0,
+            count: n,
+        },
+        Compared::Refused(w, r) => LavDifferences {
+            refusal: refusal_told(r),
+            font: w,
+            count: 0,
+        },
     }
 }

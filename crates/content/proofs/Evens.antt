@@ -16,7 +16,7 @@ use Rattle.entries.proofs.Sums.{low, high}
 use Rattle.entries.proofs.Meaning.{keeps-rules}
 
 -- two bytes are below 65536
-le16-small : (s : List ℕ) → Bytes s → (i : ℕ) → le16 s i < 65536
+pub le16-small : (s : List ℕ) → Bytes s → (i : ℕ) → le16 s i < 65536
 unfolding le16
 le16-small s y i = omega (arith, byte-at s y i, byte-at s y (i + 1))
 

@@ -22,13 +22,13 @@ use Rattle.bitmap.specs.declared.Bitmap.{Bitmap}
 use Rattle.bitmap.specs.Meaning.{kindMetrics, rowStart, bitOf, pixelIn}
 use Rattle.stages.specs.Meaning.{codingOf, tailOf}
 use Rattle.stages.specs.Reading.{checkOf}
-use Rattle.content.specs.Meaning.{Drawing, Content, bitmapIn, NoGlyph, Draws, Describes, HasContent}
+use Rattle.content.specs.Meaning.{Drawing, Content, bitmapIn, NoGlyph, Draws, Describes, HasContent, SameDrawing, SameContent}
 use Rattle.content.proofs.Stretches.{bytes-same}
 use Rattle.content.proofs.Tails.{Tail, tail-known}
 use Rattle.content.proofs.Shapes.{GlyphIs}
 
 -- the byte of a pixel is one of the glyph's
-pixel-within : (h w y x : ℕ) → y < h → x < w → y * rowBytes w + x / 8 < glyphBytes h w
+pub pixel-within : (h w y x : ℕ) → y < h → x < w → y * rowBytes w + x / 8 < glyphBytes h w
 unfolding glyphBytes
 pixel-within h w y x ly lx =
     let e : x / 8 < (w + 7) / 8 = omega arith in
@@ -168,21 +168,6 @@ content-exists s f y e =
         described = d .1;
       },
     )
-
--- two drawings are the same: metrics, rows, columns and each pixel
-abbrev pub SameDrawing : Option Drawing → Option Drawing → Type 0
-SameDrawing none none = Unit {0}
-SameDrawing none (some e) = ⊥
-SameDrawing (some d) none = ⊥
-SameDrawing (some d) (some e) =
-    (d .metrics ≡ e .metrics) × (d .rows ≡ e .rows) × (d .columns ≡ e .columns) × ((y x : ℕ) → y < d .rows → x < d .columns → d .pixel y x ≡ e .pixel y x)
-
--- two contents are the same
-pub record SameContent (m m' : Content) : Type 0 where
-  pub count : m .count ≡ m' .count
-  pub table : m .table ≡ m' .table
-  pub glyphs : (g : ℕ) → g < m .count → SameDrawing (m .glyph g) (m' .glyph g)
-  pub descriptions : m .descriptions ≡ m' .descriptions
 
 one-drawing : (s : List ℕ) (f : Font) (g : ℕ) (d e : Option Drawing) → Draws s f g d → Draws s f g e → SameDrawing d e
 one-drawing s f g none none p q = tt

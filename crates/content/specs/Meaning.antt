@@ -67,6 +67,21 @@ pub record HasContent (s : List ℕ) (m : Content) : Type 0 where
   pub glyphs : (g : ℕ) → g < m .count → Draws s font g (m .glyph g)
   pub described : Describes s font (m .table) (m .descriptions)
 
+-- two drawings are the same: metrics, rows, columns and each pixel
+abbrev pub SameDrawing : Option Drawing → Option Drawing → Type 0
+SameDrawing none none = Unit {0}
+SameDrawing none (some e) = ⊥
+SameDrawing (some d) none = ⊥
+SameDrawing (some d) (some e) =
+    (d .metrics ≡ e .metrics) × (d .rows ≡ e .rows) × (d .columns ≡ e .columns) × ((y x : ℕ) → y < d .rows → x < d .columns → d .pixel y x ≡ e .pixel y x)
+
+-- two contents are the same
+pub record SameContent (m m' : Content) : Type 0 where
+  pub count : m .count ≡ m' .count
+  pub table : m .table ≡ m' .table
+  pub glyphs : (g : ℕ) → g < m .count → SameDrawing (m .glyph g) (m' .glyph g)
+  pub descriptions : m .descriptions ≡ m' .descriptions
+
 -- a header with no extra bytes: PSF1's mode says no more than the count and the table, the others' headers end behind their fields
 abbrev pub Plain : List ℕ → Kind → Type 0
 Plain s Psf1 = getD s 2 0 ≤ 3

@@ -1,6 +1,7 @@
 // The boundary for C and Rust: every public call on numbers, slices and a loader's record, each answer one struct by value. What is lent is
-// lent for the call only; nothing is allocated or kept. A conversion or an edit changes the buffer that it is lent, and a loader's calls the
-// record; no call changes anything else. Definitions: crates/answers/specs/Meaning.antt. The C side: include/lavandol.h.
+// lent for the call only; nothing is allocated or kept. A conversion, an edit or a comparison changes the buffer that it is lent, and a loader's
+// calls the record; no call changes anything else. Definitions: crates/answers/specs/Meaning.antt. The C side: include/lavandol.h.
+use answers::LavDifferences;
 use answers::LavFont;
 use answers::LavItem;
 use answers::LavMetrics;
@@ -16,8 +17,9 @@ ghost use Rattle.fonts.specs.Reading.{glyphPartOf, rowPartOf, pixelAt, glyphMet
 ghost use Rattle.conversion.specs.declared.Conversion.the-variants.{Psf1ToPsf2, Psf2ToPsf1, Psf2ToVfont2, Vfont2ToPsf2};
 ghost use Rattle.convert.specs.Reading.{convertedOf, convertedInto};
 ghost use Rattle.edit.specs.Reading.{addAnswer, addInto, dropAnswer, dropInto};
+ghost use Rattle.differences.specs.Reading.{compareAnswer, compareInto};
 ghost use Rattle.loader.specs.Reading.{freshOf, fedOf, feedAnswer, closedOf, closeAnswer};
-ghost use Rattle.answers.specs.Meaning.{replyTold, fontAnswer, partAnswer, metricsAnswer, pixelAnswer, lookupAnswer, walkAnswer, convertedAnswer, editedAnswer};
+ghost use Rattle.answers.specs.Meaning.{replyTold, fontAnswer, partAnswer, metricsAnswer, pixelAnswer, lookupAnswer, walkAnswer, convertedAnswer, editedAnswer, comparedAnswer};
 
 // The check of a font. Refusals: 1 to 12, in their order.
 #[no_mangle]
@@ -166,6 +168,19 @@ pub extern "C" fn lav_drop_mapping(buf: &mut [u8], len: usize, g: usize, v: u32)
 {
     let e = edit::drop_mapping(buf, len, g, v);
     answers::edited_answer(e)
+}
+
+// The differences of two fonts at the front of out, as pairs of kind and glyph: how many pairs. (6, 0) first where just one font has a table, and
+// then no descriptions are compared; then by glyph, and by kind within it: 1 only in the first font, 2 only in the second, 3 metrics differ or
+// just one font has no glyph there, 4 pixels differ though metrics agree, 5 items differ. A refused call leaves out as it was.
+// Refusals: the first font's own (1 to 12), the second font's own, ROOM with the count of numbers needed.
+#[no_mangle]
+pub extern "C" fn lav_differences(first: &[u8], second: &[u8], out: &mut [u32]) -> LavDifferences
+    ensures answer { λ r. ⌜ r ≡ comparedAnswer (compareAnswer (now (first .entry)) (now (second .entry)) (length (now (out .entry)))) ⌝ }
+    ensures buffer { λ r. ⌜ now (out .exit) ≡ compareInto (now (first .entry)) (now (second .entry)) (now (out .entry)) ⌝ }
+{
+    let c = differences::compare(first, second, out);
+    answers::compared_answer(c)
 }
 
 // A loader that has been fed nothing: the caller keeps the record, and lends it to the two calls below. Of a record that no call has made,

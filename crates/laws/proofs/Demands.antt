@@ -13,8 +13,8 @@ use Rattle.lookup.specs.Meaning.{Any, ListsValue, ListsSequence, Lowest, Nowher
 use Rattle.header.specs.declared.Font.{Font}
 use Rattle.stages.specs.Meaning.{codingOf, tailOf}
 use Rattle.stages.specs.Reading.{checkOf}
-use Rattle.content.specs.Meaning.{Content, HasContent}
-use Rattle.content.proofs.Same.{SameContent, content-exists, content-one}
+use Rattle.content.specs.Meaning.{Content, HasContent, SameContent}
+use Rattle.content.proofs.Same.{content-exists, content-one}
 use Rattle.conversion.specs.declared.Conversion.{Conversion}
 use Rattle.convert.specs.Reading.{convertedOf, convertedInto}
 use Rattle.fonts.specs.Reading.{glyphPartOf, rowPartOf, pixelAt, glyphMetricsOf, itemOf, valueGlyph, sequenceGlyph}

@@ -1,5 +1,5 @@
 -- What the public calls mean. To read first: Demands, and then the pages that it cites: Check, Tables, Bitmaps, Questions, Conversions;
--- Modes (PSF1's modes), Edits (mappings added and dropped in place), Loading (the checker fed by pieces), Program (`fontload`) and Vectors (the cases P1 to P14). The other files are the steps
+-- Modes (PSF1's modes), Edits (mappings added and dropped in place), Differences (two fonts compared), Loading (the checker fed by pieces), Program (`fontload`) and Vectors (the cases P1 to P14). The other files are the steps
 -- to them.
 pub mod Demands
 pub mod Check
@@ -9,6 +9,7 @@ pub mod Questions
 pub mod Conversions
 pub mod Modes
 pub mod Edits
+pub mod Differences
 pub mod Loading
 pub mod Program
 pub mod Vectors
@@ -31,3 +32,7 @@ mod Regions
 mod Pieces
 mod Loaded
 mod Early
+mod Alike
+mod Pairing
+mod Differing
+mod Comparing

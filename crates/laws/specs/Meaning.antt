@@ -4,6 +4,7 @@ use mathlib.Core.Path.{_≡_}
 use mathlib.Core.Logic.{_⊎_, _↔_}
 use mathlib.Core.Bool.{Bool, true, false}
 use mathlib.Core.List.{List, [], _∷_, _++_}
+use mathlib.Core.Option.{Option, none, some}
 use lib.ListN.{length, getD, take, drop, replicate}
 use Rattle.base.specs.Meaning.{le32, Begins, Bytes}
 use Rattle.refusal.specs.Meaning.{numberOf}
@@ -12,8 +13,8 @@ use Rattle.coding.specs.declared.Coding.{Coding}
 use Rattle.coding.specs.declared.Coding.the-variants.{Utf8, Ucs2}
 use Rattle.table.specs.declared.Item.{Item}
 use Rattle.table.specs.declared.Item.the-variants.{Single, Value}
-use Rattle.table.specs.Meaning.{Desc, items, bytes, encode, Unfinished, BadAt, TrailingAt}
-use Rattle.lookup.specs.Meaning.{Any, ListsValue, ListsSequence, Lowest, Nowhere, ItemIs}
+use Rattle.table.specs.Meaning.{Desc, itemsOf, items, bytes, encode, Unfinished, BadAt, TrailingAt}
+use Rattle.lookup.specs.Meaning.{Nth, Any, ListsValue, ListsSequence, Lowest, Nowhere, ItemIs}
 use Rattle.header.specs.declared.Kind as K
 use Rattle.header.specs.declared.Kind.the-variants.{Psf1, Psf2, Vfont2}
 use Rattle.header.specs.declared.Font.{Font}
@@ -35,7 +36,7 @@ use Rattle.questions.specs.declared.Walk.{Walk}
 use Rattle.questions.specs.declared.Walk.the-variants.{Is, Refused as NoWalk}
 use Rattle.questions.specs.declared.Lookup.{Lookup}
 use Rattle.questions.specs.declared.Lookup.the-variants.{Glyph, Refused as NoLookup}
-use Rattle.content.specs.Meaning.{bitmapIn, NoGlyph, Describes, Content, HasContent, Plain}
+use Rattle.content.specs.Meaning.{Drawing, bitmapIn, NoGlyph, Describes, Content, HasContent, Plain}
 use Rattle.conversion.specs.declared.Conversion.{Conversion}
 use Rattle.conversion.specs.declared.Conversion.the-variants.{Psf1ToPsf2, Psf2ToPsf1, Psf2ToVfont2, Vfont2ToPsf2}
 use Rattle.conversion.specs.Meaning.{sourceKind, targetKind, frontLen, FirstUneven}
@@ -45,6 +46,9 @@ use Rattle.utf8.specs.Meaning.{utf8Bytes}
 use Rattle.mapping.specs.Meaning.{Lists}
 use Rattle.edit.specs.declared.Edited.{Edited}
 use Rattle.edit.specs.declared.Edited.the-variants.{Length, Refused as NotEdited}
+use Rattle.differences.specs.declared.Compared.{Compared}
+use Rattle.differences.specs.declared.Compared.the-variants.{Pairs, Refused as NotCompared}
+use Rattle.differences.specs.Meaning.{numbers}
 use Rattle.fonts.specs.Reading.{glyphPartOf, rowPartOf, pixelAt, glyphMetricsOf, itemOf, valueGlyph, sequenceGlyph}
 
 -- What a call says back: an answer, or "a number and a place". "When an answer is an enum, a definition gives this paper's number and
@@ -432,3 +436,93 @@ pub record Edits (change : List Desc → List Desc) (g : ℕ) (xs : List ℕ) (l
   pub freed : take (len - n) (drop n out) ≡ replicate (len - n) 0
   pub whole : length out ≡ length xs
   pub inside : n ≤ length out
+
+-- The differences of two fonts (document 02, W5), of contents m and m', as pairs of kind and glyph.
+
+-- 3: "metrics differ or just one has no glyph"; "two missing glyphs agree"
+abbrev pub OtherMetrics : Option Drawing → Option Drawing → Type 0
+OtherMetrics none none = ⊥
+OtherMetrics none (some e) = Unit {0}
+OtherMetrics (some d) none = Unit {0}
+OtherMetrics (some d) (some e) = d .metrics ≡ e .metrics → ⊥
+
+-- 4: "pixels differ though metrics agree"
+abbrev pub OtherPixels : Option Drawing → Option Drawing → Type 0
+OtherPixels none none = ⊥
+OtherPixels none (some e) = ⊥
+OtherPixels (some d) none = ⊥
+OtherPixels (some d) (some e) =
+    (d .metrics ≡ e .metrics) × ((y : ℕ) × (x : ℕ) × (y < d .rows) × (x < d .columns) × (d .pixel y x ≡ e .pixel y x → ⊥))
+
+-- 5: "items differ", of glyph g in two readings
+pub record OtherItems (ds es : List Desc) (g : ℕ) : Type 0 where
+  pub first : Desc
+  pub second : Desc
+  pub in-first : Nth g ds first
+  pub in-second : Nth g es second
+  pub differ : itemsOf first ≡ itemsOf second → ⊥
+
+-- the difference of kind k at glyph g: "1 only in the first, 2 only in the second, 3 metrics differ or just one has no glyph, 4 pixels differ though
+-- metrics agree, 5 items differ; 3 to 5 only for numbers below both counts"; "If just one has a table, pair (6, 0)", and "descriptions aren't
+-- compared"
+pub data Difference (m m' : Content) (k g : ℕ) : Type 0 where
+  only-first : k ≡ 1 → g < m .count → m' .count ≤ g → Difference m m' k g
+  only-second : k ≡ 2 → m .count ≤ g → g < m' .count → Difference m m' k g
+  metrics-differ : k ≡ 3 → g < m .count → g < m' .count → OtherMetrics (m .glyph g) (m' .glyph g) → Difference m m' k g
+  pixels-differ : k ≡ 4 → g < m .count → g < m' .count → OtherPixels (m .glyph g) (m' .glyph g) → Difference m m' k g
+  items-differ : k ≡ 5 → g < m .count → g < m' .count → m .table ≡ true → m' .table ≡ true → OtherItems (m .descriptions) (m' .descriptions) g → Difference m m' k g
+  tables-differ : k ≡ 6 → g ≡ 0 → (m .table ≡ m' .table → ⊥) → Difference m m' k g
+
+-- "pair (6, 0) comes first. Then by glyph, and by kind within it"
+abbrev pub Before : ℕ × ℕ → ℕ × ℕ → Type 0
+Before p q = ((p .0 ≡ 6) × (q .0 ≡ 6 → ⊥)) ⊎ ((p .0 ≡ 6 → ⊥) × (q .0 ≡ 6 → ⊥) × ((p .1 < q .1) ⊎ ((p .1 ≡ q .1) × (p .0 < q .0))))
+
+-- each element of a list has P
+abbrev pub Each : {A : Type 0} → (A → Type 0) → List A → Type 0
+Each P [] = Unit {0}
+Each P (x ∷ xs) = P x × Each P xs
+
+-- pairs in their order: each comes before all behind it, so none comes twice
+abbrev pub Ordered : List (ℕ × ℕ) → Type 0
+Ordered [] = Unit {0}
+Ordered (p ∷ ps) = Each (Before p) ps × Ordered ps
+
+-- "exact differences": a pair stands in the list exactly when its difference holds, in the stated order
+pub record Differences (m m' : Content) (ps : List (ℕ × ℕ)) : Type 0 where
+  pub exactly : (k g : ℕ) → Any (λ (p : ℕ × ℕ). p ≡ (k, g)) ps ↔ Difference m m' k g
+  pub ordered : Ordered ps
+
+-- the fonts swapped: 1 for 2 and 2 for 1
+abbrev pub swapKind : ℕ → ℕ
+swapKind zero = 0
+swapKind (suc zero) = 2
+swapKind (suc (suc zero)) = 1
+swapKind (suc (suc (suc k))) = suc (suc (suc k))
+
+abbrev pub swapped : List (ℕ × ℕ) → List (ℕ × ℕ)
+swapped [] = []
+swapped (p ∷ ps) = (swapKind (p .0), p .1) ∷ swapped ps
+
+-- "The count of pairs is answered"
+abbrev pub comparedSays : Compared → Said ℕ
+comparedSays (Pairs n) = gives n
+comparedSays (NotCompared w r) = told r
+
+-- "with which one it was": 1 the first font's refusal, 2 the second's, 0 neither's
+abbrev pub whoseRefusal : Compared → ℕ
+whoseRefusal (Pairs n) = 0
+whoseRefusal (NotCompared w r) = w
+
+-- "Refusals: the first font's, else the second's; ROOM with the count of numbers needed", for a buffer of so many numbers and so many pairs
+abbrev pub CompareRows : List ℕ → List ℕ → ℕ → ℕ → Said ℕ → Type 0
+CompareRows s o room pairs =
+    Own s (λ f.
+    Own o (λ h.
+    Row (room < 2 * pairs) 21 (2 * pairs)
+    (λ a. a ≡ gives pairs)))
+
+-- what a comparison that found the pairs ps left of a buffer xs: "Other numbers in the buffer stay."
+pub record Listed (ps : List (ℕ × ℕ)) (xs out : List ℕ) : Type 0 where
+  pub front : take (2 * length ps) out ≡ numbers ps
+  pub behind : drop (2 * length ps) out ≡ drop (2 * length ps) xs
+  pub whole : length out ≡ length xs

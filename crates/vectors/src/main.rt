@@ -5,6 +5,7 @@ use bitmap::GlyphMetrics;
 use bitmap::Part;
 use bitmap::Pixel;
 use convert::Converted;
+use differences::Compared;
 use edit::Edited;
 use entries::Metrics;
 use header::Checked;
@@ -20,7 +21,7 @@ ghost use mathlib.Core.Path.{_≡_};
 ghost use Prim.Native.Nat.{_<_, _≤_};
 ghost use lib.ListN.{length};
 
-// Where the script is read, how long the current file is, and how long the last good conversion's output.
+// Where the script is read, how long the current file is, and how long the last good conversion's output, or the file kept since.
 struct Cursor {
     at: usize,
     len: usize,
@@ -699,6 +700,98 @@ fn change(script: &[u8], op: u8, file: &mut [u8], c: Cursor) -> Cursor {
     }
 }
 
+// A comparison of the file with the one that was kept, or of that with the file.
+fn differing(which: u8, file: &[u8], kept: &[u8], out: &mut [u32]) -> Compared {
+    if which == 0 {
+        return differences::compare(file, kept, out);
+    }
+    differences::compare(kept, file, out)
+}
+
+// Numbers, each after a blank.
+fn numbers(ns: &[u32]) {
+    let mut i = 0;
+    while i < ns.len() {
+        say(b" ");
+        decimal(base::size(ns[i]));
+        i += 1;
+    }
+}
+
+fn numbers_sum(ns: &[u32]) -> u64 {
+    let mut sum: u64 = 0;
+    let mut i = 0;
+    while i < ns.len() {
+        sum = (sum * 31 + wide(ns[i])) % 4294967291;
+        i += 1;
+    }
+    sum
+}
+
+fn compared(c: Compared, out: &[u32]) {
+    match c {
+        Compared::Pairs(n) => {
+            say(b"pairs ");
+            decimal(n);
+            let to = grown(out.len(), n, n);
+            numbers(&out[..to]);
+        }
+        Compared::Refused(font, r) => {
+            say(b"font ");
+            decimal(base::size(font));
+            say(b" ");
+            refused(r);
+        }
+    }
+}
+
+// A comparison in a buffer of numbers: its line.
+fn ask_differences(which: u8, file: &[u8], kept: &[u8], out: &mut [u32]) {
+    say(b"differences ");
+    decimal(base::size(base::wide(which)));
+    say(b" ");
+    decimal(out.len());
+    say(b" ");
+    let c = differing(which, file, kept, out);
+    compared(c, out);
+    say(b" sum ");
+    io::print_decimal(1, numbers_sum(out));
+    say(b"\n");
+}
+
+// The same in a buffer of `room` numbers, as far as there are so many.
+fn in_room(which: u8, file: &[u8], kept: &[u8], room: usize, out: &mut [u32]) {
+    let to = least(room, out.len());
+    ask_differences(which, file, kept, &mut out[..to]);
+}
+
+// The same with a buffer of A5A5A5A5s.
+fn in_numbers(which: u8, file: &[u8], kept: &[u8], room: usize) {
+    let mut out = [0xA5A5A5A5u32; 16400];
+    in_room(which, file, kept, room, &mut out);
+}
+
+// The records of comparisons: the current file is kept in place of the last output, or compared with what stands there.
+fn comparison(script: &[u8], op: u8, file: &[u8], out: &mut [u8], c: Cursor) -> Cursor {
+    if op == 0x24 {
+        put(file, out);
+        return Cursor {
+            at: grown(script.len(), c.at, 1),
+            len: file.len(),
+            last: least(file.len(), out.len()),
+        };
+    }
+    let a = part(script, c.at, 4);
+    let which = (byte(a, 1) % 256) as u8;
+    let last = least(c.last, out.len());
+    in_numbers(which, file, &out[..last], base::size(short_at(a, 2)));
+    Cursor {
+        at: grown(script.len(), c.at, 4),
+        len: file.len(),
+        last: last,
+    }
+}
+
 // The records of conversions: one more answer line, or the last output taken as the current file.
 fn exchange(script: &[u8], file: &mut [u8], out: &mut [u8], c: Cursor) -> Cursor {
     let a = part(script, c.at, 6);
@@ -737,6 +830,13 @@ fn is_edit(op: u8) -> bool {
     op < 0x24
 }
 
+fn is_comparison(op: u8) -> bool {
+    if op < 0x24 {
+        return false;
+    }
+    op < 0x26
+}
+
 // One record, if one is left.
 fn step(script: &[u8], file: &mut [u8], out: &mut [u8], c: Cursor) -> Cursor {
     let at = c.at;
@@ -755,10 +855,13 @@ fn step(script: &[u8], file: &mut [u8], out: &mut [u8], c: Cursor) -> Cursor {
     if is_edit(op) {
         return change(script, op, file, c);
     }
+    let len = least(c.len, file.len());
+    if is_comparison(op) {
+        return comparison(script, op, &file[..len], out, c);
+    }
     if is_exchange(op) {
         return exchange(script, file, out, c);
     }
-    let len = least(c.len, file.len());
     let n = ask(script, at, op, &file[..len]);
     Cursor {
         at: grown(script.len(), at, n),

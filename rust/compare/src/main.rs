@@ -9,6 +9,7 @@
 //! `compare lines FONTLOAD FILE..` runs the loading program on them (tools/try-loader).
 
 mod ask;
+mod differences;
 mod edits;
 mod files;
 mod fonts;
@@ -87,7 +88,7 @@ fn run_part(parts: &[Part], job: usize, tally: &mut Tally) {
     }
 }
 
-const SERIES: [Series; 13] = [
+const SERIES: [Series; 14] = [
     Series { name: "fonts", jobs: FONT_JOBS, run: |j, t| random(1, j, t, fonts::random_font) },
     Series { name: "tails", jobs: TAIL_JOBS, run: |j, t| random(2, j, t, fonts::random_tail) },
     Series { name: "junk", jobs: JUNK_JOBS, run: |j, t| random(3, j, t, fonts::junk) },
@@ -107,6 +108,7 @@ const SERIES: [Series; 13] = [
     Series { name: "tables in pieces", jobs: tables::EDGE_JOBS, run: tables::run_pieces },
     Series { name: "records", jobs: records::JOBS, run: records::run },
     Series { name: "edits", jobs: edits::JOBS, run: edits::run },
+    Series { name: "differences", jobs: differences::JOBS, run: differences::run },
     Series { name: "tables of 4 boundary bytes", jobs: tables::EDGE_JOBS, run: tables::run_edges },
     Series { name: "tables of up to 3 bytes", jobs: tables::JOBS, run: tables::run },
 ];

@@ -54,6 +54,13 @@ pub struct LavNumber {
     pub number: usize,
 }
 
+#[repr(C)]
+pub struct LavDifferences {
+    pub refusal: LavRefusal,
+    pub font: u32,
+    pub count: usize,
+}
+
 /// The bytes of a header, an entry, a value or a mark that has not come whole.
 #[repr(C)]
 #[derive(Debug, Clone, PartialEq, Eq)]
@@ -110,6 +117,7 @@ laid_out! {
     LavMetrics: 40 bytes, refusal 0, up 16, down 20, left 24, right 28, logical 32;
     LavItem: 24 bytes, refusal 0, kind 16, value 20;
     LavNumber: 24 bytes, refusal 0, number 16;
+    LavDifferences: 32 bytes, refusal 0, font 16, count 24;
     LavHeld: 40 bytes, len 0, bytes 8;
     LavSums: 24 bytes, broken 0, height 8, width 16;
     LavStanding: 32 bytes, ended 0, opened 8, halted 16, place 24;
@@ -143,6 +151,14 @@ extern "C" {
         g: usize,
         v: u32,
     ) -> LavNumber;
+    pub fn lav_differences(
+        first: *const u8,
+        first_len: usize,
+        second: *const u8,
+        second_len: usize,
+        pairs: *mut u32,
+        room: usize,
+    ) -> LavDifferences;
     pub fn lav_loader_fresh() -> LavLoader;
     pub fn lav_loader_feed(loader: *mut LavLoader, piece: *const u8, len: usize) -> LavRefusal;
     pub fn lav_loader_close(loader: *mut LavLoader) -> LavFont;

@@ -19,9 +19,11 @@
 use core::ops::Range;
 
 mod boundary;
+mod differences;
 mod loader;
 mod refusal;
 use boundary::*;
+pub use differences::{differences, Difference, Differences, NotCompared, Which};
 pub use loader::Loader;
 pub use refusal::{Reason, Refusal};
 

@@ -93,7 +93,7 @@ reasons! {
     /// The output, or the edited font, would be over 1,048,576 bytes; place 0.
     20 Size "size",
     /// The lent buffer is shorter than the output, or than the edited font; place: the size
-    /// needed.
+    /// needed. Of `differences`: it has fewer numbers than are needed; place: their count.
     21 Room "room",
     /// A piece or a close for a loader that is closed, which stays as it was; place 0.
     22 Late "late",
@@ -107,7 +107,8 @@ reasons! {
 }
 
 /// Why a call is refused, and where: `place` is an offset in the file, 0 where there is
-/// nothing to point at, the size needed for `Reason::Room`.
+/// nothing to point at, the size needed for `Reason::Room` (of `differences`: the count of
+/// numbers needed).
 #[derive(Debug, Clone, Copy, PartialEq, Eq, Hash)]
 pub struct Refusal {
     pub reason: Reason,

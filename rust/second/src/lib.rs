@@ -7,12 +7,14 @@
 //! - `ask`: questions on glyphs and on the table, refusals 13 to 16
 //! - `convert`: the four conversions, refusals 17 to 21
 //! - `edit`: adding and dropping a mapping, refusals 24 and 25
+//! - `differences`: what differs between two fonts
 //! - `lister`: the text of the listing program
 //! - `loader`: the check of a font that arrives in pieces, refusals 22 and 23, and the
 //!   text of the program that reads them
 
 mod ask;
 mod convert;
+mod differences;
 mod edit;
 mod font;
 mod lister;
@@ -21,6 +23,10 @@ pub mod table;
 
 pub use ask::{find_sequence, find_value, glyph, metrics, pixel, row, walk};
 pub use convert::{psf1_to_psf2, psf2_to_psf1, psf2_to_vfont2, vfont2_to_psf2};
+pub use differences::{
+    differences, NotCompared, ITEMS_DIFFER, METRICS_DIFFER, ONLY_IN_FIRST, ONLY_IN_SECOND,
+    PIXELS_DIFFER, TABLE_DIFFERS,
+};
 pub use edit::{add_mapping, drop_mapping};
 pub use font::{check, Entry, Font, Kind};
 pub use lister::{first_line, list};

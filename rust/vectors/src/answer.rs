@@ -1,7 +1,7 @@
 //! Runs a script with the second implementation and gives the expected text.
 
 use crate::script::*;
-use second::{Font, Item, Loader, Refusal};
+use second::{Font, Item, Loader, NotCompared, Refusal};
 use std::fmt::Write;
 
 type Conversion = fn(&[u8], &mut [u8]) -> Result<usize, Refusal>;
@@ -34,6 +34,19 @@ pub fn edited(
     (buffer, answer)
 }
 
+/// The numbers behind a comparison of the two fonts, and what it answers.
+pub fn compared(
+    which: u8,
+    file: &[u8],
+    kept: &[u8],
+    room: usize,
+) -> (Vec<u32>, Result<usize, NotCompared>) {
+    let mut numbers = vec![0xA5A5_A5A5; room];
+    let (first, second) = if which == 0 { (file, kept) } else { (kept, file) };
+    let answer = second::differences(first, second, &mut numbers);
+    (numbers, answer)
+}
+
 /// Takes arguments off the front of the script.
 struct Reader<'a>(&'a [u8]);
 
@@ -49,8 +62,8 @@ impl<'a> Reader<'a> {
     }
 }
 
-pub fn checksum(buffer: &[u8]) -> u64 {
-    buffer.iter().fold(0, |s, &b| (s * 31 + b as u64) % 4_294_967_291)
+pub fn checksum<T: Copy + Into<u64>>(buffer: &[T]) -> u64 {
+    buffer.iter().fold(0, |s, &n| (s * 31 + n.into()) % 4_294_967_291)
 }
 
 fn refused(r: Refusal) -> String {
@@ -106,7 +119,7 @@ pub fn answer(script: &[u8]) -> (String, usize, usize) {
     let mut last: Vec<u8> = Vec::new();
     while !script.0.is_empty() {
         let op = script.number(1) as u8;
-        if (CHECK..=DROP).contains(&op) && op != TAKE || LOAD <= op {
+        if (CHECK..=DIFFERENCES).contains(&op) && op != TAKE && op != KEEP || LOAD <= op {
             questions += 1;
             asked += file.len();
         }
@@ -240,6 +253,22 @@ pub fn answer(script: &[u8]) -> (String, usize, usize) {
                     Err(r) => refused(r),
                 };
                 writeln!(text, "{name} {room} {len} {g} {v:X} {words} sum {sum}").unwrap();
+            }
+            KEEP => last = file.clone(),
+            DIFFERENCES => {
+                let which = script.number(1) as u8;
+                let room = script.number(2) as usize;
+                assert!(room <= MOST_NUMBERS);
+                let (numbers, answer) = compared(which, &file, &last, room);
+                let words = match answer {
+                    Ok(count) => {
+                        let numbers = numbers[..2 * count].iter().map(|n| format!(" {n}"));
+                        format!("pairs {count}{}", numbers.collect::<String>())
+                    }
+                    Err(e) => format!("font {} {}", e.font, refused(e.refusal)),
+                };
+                writeln!(text, "differences {which} {room} {words} sum {}", checksum(&numbers))
+                    .unwrap();
             }
             _ => panic!("no such op: {op:02X}"),
         }

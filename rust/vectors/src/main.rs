@@ -1,9 +1,11 @@
-//! Writes five corpora of questions and expected answers: OUTDIR/fonts/{stdin,stdout},
-//! and likewise OUTDIR/conversions, OUTDIR/metrics, OUTDIR/loads and OUTDIR/edits.
+//! Writes six corpora of questions and expected answers: OUTDIR/fonts/{stdin,stdout},
+//! and likewise OUTDIR/conversions, OUTDIR/metrics, OUTDIR/loads, OUTDIR/edits and
+//! OUTDIR/differences.
 //! With the word `answer` alone: answers a script from standard input.
 
 mod answer;
 mod conversions;
+mod differences;
 mod edits;
 mod fonts;
 mod loads;
@@ -39,4 +41,5 @@ fn main() {
     write(&out.join("metrics"), &metrics::script());
     write(&out.join("loads"), &loads::script());
     write(&out.join("edits"), &edits::script());
+    write(&out.join("differences"), &differences::script());
 }

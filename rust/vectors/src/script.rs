@@ -25,11 +25,20 @@ pub const TAKE: u8 = 0x21;
 pub const ADD: u8 = 0x22;
 /// The same, but the mapping is dropped.
 pub const DROP: u8 = 0x23;
+/// The current file is kept, in place of the last good conversion's output.
+pub const KEEP: u8 = 0x24;
+/// A byte and a room of two bytes: what differs between the current file and the one that was
+/// kept or converted last (0), or between that and the current file (1), in a buffer of so many
+/// numbers, all of them A5A5A5A5.
+pub const DIFFERENCES: u8 = 0x25;
 /// This and the 63 after it: the file in pieces of 1 to 63 bytes; this one alone: in one.
 pub const LOAD: u8 = 0x40;
 
 /// The longest current file and the longest buffer.
 pub const LONGEST: usize = 1_048_640;
+
+/// The most numbers in a buffer of differences.
+pub const MOST_NUMBERS: usize = 16_400;
 
 pub struct Script {
     pub bytes: Vec<u8>,
@@ -189,6 +198,7 @@ impl Script {
         self.bytes.extend_from_slice(&[CONVERT, which]);
         self.bytes.extend_from_slice(&(room as u32).to_le_bytes());
         let mut out = vec![0xA5; room];
+        self.last = None;
         let length = crate::answer::conversion(which)(&self.file, &mut out).ok()?;
         out.truncate(length);
         self.last = Some(out);
@@ -218,6 +228,21 @@ impl Script {
 
     pub fn drop(&mut self, room: usize, len: usize, g: usize, v: u32) {
         self.edit(DROP, room, len, g, v);
+    }
+
+    pub fn keep(&mut self) {
+        self.bytes.push(KEEP);
+        self.last = Some(self.file.clone());
+    }
+
+    /// Asks what differs and gives how many numbers it takes, unless a font is refused.
+    pub fn differences(&mut self, which: u8, room: usize) -> Option<usize> {
+        assert!(room <= MOST_NUMBERS);
+        self.bytes.extend_from_slice(&[DIFFERENCES, which]);
+        self.bytes.extend_from_slice(&(room as u16).to_le_bytes());
+        let kept = self.last.as_ref().expect("a kept font");
+        let (_, answer) = crate::answer::compared(which, &self.file, kept, MOST_NUMBERS);
+        answer.ok().map(|count| 2 * count)
     }
 
     // from here on: several records at once
@@ -293,5 +318,42 @@ impl Script {
         let len = self.file.len();
         self.drop(len + 9, len, g, v);
         assert!(self.file.len() < len, "a refused edit");
+    }
+
+    /// What differs, both ways: with a number to spare, and with just the room.
+    pub fn compare(&mut self) -> usize {
+        let before = self.bytes.len();
+        let need = self.differences(0, 0).expect("two sound fonts");
+        self.bytes.truncate(before);
+        self.differences(0, need + 1);
+        self.differences(1, need);
+        need
+    }
+
+    /// The same, and with one number less, and with none.
+    pub fn compare_rooms(&mut self) {
+        let need = self.compare();
+        for room in [need.saturating_sub(1), 0] {
+            self.differences(0, room);
+            self.differences(1, room);
+        }
+    }
+
+    /// What differs between the kept font and the current file with some bytes changed; the
+    /// change is taken back.
+    pub fn compare_with(&mut self, changes: &[(usize, &[u8])]) {
+        let before = self.file.clone();
+        for (at, bytes) in changes {
+            self.put(*at, bytes);
+        }
+        self.compare();
+        self.put(0, &before);
+    }
+
+    /// One of the fonts is refused, whatever the room.
+    pub fn neither_compared(&mut self) {
+        for (which, room) in [(0, 3), (1, 3), (0, 0)] {
+            assert!(self.differences(which, room).is_none(), "two sound fonts");
+        }
     }
 }

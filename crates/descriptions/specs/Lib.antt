@@ -1,0 +1,2 @@
+-- Two descriptions, side by side.
+pub mod Reading

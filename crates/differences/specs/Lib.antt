@@ -1,0 +1,3 @@
+-- The differences of two fonts.
+pub mod Meaning
+pub mod Reading

@@ -1,0 +1,2 @@
+-- One glyph of two fonts.
+pub mod Reading

@@ -1,0 +1,2 @@
+-- Two bitmaps compared by their pixels.
+pub mod Reading
