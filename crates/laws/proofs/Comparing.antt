@@ -3,7 +3,7 @@ use mathlib.Core.Path.{_≡_, refl, sym, _∙_, ap, subst}
 use mathlib.Core.Logic.{_⊎_, inl, inr, _↔_}
 use mathlib.Core.Bool.{Bool, true, false}
 use mathlib.Core.List.{List, [], _∷_}
-use Prim.Native.Nat.{ℕ, zero, suc, _*_, _≤_, _<_}
+use Prim.Native.Nat.{ℕ, zero, suc, _+_, _*_, _≤_, _<_}
 use native.Mathlib.Omega.{arith}
 use lib.Dec.{ltb}
 use lib.ListN.{length, drop}
@@ -20,13 +20,14 @@ use Rattle.header.specs.declared.Font.{Font}
 use Rattle.header.specs.declared.Checked.{Checked}
 use Rattle.header.specs.declared.Checked.the-variants.{Sound, Refused}
 use Rattle.stages.specs.Reading.{checkOf}
+use Rattle.content.proofs.Source.{is-placed}
 use Rattle.content.specs.Meaning.{Content, HasContent, SameContent}
 use Rattle.differences.specs.declared.Compared.{Compared}
 use Rattle.differences.specs.declared.Compared.the-variants.{Pairs, Refused as NotCompared}
 use Rattle.differences.specs.Meaning.{numbers}
 use Rattle.differences.specs.Reading.{pairsOf, fitted, comparedWith, comparedBy, compareAnswer, foundWith, foundBy, differencesOf, leftBy, compareInto}
 use Rattle.differences.proofs.Pairs.{numbers-length}
-use Rattle.differences.proofs.Cases.{no-room, has-room}
+use Rattle.differences.proofs.Cases.{no-room, has-room, pairs-most}
 use Rattle.laws.specs.Meaning.{Exact, gives, refuses, told, Before, Each, Ordered, swapped, comparedSays, whoseRefusal, CompareRows, Listed}
 use Rattle.laws.proofs.Exactly.{is, row, own-first, less, clash}
 use Rattle.laws.proofs.Pairing.{In}
@@ -158,6 +159,13 @@ module _ (s o xs : List ℕ) where
       go (Refused r) z a b = absurd (refused-not (Pairs n) 1 r (first-refused s o (length xs) r a))
       go (Sound f) (Refused r) a b = absurd (refused-not (Pairs n) 2 r (second-refused s o (length xs) f r a b))
       go (Sound f) (Sound h) a b = room-or-not f h a b (below (length xs) (2 * length (differencesOf s o)))
+
+-- no more pairs than glyphs together
+pub count-most : (s o : List ℕ) (f h : Font) → Bytes s → Bytes o → checkOf s ≡ Sound f → checkOf o ≡ Sound h → length (differencesOf s o) ≤ f .count + h .count
+unfolding differencesOf
+count-most s o f h ys yo e q =
+    let d : differencesOf s o ≡ pairsOf s f o h = ap (foundBy s o) e ∙ ap (foundWith s f o) q in
+    omega (arith, ap length d, pairs-most s f o h (is-placed s f ys e .1) (is-placed o h yo q .1))
 
 -- no pair comes twice in a list that is in order
 not-before : (p : ℕ × ℕ) → Before p p → ⊥

@@ -4,7 +4,7 @@
 use mathlib.Core.Path.{_≡_, _∙_, ap}
 use mathlib.Core.Logic.{_↔_}
 use mathlib.Core.List.{List}
-use Prim.Native.Nat.{ℕ}
+use Prim.Native.Nat.{ℕ, _+_, _≤_}
 use lib.ListN.{length, take}
 use Rattle.base.specs.Meaning.{Bytes}
 use Rattle.refusal.specs.declared.Refusal.{Refusal}
@@ -46,6 +46,10 @@ module _ (s o xs : List ℕ) where
   -- one that answers n found n pairs and wrote them to the buffer's front: "Other numbers in the buffer stay."
   pub compare-listed : (n : ℕ) → comparedSays (compareAnswer s o (length xs)) ≡ gives n → (n ≡ length (differencesOf s o)) × Listed (differencesOf s o) xs (compareInto s o xs)
   compare-listed = comparing.listed s o xs
+
+-- two fonts have no more pairs than glyphs together, so two numbers for each glyph of both are always room enough
+pub count-most : (s o : List ℕ) (f h : Font) → Bytes s → Bytes o → checkOf s ≡ Sound f → checkOf o ≡ Sound h → length (differencesOf s o) ≤ f .count + h .count
+count-most = comparing.count-most
 
 -- of two sound fonts, by their contents
 module _ (s : List ℕ) (ys : Bytes s) (m : Content) (a : HasContent s m) (o : List ℕ) (yo : Bytes o) (m' : Content) (b : HasContent o m') where
