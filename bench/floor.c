@@ -1,4 +1,4 @@
-// A plain C reading of document 01's checks and value lookup for PSF1 and PSF2, without allocation: a floor to hold speeds against.
+// A plain C reading of document 01's checks and value lookup, with document 02's values, for PSF1 and PSF2, without allocation: a floor to hold speeds against.
 //   gcc -O2 -o floor floor.c && ./floor FONT ROUNDS [HEX]
 // prints the check's number and place, and the best time of a check and of a lookup of the value HEX (10FFF0, which finds nothing, if none is given).
 // Instructions: valgrind --tool=callgrind --toggle-collect=check (or =lookup) ./floor FONT 1
@@ -16,6 +16,9 @@ typedef struct {
 } Font;
 
 static uint32_t le32(const uint8_t *b) { return b[0] | b[1] << 8 | b[2] << 16 | (uint32_t)b[3] << 24; }
+
+// FDD0 to FDEF, and the last two of each plane: no values.
+static inline int noncharacter(uint32_t v) { return v - 0xFDD0 < 0x20 || (v & 0xFFFE) == 0xFFFE; }
 
 // One token at *at; past it on success, at the offending byte where it is bad.
 static inline int utf8_token(const uint8_t *t, size_t n, size_t *at, uint32_t *value) {
@@ -38,6 +41,7 @@ static inline int utf8_token(const uint8_t *t, size_t n, size_t *at, uint32_t *v
         hi = 0xBF;
         v = v << 6 | (c & 63);
     }
+    if (more > 1 && noncharacter(v)) { *at += more; return BAD; }
     *at += more + 1;
     *value = v;
     return VALUE;
@@ -49,6 +53,7 @@ static inline int psf1_token(const uint8_t *t, size_t n, size_t *at, uint32_t *v
     *at += 2;
     if (v == 0xFFFF) return END;
     if (v == 0xFFFE) return START;
+    if (noncharacter(v)) { --*at; return BAD; }
     *value = v;
     return VALUE;
 }

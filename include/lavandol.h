@@ -25,6 +25,10 @@
  * pass.
  *
  * Numbers in the files are little endian. Glyphs, rows, columns and items are counted from 0.
+ *
+ * A value in a Unicode table is a code point that is no noncharacter (FDD0 to FDEF, and the last two of each plane: FFFE, FFFF, 1FFFE and so on
+ * to 10FFFF). In PSF1 it is 0000 to FFFD, surrogates included; in PSF2 and vfont2, whose values are UTF-8, it is no surrogate. A font whose
+ * table has any other is refused, so no lookup finds a noncharacter and no walk gives one.
  */
 #ifndef LAVANDOL_H
 #define LAVANDOL_H
@@ -65,20 +69,21 @@ enum {
     LAV_ENTRY = 9,       /* a vfont2 entry breaks a rule (place: the first such entry's start); then the greatest height (24) or
                             width (28) in the header is not the entries' */
     LAV_TABLE_CUT = 10,  /* the Unicode table ends too early, but more bytes could complete it; place: the file's length */
-    LAV_TABLE_BAD = 11,  /* no table begins so; place: the first byte after the longest part that could still be completed */
+    LAV_TABLE_BAD = 11,  /* no table begins so; place: the first byte after the longest part that could still be completed, so the last
+                            byte of a noncharacter */
     LAV_TRAILING = 12,   /* bytes after a complete table, or after the bitmaps of a font without one; place: the first such byte */
 
     LAV_ASK = 13,        /* the question's fault: glyph, item, row or column number too high, value above 10FFFF, empty sequence; of an
-                            edit also a surrogate, or a font's length above the buffer's; place 0 */
+                            edit also a surrogate, or a font's length above the buffer's; of an add also a noncharacter; place 0 */
     LAV_NO_TABLE = 14,   /* a walk, lookup or edit on a font without a Unicode table; place 0 */
-    LAV_UNMAPPED = 15,   /* no glyph lists it; place 0 */
+    LAV_UNMAPPED = 15,   /* no glyph lists it, as of a noncharacter always; place 0 */
     LAV_NO_GLYPH = 16,   /* a bitmap or metrics asked of a vfont2 entry of size 0; place 0 */
 
     LAV_WRONG_KIND = 17, /* the conversion wants another kind, an edit wants PSF2; place 0 */
     LAV_GLYPHS = 18,     /* the target can't have these glyphs; to PSF1: not 256 or 512 of them (place 16), then width not 8 (28);
                             vfont2 to PSF2: place is the start of the first entry that has no glyph or whose five metrics are not
                             (greatest height, 0, 0, greatest width, greatest width) */
-    LAV_VALUE = 19,      /* the target can't have a value: a surrogate (PSF1 to PSF2), above FFFD (to PSF1); place: its first byte */
+    LAV_VALUE = 19,      /* the target can't have a value: a surrogate (PSF1 to PSF2), above FFFF (to PSF1); place: its first byte */
     LAV_SIZE = 20,       /* the output, or the edited font, would be over 1,048,576 bytes; place 0 */
     LAV_ROOM = 21,       /* the lent buffer is shorter than the output, or than the edited font; place: the size needed, in bytes; of
                             lav_differences: it has fewer numbers than the pairs; place: the count of numbers needed */
@@ -87,7 +92,7 @@ enum {
     LAV_LINE = 23,       /* no call gives it: the program fontload does, for a line that is no frame; place: the line's number, from 1 */
 
     LAV_HAVE = 24,       /* the glyph lists the value that is to be added as a single already; place 0 */
-    LAV_NOT_THERE = 25   /* the glyph does not list the value that is to be dropped as a single; place 0 */
+    LAV_NOT_THERE = 25   /* the glyph does not list the value that is to be dropped as a single, as of a noncharacter always; place 0 */
 };
 
 /* Kinds of font (`kind` of lav_font). */
@@ -300,13 +305,16 @@ lav_metrics_answer lav_metrics(const uint8_t *file, size_t file_len, size_t g);
  */
 lav_item_answer lav_item(const uint8_t *file, size_t file_len, size_t g, size_t k);
 
-/* The lowest glyph that lists value v as a single. Refusals: 1 to 12, NO_TABLE, ASK (v above 10FFFF), UNMAPPED. */
+/*
+ * The lowest glyph that lists value v as a single. Refusals: 1 to 12, NO_TABLE, ASK (v above 10FFFF), UNMAPPED (also where v is a
+ * noncharacter, or a surrogate in PSF2 and vfont2).
+ */
 lav_number lav_find_value(const uint8_t *file, size_t file_len, uint32_t v);
 
 /*
  * The lowest glyph that lists the sequence: after some start mark, exactly these values up to the next mark. A sequence of one value
  * is not a single. `values` must not be NULL, also where value_count is 0. Refusals: 1 to 12, NO_TABLE, ASK (no values, or one above
- * 10FFFF), UNMAPPED.
+ * 10FFFF), UNMAPPED (also where one is a noncharacter).
  */
 lav_number lav_find_sequence(const uint8_t *file, size_t file_len, const uint32_t *values, size_t value_count);
 
@@ -327,7 +335,7 @@ lav_number lav_find_sequence(const uint8_t *file, size_t file_len, const uint32_
 lav_number lav_psf1_to_psf2(const uint8_t *file, size_t file_len, uint8_t *out, size_t out_len);
 
 /*
- * GLYPHS: not 256 or 512 glyphs, or width not 8. VALUE: above FFFD. The mode written is 1 for 512 glyphs plus 2 for a table: a PSF1 file of
+ * GLYPHS: not 256 or 512 glyphs, or width not 8. VALUE: above FFFF. The mode written is 1 for 512 glyphs plus 2 for a table: a PSF1 file of
  * mode 4 or 5 comes back from PSF2 as mode 2 or 3, with its other bytes as they were; one of mode 0 to 3 as it was.
  */
 lav_number lav_psf2_to_psf1(const uint8_t *file, size_t file_len, uint8_t *out, size_t out_len);
@@ -354,10 +362,10 @@ lav_number lav_vfont2_to_psf2(const uint8_t *file, size_t file_len, uint8_t *out
  * - ASK (len is above buffer_len);
  * - 1 to 12, of the first len bytes;
  * - WRONG_KIND (not PSF2), NO_TABLE;
- * - ASK (no glyph g, v above 10FFFF, or v a surrogate, D800 to DFFF);
+ * - ASK (no glyph g, v above 10FFFF, or v a surrogate, D800 to DFFF; lav_add_mapping: also v a noncharacter);
  * - lav_add_mapping: HAVE (glyph g lists v as a single already), SIZE (the new font would be over 1,048,576 bytes), ROOM (the buffer is
  *   shorter than the new font; place: the new length);
- * - lav_drop_mapping: NOT_THERE (glyph g does not list v as a single; in a sequence it may).
+ * - lav_drop_mapping: NOT_THERE (glyph g does not list v as a single; in a sequence it may. A noncharacter is never there).
  */
 
 /* Adds value v to glyph g, behind its other singles and before its sequences. */

@@ -18,6 +18,10 @@ class Font:
     pass
 
 
+def noncharacter(v):
+    return 0xFDD0 <= v <= 0xFDEF or v & 0xFFFE == 0xFFFE
+
+
 def tokens(tail, unit):
     """Yields (sort, value, at, end); sort 'cut' or ('bad', place) last."""
     i, n = 0, len(tail)
@@ -29,6 +33,9 @@ def tokens(tail, unit):
                 return
             v = b | tail[i + 1] << 8
             sort = {0xFFFE: 'start', 0xFFFF: 'end'}.get(v, 'value')
+            if sort == 'value' and noncharacter(v):
+                yield 'bad', i + 1, i, i
+                return
             yield sort, v, i, i + 2
             i += 2
             continue
@@ -65,6 +72,8 @@ def tokens(tail, unit):
                 least, most = v << 6 * need, (v + 1 << 6 * need) - 1
                 # some value of this start must be long enough, no surrogate, in range
                 ok = most >= low and least <= 0x10FFFF and not (0xD800 <= least and most <= 0xDFFF)
+                # no noncharacter is another's start, so only its last byte is wrong
+                ok = ok and not (need == 0 and noncharacter(v))
             if not ok:
                 yield 'bad', i, at, i
                 return
@@ -312,7 +321,7 @@ def convert(f, which, room):
             if s in ('single', 'value'):
                 if which == 0 and v >> 11 == 0x1B:
                     no(19, at)
-                if which == 1 and v > 0xFFFD:
+                if which == 1 and v > 0xFFFF:
                     no(19, at)
                 t += struct.pack('<H', v) if which == 1 else put8(v)
             elif which == 1:
@@ -352,6 +361,8 @@ def edit(buf, length, g, v, add):
     if g >= o.n:
         no(13, 0)
     if v > 0x10FFFF or 0xD800 <= v <= 0xDFFF:
+        no(13, 0)
+    if add and noncharacter(v):
         no(13, 0)
     # where the singles end, and where those that are v stand
     stop, found = None, []

@@ -10,10 +10,10 @@ use lib.Seq.{sets}
 use Rattle.base.specs.Reading.{over}
 use Rattle.base.proofs.Over.{stores}
 use Rattle.utf8.specs.Meaning.{Scalar, utf8Bytes}
-use Rattle.utf8.specs.Reading.{isScalar}
+use Rattle.utf8.specs.Reading.{isUtf8Value}
 use Rattle.ucs2.specs.Meaning.{Word, wordBytes}
 use Rattle.ucs2.specs.Reading.{isWord}
-use Rattle.utf8.proofs.Written.{scalar-exactly}
+use Rattle.utf8.proofs.Written.{utf8-value-exactly}
 use Rattle.ucs2.proofs.Words.{word-exactly}
 use Rattle.coding.specs.Reading.{markLen, carriesOf}
 use Rattle.coding.specs.Meaning.{valueOf, valueBytes, startBytes, endBytes}
@@ -23,7 +23,7 @@ use Rattle.coding.specs.declared.Coding.the-variants.{Utf8, Ucs2}
 -- the test holds of the values and of nothing else
 pub carries-exactly : (c : Coding) (v : ℕ) → (carriesOf c v ≡ true) ↔ valueOf c v
 unfolding carriesOf valueOf
-carries-exactly Utf8 v = scalar-exactly v
+carries-exactly Utf8 v = utf8-value-exactly v
 carries-exactly Ucs2 v = word-exactly v
 
 -- what fails the test is no value
@@ -46,7 +46,7 @@ stored p xs vs e h = rw (← e) (refl, stores vs xs (rw (← e) at h))
 
 -- in UTF-8, and in PSF1's two bytes
 module _ (c : Coding) where
-  pub utf8-carries : (v : ℕ) → c ≡ Utf8 → isScalar v ≡ carriesOf c v
+  pub utf8-carries : (v : ℕ) → c ≡ Utf8 → isUtf8Value v ≡ carriesOf c v
   unfolding carriesOf
   utf8-carries v e = rw e
 
@@ -64,7 +64,7 @@ module _ (c : Coding) where
 
   pub utf8-scalar : (v : ℕ) → c ≡ Utf8 → valueOf c v → Scalar v
   unfolding valueOf
-  utf8-scalar v e p = rw e at p
+  utf8-scalar v e p = (rw e at p) .0
 
   pub ucs2-word : (v : ℕ) → c ≡ Ucs2 → valueOf c v → Word v
   unfolding valueOf

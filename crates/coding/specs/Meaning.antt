@@ -1,14 +1,14 @@
 -- What each coding has: its values, their bytes, and the marks.
 use mathlib.Core.List.{List, [], _∷_}
 use Prim.Native.Nat.{ℕ}
-use Rattle.utf8.specs.Meaning.{Scalar, utf8Bytes}
+use Rattle.utf8.specs.Meaning.{Utf8Value, utf8Bytes}
 use Rattle.ucs2.specs.Meaning.{Word, wordBytes}
 use Rattle.coding.specs.declared.Coding.{Coding}
 use Rattle.coding.specs.declared.Coding.the-variants.{Utf8, Ucs2}
 
 -- which numbers are values
 unfoldable pub valueOf : Coding → ℕ → Type 0
-valueOf Utf8 = Scalar
+valueOf Utf8 = Utf8Value
 valueOf Ucs2 = Word
 
 -- the bytes of a value

@@ -3,7 +3,7 @@ use mathlib.Core.List.{List}
 use Prim.Native.Nat.{ℕ}
 use mathlib.Core.Bool.{Bool}
 use Rattle.token.specs.declared.Token.{Token}
-use Rattle.utf8.specs.Reading.{readUtf8, isScalar}
+use Rattle.utf8.specs.Reading.{readUtf8, isUtf8Value}
 use Rattle.ucs2.specs.Reading.{readUcs2, isWord}
 use Rattle.coding.specs.declared.Coding.{Coding}
 use Rattle.coding.specs.declared.Coding.the-variants.{Utf8, Ucs2}
@@ -20,5 +20,5 @@ markLen Ucs2 = 2
 
 -- the same as a test
 unfoldable pub carriesOf : Coding → ℕ → Bool
-carriesOf Utf8 v = isScalar v
+carriesOf Utf8 v = isUtf8Value v
 carriesOf Ucs2 v = isWord v

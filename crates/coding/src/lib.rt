@@ -27,7 +27,7 @@ pub fn carries(c: Coding, v: u32) -> bool
     ensures { λ r. ⌜ r ≡ carriesOf c v ⌝ }
 {
     match c {
-        Coding::Utf8 => utf8::is_scalar(v),
+        Coding::Utf8 => utf8::is_utf8_value(v),
         Coding::Ucs2 => ucs2::is_word(v),
     }
 }

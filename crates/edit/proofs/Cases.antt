@@ -13,6 +13,7 @@ use Rattle.refusal.specs.Meaning.{refusal}
 use Rattle.refusal.specs.declared.Refusal.{Refusal}
 use Rattle.refusal.specs.declared.Reason.the-variants.{Ask, NoTable, Size, Room, Have, NotThere}
 use Rattle.coding.specs.declared.Coding.the-variants.{Utf8}
+use Rattle.token.specs.Reading.{isNoncharacter}
 use Rattle.utf8.specs.Meaning.{Scalar, utf8Bytes}
 use Rattle.utf8.specs.Reading.{isScalar}
 use Rattle.utf8.proofs.Written.{scalar-exactly}
@@ -32,7 +33,7 @@ use Rattle.edit.specs.declared.Sought.{Sought}
 use Rattle.edit.specs.declared.Sought.the-variants.{Listed, Unlisted, Refused as NotSought}
 use Rattle.edit.specs.declared.Edited.{Edited}
 use Rattle.edit.specs.declared.Edited.the-variants.{Length, Refused}
-use Rattle.edit.specs.Reading.{soughtAt, soughtOn, soughtIn, soughtOf, longer, fitted, leftBy, addAnswer, addInto, dropAnswer, dropInto}
+use Rattle.edit.specs.Reading.{soughtAt, soughtOn, soughtIn, soughtOf, longer, fitted, insertAnswer, leftBy, addAnswer, addInto, dropAnswer, dropInto}
 use Rattle.edit.specs.Bounds.{SoughtWithin, SoughtInside}
 
 -- a place within the table is one within the file
@@ -100,6 +101,16 @@ module _ (room len v n : ℕ) (e : n ≡ length (utf8Bytes v)) where
   unfolding fitted when
   fits h k = rw (← e, le-ltb limit (len + n) h, le-ltb room (len + n) k)
 
+-- 13 for a noncharacter, and the rest
+module _ (room len v : ℕ) where
+  pub asked : isNoncharacter v ≡ true → Refused (refusal Ask 0) ≡ insertAnswer room len v
+  unfolding insertAnswer when
+  asked e = rw e
+
+  pub unasked : isNoncharacter v ≡ false → fitted room (longer len v) ≡ insertAnswer room len v
+  unfolding insertAnswer when
+  unasked e = rw e
+
 -- what was moved up by the value's length, with its bytes put into the gap
 pub put : (s w ys : List ℕ) (len at v n : ℕ) → at ≤ len → len + n ≤ length s → n ≡ length (utf8Bytes v) → w ≡ laid (at + n) (slice at len s) s →
     ys ≡ laid at (utf8Bytes v) w → ys ≡ over (inserted at (utf8Bytes v) (take len s)) s
@@ -116,7 +127,7 @@ module _ (xs : List ℕ) (len g v : ℕ) where
   unfolding addAnswer addInto
   add-refused r e = (rw (sym e), rw (sym e))
 
-  pub add-put : (at : ℕ) (r : Edited) (ys : List ℕ) → Unlisted at ≡ soughtOf xs len g v → r ≡ fitted (length xs) (longer len v) →
+  pub add-put : (at : ℕ) (r : Edited) (ys : List ℕ) → Unlisted at ≡ soughtOf xs len g v → r ≡ insertAnswer (length xs) len v →
       ys ≡ leftBy r (inserted at (utf8Bytes v) (take len xs)) xs → (r ≡ addAnswer xs len g v) × (ys ≡ addInto xs len g v)
   unfolding addAnswer addInto
   add-put at r ys e q u = (rw (sym e) q, rw (sym e) (u ∙ ap (λ (x : Edited). leftBy x (inserted at (utf8Bytes v) (take len xs)) xs) q))

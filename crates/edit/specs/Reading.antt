@@ -1,5 +1,5 @@
 -- What the edits answer, and what they leave in the buffer (document 02, W4): "ASK also for L beyond the buffer (before all others)"; "Order:
--- the font's, 17, 14, 13, 24 or 25, 20, 21."
+-- the font's, 17, 14, 13, 24 or 25, 20, 21." And W6: "adding one is ASK."
 use Prim.Native.Nat.{ℕ, _+_, _-_}
 use mathlib.Core.List.{List, _++_}
 use lib.Dec.{ltb, leb}
@@ -9,6 +9,7 @@ use Rattle.base.specs.Reading.{when, over}
 use Rattle.refusal.specs.Meaning.{refusal}
 use Rattle.refusal.specs.declared.Reason.the-variants.{Ask, NoTable, Size, Room, Have, NotThere}
 use Rattle.coding.specs.declared.Coding.the-variants.{Utf8}
+use Rattle.token.specs.Reading.{isNoncharacter}
 use Rattle.utf8.specs.Meaning.{utf8Bytes}
 use Rattle.utf8.specs.Reading.{isScalar}
 use Rattle.header.specs.declared.Kind.the-variants.{Psf2}
@@ -57,10 +58,14 @@ longer len v = len + length (utf8Bytes v)
 unfoldable pub fitted : ℕ → ℕ → Edited
 fitted room need = when (ltb limit need) (Refused (refusal Size 0)) (when (ltb room need) (Refused (refusal Room need)) (Length need))
 
+-- adding v to a font of len bytes that does not list it: a noncharacter is ASK
+unfoldable pub insertAnswer : ℕ → ℕ → ℕ → Edited
+insertAnswer room len v = when (isNoncharacter v) (Refused (refusal Ask 0)) (fitted room (longer len v))
+
 -- what adding v to a font of len bytes answers
 abbrev pub adding : ℕ → ℕ → ℕ → Sought → Edited
 adding room len v (Listed at next) = Refused (refusal Have 0)
-adding room len v (Unlisted at) = fitted room (longer len v)
+adding room len v (Unlisted at) = insertAnswer room len v
 adding room len v (NotSought r) = Refused r
 
 -- what dropping answers

@@ -17,7 +17,7 @@ ghost use Rattle.header.specs.Bounds.{Placed};
 ghost use Rattle.conversion.specs.Reading.{openedOf};
 ghost use Rattle.header.specs.declared.Kind.the-variants.{Psf2};
 ghost use Rattle.moves.specs.Reading.{inserted};
-ghost use Rattle.edit.specs.Reading.{soughtOn, soughtIn, soughtOf, longer, fitted, leftBy, addAnswer, addInto, dropAnswer, dropInto};
+ghost use Rattle.edit.specs.Reading.{soughtOn, soughtIn, soughtOf, insertAnswer, leftBy, addAnswer, addInto, dropAnswer, dropInto};
 ghost use Rattle.edit.specs.Bounds.{SoughtWithin, SoughtInside};
 
 // Where a glyph lists a value as a single, and the place after it; or where its singles end, which do not have it: offsets in the file; or the
@@ -81,13 +81,16 @@ fn sought_of(buf: &[u8], len: usize, g: usize, v: u32) -> Sought
     sought_in(&buf[..len], g, v)
 }
 
-// Refusals 20 and 21, or v's bytes put into the first `len` bytes at `at`, and the new length. Asks for a font within the limit and the buffer,
-// a place in it, and a value of UTF-8: what was sought is so.
+// ASK for a noncharacter, then refusals 20 and 21, or v's bytes put into the first `len` bytes at `at`, and the new length. Asks for a font within
+// the limit and the buffer, a place in it, and a scalar value: what was sought is so.
 fn insert(buf: &mut [u8], len: usize, at: usize, v: u32) -> Edited
     requires { ⌜ (len ≤ length (now buf)) × (at ≤ len) × (len ≤ limit) × Scalar v ⌝ }
-    ensures answer { λ r. ⌜ r ≡ fitted (length (now (buf .entry))) (longer len v) ⌝ }
+    ensures answer { λ r. ⌜ r ≡ insertAnswer (length (now (buf .entry))) len v ⌝ }
     ensures buffer { λ r. ⌜ now (buf .exit) ≡ leftBy r (inserted at (utf8Bytes v) (take len (now (buf .entry)))) (now (buf .entry)) ⌝ }
 {
+    if token::is_noncharacter(v) {
+        return Edited::Refused(refusal::refuse(Reason::Ask, 0));
+    }
     let n = utf8::len_utf8(v);
     let need = len + n;
     if header::LIMIT < need {
@@ -103,8 +106,8 @@ fn insert(buf: &mut [u8], len: usize, at: usize, v: u32) -> Edited
 
 // Adds the value v to glyph g of the PSF2 font in the first `len` bytes of the buffer, as its last single; the font's new length is answered.
 // Every other item of every description, header, bitmaps and what stands behind the new font stay as they were.
-// Refusals: ASK for a length beyond the buffer; the font's own (1 to 12); WRONG KIND; NO TABLE; ASK for the glyph, a value above 10FFFF or a
-// surrogate; HAVE; SIZE; ROOM. A refused call leaves the buffer as it was.
+// Refusals: ASK for a length beyond the buffer; the font's own (1 to 12); WRONG KIND; NO TABLE; ASK for the glyph, a value above 10FFFF, a
+// surrogate or a noncharacter; HAVE; SIZE; ROOM. A refused call leaves the buffer as it was.
 pub fn add_mapping(buf: &mut [u8], len: usize, g: usize, v: u32) -> Edited
     ensures answer { λ r. ⌜ r ≡ addAnswer (now (buf .entry)) len g v ⌝ }
     ensures buffer { λ _. ⌜ now (buf .exit) ≡ addInto (now (buf .entry)) len g v ⌝ }
@@ -121,7 +124,7 @@ pub fn add_mapping(buf: &mut [u8], len: usize, g: usize, v: u32) -> Edited
 // answered. Every other item of every description, header, bitmaps and what stands behind the old font stay as they were; the bytes freed
 // become 0.
 // Refusals: ASK for a length beyond the buffer; the font's own (1 to 12); WRONG KIND; NO TABLE; ASK for the glyph, a value above 10FFFF or a
-// surrogate; NOT THERE. A refused call leaves the buffer as it was.
+// surrogate; NOT THERE, as for any noncharacter. A refused call leaves the buffer as it was.
 pub fn drop_mapping(buf: &mut [u8], len: usize, g: usize, v: u32) -> Edited
     ensures answer { λ r. ⌜ r ≡ dropAnswer (now (buf .entry)) len g v ⌝ }
     ensures buffer { λ _. ⌜ now (buf .exit) ≡ dropInto (now (buf .entry)) len g v ⌝ }

@@ -146,8 +146,8 @@ pub extern "C" fn lav_vfont2_to_psf2(file: &[u8], out: &mut [u8]) -> LavNumber
 
 // Adds the value v to glyph g of the PSF2 font in the first len bytes of buf, as its last single: the font's new length. A refused call leaves
 // buf as it was.
-// Refusals: ASK for a length beyond the buffer, the font's own (1 to 12), WRONG KIND, NO TABLE, ASK for the glyph, a value above 10FFFF or a
-// surrogate, HAVE, SIZE, ROOM.
+// Refusals: ASK for a length beyond the buffer, the font's own (1 to 12), WRONG KIND, NO TABLE, ASK for the glyph, a value above 10FFFF, a
+// surrogate or a noncharacter, HAVE, SIZE, ROOM.
 #[no_mangle]
 pub extern "C" fn lav_add_mapping(buf: &mut [u8], len: usize, g: usize, v: u32) -> LavNumber
     ensures answer { λ r. ⌜ r ≡ editedAnswer (addAnswer (now (buf .entry)) len g v) ⌝ }
@@ -160,7 +160,7 @@ pub extern "C" fn lav_add_mapping(buf: &mut [u8], len: usize, g: usize, v: u32) 
 // Drops the first listing of v as a single of glyph g of the PSF2 font in the first len bytes of buf: the font's new length, and the bytes
 // freed are 0. A refused call leaves buf as it was.
 // Refusals: ASK for a length beyond the buffer, the font's own (1 to 12), WRONG KIND, NO TABLE, ASK for the glyph, a value above 10FFFF or a
-// surrogate, NOT THERE.
+// surrogate, NOT THERE, as for any noncharacter.
 #[no_mangle]
 pub extern "C" fn lav_drop_mapping(buf: &mut [u8], len: usize, g: usize, v: u32) -> LavNumber
     ensures answer { λ r. ⌜ r ≡ editedAnswer (dropAnswer (now (buf .entry)) len g v) ⌝ }

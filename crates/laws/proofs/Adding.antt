@@ -52,13 +52,13 @@ module _ (xs : List ℕ) (y : Bytes xs) (len g v n : ℕ) (r : AddGood xs y len 
   none-freed = omega (arith, r .grown)
 
   values : Readable Utf8 (added v g ds)
-  values = readable-added Utf8 v (scalar-value v (a .scalar)) g ds (a .values)
+  values = readable-added Utf8 v (scalar-value v (a .scalar) (r .character)) g ds (a .values)
 
   long : length new ≡ n
   long = longer-by xs y len g v ds a (r .gap) ∙ sym (r .grown)
 
   laid-new : out ≡ over new xs
-  laid-new = adds-into xs y len g v ds a (r .gap) (r .small) (r .room)
+  laid-new = adds-into xs y len g v ds a (r .gap) (r .character) (r .small) (r .room)
 
   laid : out ≡ over (new ++ replicate (len - n) 0) xs
   laid =

@@ -18,6 +18,9 @@ use Rattle.refusal.specs.declared.Refusal.{Refusal}
 use Rattle.coding.specs.declared.Coding.the-variants.{Utf8}
 use Rattle.coding.specs.Meaning.{valueOf, valueBytes}
 use Rattle.coding.proofs.Written.{utf8-value}
+use Rattle.token.specs.Meaning.{Noncharacter}
+use Rattle.token.specs.Reading.{isNoncharacter}
+use Rattle.token.proofs.Noncharacters.{noncharacter-exactly, noncharacter-no, no-noncharacter}
 use Rattle.utf8.specs.Meaning.{Scalar, utf8Bytes}
 use Rattle.utf8.specs.Reading.{isScalar}
 use Rattle.utf8.proofs.Written.{scalar-exactly}
@@ -44,10 +47,11 @@ use Rattle.edit.specs.declared.Sought.the-variants.{Listed, Unlisted, Refused a
 use Rattle.edit.specs.declared.Edited.{Edited}
 use Rattle.edit.specs.declared.Edited.the-variants.{Length, Refused}
 use Rattle.edit.proofs.Cases as cases
-use Rattle.edit.specs.Reading.{longer, soughtAt, soughtOn, soughtIn, soughtOf, fitted, adding, dropping, insertedAt, removedAt, leftBy, addAnswer, addInto, dropAnswer, dropInto}
+use Rattle.edit.specs.Reading.{longer, soughtAt, soughtOn, soughtIn, soughtOf, fitted, insertAnswer, adding, dropping, insertedAt, removedAt, leftBy, addAnswer, addInto, dropAnswer, dropInto}
 use Rattle.laws.specs.Meaning.{Exact, Said, gives, refuses, editedSays, In, given, skipped, own as own-given, sound as sound-given, reads, EditRows, AddLast, AddRows, DropLast, DropRows}
 use Rattle.laws.proofs.Exactly.{is, row, own-first, reading-of, less, at-most, either}
 use Rattle.laws.proofs.Asking.{described, bare-or, not-bare}
+use Rattle.laws.proofs.Listed.{no-value, listed-value}
 use Rattle.laws.proofs.Refusing.{alike, not-alike, wrong-or, not-wrong}
 use Rattle.laws.proofs.Retabled.{front-long, Editable}
 
@@ -90,6 +94,13 @@ fit-scalar v n = go (below v 0xD800) (below v 0xE000) (below 0x10FFFF v)
     go (inr l) (inl m) c = absurd (n (inr (l, omega arith)))
     go (inr l) (inr m) (inl h) = absurd (n (inl h))
     go (inr l) (inr m) (inr h) = inr (m, omega arith)
+
+noncharacter-or : (v : ℕ) → Noncharacter v ⊎ (Noncharacter v → ⊥)
+noncharacter-or v = go (isNoncharacter v) refl
+  where
+    go : (t : Bool) → isNoncharacter v ≡ t → Noncharacter v ⊎ (Noncharacter v → ⊥)
+    go true e = inl (noncharacter-exactly v .0 e)
+    go false e = inr (noncharacter-no v e)
 
 -- a list by its first bytes, a part behind them, and the rest
 split-behind : (s front rest : List ℕ) (end : ℕ) → end ≤ length s → drop end s ≡ front ++ rest → (s ≡ take end s ++ front ++ rest) × (length (take end s ++ front) ≡ end + length front)
@@ -166,9 +177,9 @@ pub no-refusal : {A : Type 0} {n p q : ℕ} → _≡_ {A = Said ℕ} (gives n) (
 no-refusal e = let z : _≡_ {A = ℕ} 0 1 = cc in absurd (omega arith)
 
 -- a value of UTF-8
-pub scalar-value : (v : ℕ) → Scalar v → valueOf Utf8 v
+pub scalar-value : (v : ℕ) → Scalar v → (Noncharacter v → ⊥) → valueOf Utf8 v
 unfolding valueOf
-scalar-value v p = p
+scalar-value v p n = (p, n)
 
 module _ (xs : List ℕ) (y : Bytes xs) (len g v : ℕ) where
   abbrev size : ℕ
@@ -282,21 +293,28 @@ module _ (xs : List ℕ) (y : Bytes xs) (len g v : ℕ) where
       not-there : dropAnswer xs len g v ≡ Refused (refusal NotThere 0)
       not-there = sym (cases.drop-none xs len g v to (sym sought-gap) .0)
 
-      put : (r : Edited) → r ≡ fitted (length xs) (longer len v) → (r ≡ addAnswer xs len g v) × (leftBy r (inserted to (utf8Bytes v) s) xs ≡ addInto xs len g v)
+      put : (r : Edited) → r ≡ insertAnswer (length xs) len v → (r ≡ addAnswer xs len g v) × (leftBy r (inserted to (utf8Bytes v) s) xs ≡ addInto xs len g v)
       put r e = cases.add-put xs len g v to r (leftBy r (inserted to (utf8Bytes v) s) xs) (sym sought-gap) e refl
 
-      too-large : limit < len + size → addAnswer xs len g v ≡ Refused (refusal Size 0)
-      too-large h = sym (put (Refused (refusal Size 0)) (cases.over-limit (length xs) len v size refl h) .0)
+      asks : Noncharacter v → addAnswer xs len g v ≡ Refused (refusal Ask 0)
+      asks o = sym (put (Refused (refusal Ask 0)) (cases.asked (length xs) len v (noncharacter-exactly v .1 o)) .0)
 
-      no-room : len + size ≤ limit → length xs < len + size → addAnswer xs len g v ≡ Refused (refusal Room (len + size))
-      no-room h k = sym (put (Refused (refusal Room (len + size))) (cases.no-room (length xs) len v size refl h k) .0)
+      -- of a value that is no noncharacter
+      put-value : (Noncharacter v → ⊥) → (r : Edited) → r ≡ fitted (length xs) (longer len v) → (r ≡ addAnswer xs len g v) × (leftBy r (inserted to (utf8Bytes v) s) xs ≡ addInto xs len g v)
+      put-value o r e = put r (e ∙ cases.unasked (length xs) len v (no-noncharacter v o))
 
-      adds : len + size ≤ limit → len + size ≤ length xs → addAnswer xs len g v ≡ Length (len + size)
-      adds h k = sym (put (Length (len + size)) (cases.fits (length xs) len v size refl h k) .0)
+      too-large : (Noncharacter v → ⊥) → limit < len + size → addAnswer xs len g v ≡ Refused (refusal Size 0)
+      too-large o h = sym (put-value o (Refused (refusal Size 0)) (cases.over-limit (length xs) len v size refl h) .0)
 
-      pub adds-into : len + size ≤ limit → len + size ≤ length xs → addInto xs len g v ≡ over (take end s ++ encode Utf8 (added v g ds)) xs
-      adds-into h k =
-          sym (put (Length (len + size)) (cases.fits (length xs) len v size refl h k) .1)
+      no-room : (Noncharacter v → ⊥) → len + size ≤ limit → length xs < len + size → addAnswer xs len g v ≡ Refused (refusal Room (len + size))
+      no-room o h k = sym (put-value o (Refused (refusal Room (len + size))) (cases.no-room (length xs) len v size refl h k) .0)
+
+      adds : (Noncharacter v → ⊥) → len + size ≤ limit → len + size ≤ length xs → addAnswer xs len g v ≡ Length (len + size)
+      adds o h k = sym (put-value o (Length (len + size)) (cases.fits (length xs) len v size refl h k) .0)
+
+      pub adds-into : (Noncharacter v → ⊥) → len + size ≤ limit → len + size ≤ length xs → addInto xs len g v ≡ over (take end s ++ encode Utf8 (added v g ds)) xs
+      adds-into o h k =
+          sym (put-value o (Length (len + size)) (cases.fits (length xs) len v size refl h k) .1)
           ∙ ap (λ (x : List ℕ). over x xs)
           (inserted-behind s (p .front) (utf8Bytes v) (p .back) end placed-end (a .same ∙ p .same)
           ∙ ap (λ (x : List ℕ). take end s ++ x) (ap (λ (x : List ℕ). p .front ++ (x ++ p .back)) (utf8-value Utf8 v refl) ∙ sym (p .more)))
@@ -306,14 +324,21 @@ module _ (xs : List ℕ) (y : Bytes xs) (len g v : ℕ) where
   unfolding addAnswer
   add-rows = edit-rows (adding (length xs) len v) (λ r. refl) (λ ds a. go ds a (either-way ds a))
     where
+      -- a glyph that lists v has it for a value
+      listed : (ds : List Desc) (a : Editable xs len g v ds) → Hole Utf8 v g ds → Noncharacter v → ⊥
+      listed ds a h = no-value Utf8 v (listed-value Utf8 ds (a .values) g (h .listed .description) (h .listed .here) v (h .listed .lists))
+
       go : (ds : List Desc) (a : Editable xs len g v ds) → Hole Utf8 v g ds ⊎ Gap Utf8 v g ds → Exact (editedSays (addAnswer xs len g v)) (λ b. AddLast xs len g v ds b)
-      go ds a (inl h) = row (inl (h .listed)) (λ l. ap editedSays (have ds a h)) (λ n. absurd (n (h .listed)))
+      go ds a (inl h) =
+          row (inr (listed ds a h)) (λ o. absurd (listed ds a h o)) (λ o.
+          row (inl (h .listed)) (λ l. ap editedSays (have ds a h)) (λ n. absurd (n (h .listed))))
       go ds a (inr p) =
+          row (noncharacter-or v) (λ o. ap editedSays (asks ds a p o)) (λ o.
           row (inr (p .unlisted)) (λ l. absurd (p .unlisted l)) (λ n.
-          row (less limit (len + size)) (λ h. ap editedSays (too-large ds a p h)) (λ h.
+          row (less limit (len + size)) (λ h. ap editedSays (too-large ds a p o h)) (λ h.
           let small : len + size ≤ limit = omega arith in
-          row (less (length xs) (len + size)) (λ k. ap editedSays (no-room ds a p small k)) (λ k.
-          is _ _ (ap editedSays (adds ds a p small (omega arith))))))
+          row (less (length xs) (len + size)) (λ k. ap editedSays (no-room ds a p o small k)) (λ k.
+          is _ _ (ap editedSays (adds ds a p o small (omega arith)))))))
 
   pub drop-rows : Exact (editedSays (dropAnswer xs len g v)) (DropRows xs len g v)
   unfolding dropAnswer
@@ -328,6 +353,7 @@ module _ (xs : List ℕ) (y : Bytes xs) (len g v : ℕ) where
     pub reading : List Desc
     pub editable : Editable xs len g v reading
     pub gap : Gap Utf8 v g reading
+    pub character : Noncharacter v → ⊥
     pub small : len + size ≤ limit
     pub room : len + size ≤ length xs
     pub grown : n ≡ len + size
@@ -353,12 +379,13 @@ module _ (xs : List ℕ) (y : Bytes xs) (len g v : ℕ) where
   add-good n e = let r = last-rows n (add-rows (gives n) .0 e) in go (r .0) (r .1) (r .2) (either-way (r .0) (r .1))
     where
       go : (ds : List Desc) (a : Editable xs len g v ds) → AddLast xs len g v ds (gives n) → Hole Utf8 v g ds ⊎ Gap Utf8 v g ds → AddGood n
-      go ds a (given l q) b = no-refusal q
-      go ds a (skipped l (given h q)) b = no-refusal q
-      go ds a (skipped l (skipped h (given k q))) b = no-refusal q
-      go ds a (skipped l (skipped h (skipped k q))) (inl o) = absurd (l (o .listed))
-      go ds a (skipped l (skipped h (skipped k q))) (inr p) =
-          record { reading = ds; editable = a; gap = p; small = omega arith; room = omega arith; grown = given-length q }
+      go ds a (given o q) b = no-refusal q
+      go ds a (skipped o (given l q)) b = no-refusal q
+      go ds a (skipped o (skipped l (given h q))) b = no-refusal q
+      go ds a (skipped o (skipped l (skipped h (given k q)))) b = no-refusal q
+      go ds a (skipped o (skipped l (skipped h (skipped k q)))) (inl p) = absurd (l (p .listed))
+      go ds a (skipped o (skipped l (skipped h (skipped k q)))) (inr p) =
+          record { reading = ds; editable = a; gap = p; character = o; small = omega arith; room = omega arith; grown = given-length q }
 
   pub drop-good : (n : ℕ) → editedSays (dropAnswer xs len g v) ≡ gives n → DropGood n
   drop-good n e = let r = last-rows n (drop-rows (gives n) .0 e) in go (r .0) (r .1) (r .2) (either-way (r .0) (r .1))

@@ -1,5 +1,5 @@
 -- What the public calls mean. To read first: Demands, and then the pages that it cites: Check, Tables, Bitmaps, Questions, Conversions;
--- Modes (PSF1's modes), Edits (mappings added and dropped in place), Differences (two fonts compared), Loading (the checker fed by pieces), Program (`fontload`) and Vectors (the cases P1 to P14). The other files are the steps
+-- Modes (PSF1's modes), Edits (mappings added and dropped in place), Differences (two fonts compared), Noncharacters (which are no values), Loading (the checker fed by pieces), Program (`fontload`) and Vectors (the cases P1 to P14). The other files are the steps
 -- to them.
 pub mod Demands
 pub mod Check
@@ -10,6 +10,7 @@ pub mod Conversions
 pub mod Modes
 pub mod Edits
 pub mod Differences
+pub mod Noncharacters
 pub mod Loading
 pub mod Program
 pub mod Vectors
@@ -22,10 +23,12 @@ mod WellFormed
 mod Located
 mod Converting
 mod Refusing
+mod Listed
 mod Retabled
 mod Editing
 mod Adding
 mod Dropping
+mod Unlisted
 mod Marked
 mod Returning
 mod Regions

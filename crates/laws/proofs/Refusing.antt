@@ -16,6 +16,8 @@ use Rattle.refusal.specs.declared.Refusal.{Refusal}
 use Rattle.refusal.specs.declared.Reason.the-variants.{WrongKind, Glyphs, Value, Size, Room}
 use Rattle.coding.specs.declared.Coding.{Coding}
 use Rattle.coding.specs.declared.Coding.the-variants.{Utf8, Ucs2}
+use Rattle.token.specs.Meaning.{Noncharacter}
+use Rattle.ucs2.specs.Meaning.{Word}
 use Rattle.coding.specs.Meaning.{valueOf}
 use Rattle.table.specs.declared.Item.{Item}
 use Rattle.table.specs.declared.Item.the-variants.{Single, Start, Value as InSequence, End}
@@ -253,7 +255,7 @@ first-value from to ds k o u =
     uncarried-value from to (u .item) (item-of from (u .before) (u .item) (u .after) (subst (OfCoding from) (u .same) o)) (u .uncarried)
 
 -- the values of a list of items
-carried-value : (c : Coding) (is : List Item) (v : ℕ) → OfCoding c is → Any (Holds v) is → valueOf c v
+pub carried-value : (c : Coding) (is : List Item) (v : ℕ) → OfCoding c is → Any (Holds v) is → valueOf c v
 carried-value c [] v o h = absurd h
 carried-value c (Single w ∷ is) v o (inl (inl e)) = let q : w ≡ v = cc in subst (valueOf c) q (o .0)
 carried-value c (Single w ∷ is) v o (inl (inr e)) = let z : _≡_ {A = ℕ} 0 1 = cc in absurd (omega arith)
@@ -317,47 +319,54 @@ unfolding valueOf
 lost-surrogate v a n = go (below v 0xD800) (below v 0xE000)
   where
     go : (v < 0xD800) ⊎ (0xD800 ≤ v) → (v < 0xE000) ⊎ (0xE000 ≤ v) → Surrogate v
-    go (inl l) y = absurd (n (inl l))
+    go (inl l) y = absurd (n (inl l, a .1))
     go (inr l) (inl h) = (l, omega arith)
-    go (inr l) (inr h) = absurd (n (inr (h, omega (arith, a))))
+    go (inr l) (inr h) = absurd (n (inr (h, omega (arith, a .0)), a .1))
 
 kept-scalar : (v : ℕ) → valueOf Ucs2 v → (Surrogate v → ⊥) → valueOf Utf8 v
 unfolding valueOf
 kept-scalar v a n = go (below v 0xD800) (below v 0xE000)
   where
     go : (v < 0xD800) ⊎ (0xD800 ≤ v) → (v < 0xE000) ⊎ (0xE000 ≤ v) → valueOf Utf8 v
-    go (inl l) y = inl l
+    go (inl l) y = (inl l, a .1)
     go (inr l) (inl h) = absurd (n (l, omega arith))
-    go (inr l) (inr h) = inr (h, omega (arith, a))
+    go (inr l) (inr h) = (inr (h, omega (arith, a .0)), a .1)
 
 no-surrogate : (v : ℕ) → Surrogate v → valueOf Utf8 v → ⊥
 unfolding valueOf
-no-surrogate v s (inl l) = omega (arith, s .0, l)
-no-surrogate v s (inr h) = omega (arith, s .1, h .0)
+no-surrogate v s (inl l, n) = omega (arith, s .0, l)
+no-surrogate v s (inr h, n) = omega (arith, s .1, h .0)
 
--- "the first value above FFFD"
-lost-above : (v : ℕ) → valueOf Utf8 v → (valueOf Ucs2 v → ⊥) → 0xFFFD < v
-unfolding valueOf
-lost-above v a n = go (below v 0xFFFE)
-  where
-    go : (v < 0xFFFE) ⊎ (0xFFFE ≤ v) → 0xFFFD < v
-    go (inl l) = absurd (n l)
-    go (inr l) = omega arith
-
-kept-word : (v : ℕ) → valueOf Utf8 v → ((0xFFFD < v) → ⊥) → valueOf Ucs2 v
-unfolding valueOf
-kept-word v a n = go (below v 0xFFFE)
+-- "only for values above FFFF": FFFE and FFFF are noncharacters
+below-marks : (v : ℕ) → (Noncharacter v → ⊥) → v ≤ 0xFFFF → v < 0xFFFE
+below-marks v n h = go (below v 0xFFFE)
   where
     go : (v < 0xFFFE) ⊎ (0xFFFE ≤ v) → v < 0xFFFE
     go (inl l) = l
-    go (inr l) = absurd (n (omega arith))
+    go (inr l) = absurd (n (inr (omega arith)))
 
-no-above : (v : ℕ) → 0xFFFD < v → valueOf Ucs2 v → ⊥
+lost-above : (v : ℕ) → valueOf Utf8 v → (valueOf Ucs2 v → ⊥) → 0xFFFF < v
 unfolding valueOf
-no-above v h w = omega (arith, h, w)
+lost-above v a n = go (below 0xFFFF v)
+  where
+    go : (0xFFFF < v) ⊎ (v ≤ 0xFFFF) → 0xFFFF < v
+    go (inl l) = l
+    go (inr l) = absurd (n (below-marks v (a .1) l, a .1))
+
+kept-word : (v : ℕ) → valueOf Utf8 v → ((0xFFFF < v) → ⊥) → valueOf Ucs2 v
+unfolding valueOf
+kept-word v a n = go (below 0xFFFF v)
+  where
+    go : (0xFFFF < v) ⊎ (v ≤ 0xFFFF) → Word v
+    go (inl l) = absurd (n l)
+    go (inr l) = (below-marks v (a .1) l, a .1)
+
+no-above : (v : ℕ) → 0xFFFF < v → valueOf Ucs2 v → ⊥
+unfolding valueOf
+no-above v h w = omega (arith, h, w .0)
 
 -- descriptions of PSF1 have none
-pub none-above : (ds : List Desc) → Readable Ucs2 ds → (k : ℕ) → FirstValue Utf8 (λ v. 0xFFFD < v) (items ds) k → ⊥
+pub none-above : (ds : List Desc) → Readable Ucs2 ds → (k : ℕ) → FirstValue Utf8 (λ v. 0xFFFF < v) (items ds) k → ⊥
 none-above ds o k u = no-above (u .value) (u .has) (held-value Ucs2 (u .item) (u .value) (u .holds) (item-of Ucs2 (u .before) (u .item) (u .after) (subst (OfCoding Ucs2) (u .same) o)))
 
 -- 19, by the conversion
@@ -368,8 +377,8 @@ value-first Psf1ToPsf2 ds k o = (
   first-there Ucs2 Utf8 Surrogate lost-surrogate kept-scalar no-surrogate ds k o,
 )
 value-first Psf2ToPsf1 ds k o = (
-  first-back Utf8 Ucs2 (λ v. 0xFFFD < v) lost-above kept-word no-above ds k o,
-  first-there Utf8 Ucs2 (λ v. 0xFFFD < v) lost-above kept-word no-above ds k o,
+  first-back Utf8 Ucs2 (λ v. 0xFFFF < v) lost-above kept-word no-above ds k o,
+  first-there Utf8 Ucs2 (λ v. 0xFFFF < v) lost-above kept-word no-above ds k o,
 )
 value-first Psf2ToVfont2 ds k o = (λ z. absurd z, λ u. let r = first-value Utf8 Utf8 ds k o u in r .3 (r .2))
 value-first Vfont2ToPsf2 ds k o = (λ z. absurd z, λ u. let r = first-value Utf8 Utf8 ds k o u in r .3 (r .2))

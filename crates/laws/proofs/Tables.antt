@@ -9,7 +9,7 @@ use Prim.Native.Nat.{ℕ, _+_, _≤_, _<_}
 use lib.ListN.{length}
 use Rattle.base.specs.Meaning.{Begins, Bytes}
 use Rattle.utf8.specs.declared.Read.the-variants.{Value as ReadValue}
-use Rattle.utf8.specs.Meaning.{Scalar, utf8Bytes}
+use Rattle.utf8.specs.Meaning.{Scalar, Utf8Value, utf8Bytes}
 use Rattle.utf8.specs.Reading.{readValue}
 use Rattle.table.specs.declared.Item.{Item}
 use Rattle.table.specs.Meaning.{Desc, encode, Readable, IsTable, LongestStart, Unfinished, BadAt, TrailingAt}
@@ -73,10 +73,11 @@ module _ (s : List ℕ) (y : Bytes s) (f : Font) (passes : RowsTo9 s (gives f)) 
       pub sequence-unmapped-exactly : (lookupSays (sequenceGlyph s vs) ≡ refuses 15 0) ↔ Nowhere (ListsSequence vs) 0 (r .reading)
       sequence-unmapped-exactly = inner.sequence-unmapped-exactly s y f (passed-9 s f passes) marked r vs some low
 
--- "In PSF2 and vfont2 a value is well-formed UTF-8": the bytes of a value are the rows of the Unicode Standard's Table 3-7, all of them
+-- "In PSF2 and vfont2 a value is well-formed UTF-8": the bytes of the scalar values are the rows of the Unicode Standard's Table 3-7, all of them
 pub well-formed-exactly : (s : List ℕ) → WellFormed s ↔ ((v : ℕ) × Scalar v × (s ≡ utf8Bytes v))
 well-formed-exactly s = (formed-is s, λ (v, h, e). subst WellFormed (sym e) (is-formed v h))
 
--- the one reader of a value (`utf8::read_value`) gives v, l bytes long, exactly when v is a value, l its length, and the bytes begin with its bytes
-pub read-exactly : (s : List ℕ) → Bytes s → (v l : ℕ) → (readValue s ≡ ReadValue v l) ↔ (Scalar v × (l ≡ length (utf8Bytes v)) × Begins (utf8Bytes v) s)
+-- the one reader of a value (`utf8::read_value`) gives v, l bytes long, exactly when v is a value (a scalar value and no noncharacter), l its length,
+-- and the bytes begin with its bytes
+pub read-exactly : (s : List ℕ) → Bytes s → (v l : ℕ) → (readValue s ≡ ReadValue v l) ↔ (Utf8Value v × (l ≡ length (utf8Bytes v)) × Begins (utf8Bytes v) s)
 read-exactly = reader.value-exactly

@@ -1,17 +1,19 @@
 -- "Small tables and small fonts": document 01's cases P1 to P14, "one proved table under one statement about the grammar", places counted from the
--- table's start; and what the calls say of its font of 45 bytes.
+-- table's start, with document 02's "Case P10 becomes BAD 3"; and what the calls say of its font of 45 bytes.
 use mathlib.Core.Path.{_≡_, refl}
 use mathlib.Core.Bool.{Bool, true, false, _&&_}
 use mathlib.Core.List.{List, [], _∷_}
-use mathlib.Core.Logic.{inl, inr}
-use Prim.Native.Nat.{ℕ}
+use mathlib.Core.Logic.{inl}
+use Prim.Native.Nat.{ℕ, _<_}
 use native.Mathlib.Omega.{arith}
 use lib.Dec.{ltb}
 use lib.ListN.{length}
 use borrow.Author.Tests.{ltb-true}
 use Rattle.base.specs.Meaning.{Bytes, le16, le32}
 use Rattle.base.specs.Reading.{when, startsWith}
-use Rattle.utf8.specs.Reading.{readUtf8, readValue, leadOf, conts}
+use Rattle.token.specs.Reading.{isNoncharacter}
+use Rattle.token.proofs.Noncharacters.{low}
+use Rattle.utf8.specs.Reading.{readUtf8, readValue, permittedAt, leadOf, conts}
 use Rattle.utf8.specs.Meaning.{utf8Bytes}
 use Rattle.ucs2.specs.Reading.{readUcs2, isWord}
 use Rattle.coding.specs.declared.Coding.{Coding}
@@ -79,7 +81,7 @@ cases =
     ∷ P 7 Utf8 1 (0xC0 ∷ 0x80 ∷ 0xFF ∷ []) (bad 0)
     ∷ P 8 Utf8 1 (0xE0 ∷ 0x80 ∷ 0x80 ∷ 0xFF ∷ []) (bad 1)
     ∷ P 9 Utf8 1 (0xED ∷ 0xA0 ∷ 0x80 ∷ 0xFF ∷ []) (bad 1)
-    ∷ P 10 Utf8 1 (0xF4 ∷ 0x8F ∷ 0xBF ∷ 0xBF ∷ 0xFF ∷ []) (reads (description (0x10FFFF ∷ []) [] ∷ []))
+    ∷ P 10 Utf8 1 (0xF4 ∷ 0x8F ∷ 0xBF ∷ 0xBF ∷ 0xFF ∷ []) (bad 3)
     ∷ P 11 Utf8 1 (0xF4 ∷ 0x90 ∷ 0x80 ∷ 0x80 ∷ 0xFF ∷ []) (bad 1)
     ∷ P 12 Utf8 1 (0xFF ∷ 0xFF ∷ []) (trailing 1)
     ∷ P 12 Utf8 2 (0xFF ∷ 0xFF ∷ []) (reads (bare ∷ bare ∷ []))
@@ -111,12 +113,21 @@ bads c n s k g o e = meaning.bad-place c n s k (are-bytes s o) .0 (g, e)
 trails : (c : Coding) (n : ℕ) (s : List ℕ) (k : ℕ) → octets s ≡ true → tableOf c n s ≡ Trailing k → Meets c n s (trailing k)
 trails c n s k o e = meaning.trailing-exactly c n s k (are-bytes s o) .0 e
 
+-- a number below D800 is a value of both codings
+small-value : (v : ℕ) → v < 0xD800 → valueOf Utf8 v
+unfolding valueOf
+small-value v h = (inl h, low v (omega arith))
+
+small-word : (v : ℕ) → v < 0xD800 → valueOf Ucs2 v
+unfolding valueOf
+small-word v h = (omega arith, low v (omega arith))
+
 pub small-tables : AllMeet cases
-unfolding checkSteps stepsFrom readToken markLen valueOf valueBytes startBytes endBytes readUtf8 readValue leadOf conts utf8Bytes readUcs2 isWord
+unfolding checkSteps stepsFrom readToken markLen valueOf valueBytes startBytes endBytes readUtf8 readValue permittedAt leadOf conts utf8Bytes readUcs2 isWord isNoncharacter when
 small-tables = (
-  (refl, refl, (inl (omega arith), (inl (omega arith), (inl (omega arith), (inl (omega arith), tt))))),
+  (refl, refl, (small-value 0xC5 (omega arith), (small-value 0x212B (omega arith), (small-value 0x41 (omega arith), (small-value 0x30A (omega arith), tt))))),
   (
-    (refl, refl, (omega arith, (omega arith, (omega arith, (omega arith, tt))))),
+    (refl, refl, (small-word 0xC5 (omega arith), (small-word 0x212B (omega arith), (small-word 0x41 (omega arith), (small-word 0x30A (omega arith), tt))))),
     (
       (refl, refl, tt),
       (
@@ -132,7 +143,7 @@ small-tables = (
                 (
                   bads Utf8 1 (0xED ∷ 0xA0 ∷ 0x80 ∷ 0xFF ∷ []) 1 0 refl refl,
                   (
-                    (refl, refl, (inr (omega arith, omega arith), tt)),
+                    bads Utf8 1 (0xF4 ∷ 0x8F ∷ 0xBF ∷ 0xBF ∷ 0xFF ∷ []) 3 0 refl refl,
                     (
                       bads Utf8 1 (0xF4 ∷ 0x90 ∷ 0x80 ∷ 0x80 ∷ 0xFF ∷ []) 1 0 refl refl,
                       (
@@ -159,10 +170,10 @@ small-tables = (
 
 -- "As vfont2 it takes 81 bytes; a buffer of 80 gives ROOM, place 81."
 pub small-as-vfont2 : (convertedSays (convertedOf Psf2ToVfont2 small 80) ≡ refuses 21 81) × (convertedSays (convertedOf Psf2ToVfont2 small 81) ≡ gives 81)
-unfolding when le16 le32 leadOf conts readValue readUtf8 markLen readToken stepsFrom checkSteps glyphBytes startsWith kindOf headOf psf2Shaped saysOf sized entriesOf tailed throughBody throughEntries checkOf convertedOf preparedOf preparedOn openedOf ofKind suitsOf measuredOf fitting frontLen
+unfolding when le16 le32 leadOf conts isNoncharacter permittedAt readValue readUtf8 markLen readToken stepsFrom checkSteps glyphBytes startsWith kindOf headOf psf2Shaped saysOf sized entriesOf tailed throughBody throughEntries checkOf convertedOf preparedOf preparedOn openedOf ofKind suitsOf measuredOf fitting frontLen
 small-as-vfont2 = (refl, refl)
 
 -- it maps 41 to glyph 0, C5 and the sequence 41 30A to glyph 1
 pub small-looked-up : (lookupSays (valueGlyph small 0x41) ≡ gives 0) × (lookupSays (valueGlyph small 0xC5) ≡ gives 1) × (lookupSays (sequenceGlyph small (0x41 ∷ 0x30A ∷ [])) ≡ gives 1)
-unfolding when le16 le32 leadOf conts readValue readUtf8 markLen readToken stepsFrom checkSteps glyphBytes startsWith kindOf headOf psf2Shaped saysOf sized entriesOf tailed throughBody throughEntries checkOf valueGlyph sequenceGlyph anyHigh valueItem stepItems findValue goesOn isWhole findSequenceFrom
+unfolding when le16 le32 leadOf conts isNoncharacter permittedAt readValue readUtf8 markLen readToken stepsFrom checkSteps glyphBytes startsWith kindOf headOf psf2Shaped saysOf sized entriesOf tailed throughBody throughEntries checkOf valueGlyph sequenceGlyph anyHigh valueItem stepItems findValue goesOn isWhole findSequenceFrom
 small-looked-up = (refl, refl, refl)

@@ -1,4 +1,5 @@
--- The values of UTF-8 and Table 3-7: the bytes of a value are well formed, and well-formed bytes are those of a value (Tables says what is shown).
+-- The scalar values and Table 3-7: the bytes of one are well formed, and well-formed bytes are those of one; and the reader of a value (Tables says
+-- what is shown).
 use mathlib.Core.Path.{_≡_, refl, sym, _∙_, ap, subst}
 use mathlib.Core.Logic.{_↔_, _⊎_, inl, inr}
 use mathlib.Core.List.{List, [], _∷_, _++_}
@@ -10,7 +11,7 @@ use Rattle.base.specs.Meaning.{Begins, Bytes}
 use Rattle.base.proofs.Tests.{below}
 use Rattle.token.specs.declared.Token.the-variants.{Value}
 use Rattle.utf8.specs.declared.Read.the-variants.{Value as ReadValue, Bad}
-use Rattle.utf8.specs.Meaning.{Scalar, utf8Bytes}
+use Rattle.utf8.specs.Meaning.{Scalar, Utf8Value, utf8Bytes}
 use Rattle.laws.specs.Meaning.{In, WellFormed}
 use Rattle.utf8.specs.Reading.{readValue, readUtf8, asToken}
 use Rattle.utf8.proofs.Rows.{row-y}
@@ -27,11 +28,11 @@ list3 a b c x y z p q r = cc
 list4 : (a b c d x y z w : ℕ) → a ≡ x → b ≡ y → c ≡ z → d ≡ w → a ∷ b ∷ c ∷ d ∷ [] ≡ x ∷ y ∷ z ∷ w ∷ []
 list4 a b c d x y z w p q r s = cc
 
--- a value whose bytes these are
+-- a scalar value whose bytes these are
 abbrev Is : List ℕ → Type 0
 Is s = (v : ℕ) × Scalar v × (s ≡ utf8Bytes v)
 
--- well-formed bytes are those of a value
+-- well-formed bytes are those of a scalar value
 one : (a : ℕ) → In 0x00 0x7F a → Is (a ∷ [])
 one a (l, h) = (a, inl (omega arith), sym (bytes1 a (omega arith)))
 
@@ -88,7 +89,7 @@ formed-is (a ∷ b ∷ c ∷ d ∷ []) (inr (inl (p, q, r, t))) = four a b c d (
 formed-is (a ∷ b ∷ c ∷ d ∷ []) (inr (inr (p, q, r, t))) = four a b c d (omega arith, omega arith) (omega arith, omega arith) r t (omega arith) (omega arith)
 formed-is (a ∷ b ∷ c ∷ d ∷ e ∷ s) w = absurd w
 
--- the bytes of a value are well formed
+-- the bytes of a scalar value are well formed
 module _ (v : ℕ) where
   is-three : 0x800 ≤ v → v < 0x10000 → (v < 0xD800) ⊎ (0xE000 ≤ v) → (v < 0x1000) ⊎ (0x1000 ≤ v) → (v < 0xD000) ⊎ (0xD000 ≤ v) →
       WellFormed ((0xE0 + v / 4096) ∷ (0x80 + v / 64 % 64) ∷ (0x80 + v % 64) ∷ [])
@@ -144,14 +145,14 @@ token-value (b ∷ t) y v l e =
 begins-rest : (p s : List ℕ) → Begins p s → s ≡ p ++ drop (length p) s
 begins-rest p s b = sym (take-append-drop (length p) s) ∙ ap (λ (x : List ℕ). x ++ drop (length p) s) b
 
-pub value-exactly : (s : List ℕ) → Bytes s → (v l : ℕ) → (readValue s ≡ ReadValue v l) ↔ (Scalar v × (l ≡ length (utf8Bytes v)) × Begins (utf8Bytes v) s)
+pub value-exactly : (s : List ℕ) → Bytes s → (v l : ℕ) → (readValue s ≡ ReadValue v l) ↔ (Utf8Value v × (l ≡ length (utf8Bytes v)) × Begins (utf8Bytes v) s)
 value-exactly s y v l = (there, back)
   where
-    there : readValue s ≡ ReadValue v l → Scalar v × (l ≡ length (utf8Bytes v)) × Begins (utf8Bytes v) s
+    there : readValue s ≡ ReadValue v l → Utf8Value v × (l ≡ length (utf8Bytes v)) × Begins (utf8Bytes v) s
     there e =
         let w = coded-utf8 .read-value s y v l (value-token s y v l e) in
         (w .0, w .1, ap (take (length (utf8Bytes v))) (w .2) ∙ take-append-seam (utf8Bytes v) (drop l s))
 
-    back : Scalar v × (l ≡ length (utf8Bytes v)) × Begins (utf8Bytes v) s → readValue s ≡ ReadValue v l
+    back : Utf8Value v × (l ≡ length (utf8Bytes v)) × Begins (utf8Bytes v) s → readValue s ≡ ReadValue v l
     back (p, e, b) =
         token-value s y v l (ap readUtf8 (begins-rest (utf8Bytes v) s b) ∙ coded-utf8 .value-read v (drop (length (utf8Bytes v)) s) p ∙ ap (Value v) (sym e))

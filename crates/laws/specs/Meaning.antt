@@ -42,7 +42,8 @@ use Rattle.conversion.specs.declared.Conversion.the-variants.{Psf1ToPsf2, Psf2T
 use Rattle.conversion.specs.Meaning.{sourceKind, targetKind, frontLen, FirstUneven}
 use Rattle.convert.specs.declared.Converted.{Converted}
 use Rattle.convert.specs.declared.Converted.the-variants.{Wrote as Written, Refused as NotConverted}
-use Rattle.utf8.specs.Meaning.{utf8Bytes}
+use Rattle.token.specs.Meaning.{Noncharacter}
+use Rattle.utf8.specs.Meaning.{Scalar, utf8Bytes}
 use Rattle.mapping.specs.Meaning.{Lists}
 use Rattle.edit.specs.declared.Edited.{Edited}
 use Rattle.edit.specs.declared.Edited.the-variants.{Length, Refused as NotEdited}
@@ -219,6 +220,11 @@ WellFormed (a ∷ b ∷ c ∷ d ∷ []) =
     ⊎ (In 0xF4 0xF4 a × In 0x80 0x8F b × In 0x80 0xBF c × In 0x80 0xBF d))
 WellFormed (a ∷ b ∷ c ∷ d ∷ e ∷ s) = ⊥
 
+-- the numbers that a coding has bytes for: scalar values in UTF-8, what stands below the marks in PSF1's two bytes
+abbrev pub HasBytes : Coding → ℕ → Type 0
+HasBytes Utf8 v = Scalar v
+HasBytes Ucs2 v = v < 0xFFFE
+
 -- Bitmaps: "ASK for the glyph, NO GLYPH, ASK for row and column."
 
 abbrev pub GlyphRows : {A : Type 0} → List ℕ → ℕ → (Font → Said A → Type 0) → Said A → Type 0
@@ -309,10 +315,11 @@ pub record FirstValue (c : Coding) (P : ℕ → Type 0) (is : List Item) (k : �
   pub earlier : (v : ℕ) → Any (Holds v) before → P v → ⊥
   pub here : k ≡ length (bytes c before)
 
--- 19: "VALUE at the first surrogate, D800 to DFFF"; "VALUE at the first value above FFFD"; place "value's first byte"
+-- 19: "VALUE at the first surrogate, D800 to DFFF"; and document 02, W6: "VALUE from PSF2 to PSF1 is now only for values above FFFF"; place "value's
+-- first byte"
 abbrev pub ValueAt : Conversion → List Desc → ℕ → Type 0
 ValueAt Psf1ToPsf2 ds = FirstValue Ucs2 (λ v. (0xD800 ≤ v) × (v ≤ 0xDFFF)) (items ds)
-ValueAt Psf2ToPsf1 ds = FirstValue Utf8 (λ v. 0xFFFD < v) (items ds)
+ValueAt Psf2ToPsf1 ds = FirstValue Utf8 (λ v. 0xFFFF < v) (items ds)
 ValueAt Psf2ToVfont2 ds = λ k. ⊥
 ValueAt Vfont2ToPsf2 ds = λ k. ⊥
 
@@ -397,13 +404,14 @@ EditRows xs len g v rest =
     (Row ((f .count ≤ g) ⊎ ((0x10FFFF < v) ⊎ In 0xD800 0xDFFF v)) 13 0
     (Reading (take len xs) f rest)))))
 
--- "HAVE (24) if the glyph already lists it as a single"; the new font is longer by the value's bytes
+-- of a noncharacter "adding one is ASK" (W6); "HAVE (24) if the glyph already lists it as a single"; the new font is longer by the value's bytes
 abbrev pub AddLast : List ℕ → ℕ → ℕ → ℕ → List Desc → Said ℕ → Type 0
 AddLast xs len g v ds =
-    Row (Lists v g ds) 24 0
+    Row (Noncharacter v) 13 0
+    (Row (Lists v g ds) 24 0
     (Row (limit < len + length (utf8Bytes v)) 20 0
     (Row (length xs < len + length (utf8Bytes v)) 21 (len + length (utf8Bytes v))
-    (λ a. a ≡ gives (len + length (utf8Bytes v)))))
+    (λ a. a ≡ gives (len + length (utf8Bytes v))))))
 
 abbrev pub AddRows : List ℕ → ℕ → ℕ → ℕ → Said ℕ → Type 0
 AddRows xs len g v = EditRows xs len g v (AddLast xs len g v)

@@ -4,7 +4,8 @@ use mathlib.Core.List.{List, [], _∷_}
 use Prim.Native.Nat.{ℕ}
 use Rattle.base.specs.Reading.{when, startsWith}
 use Rattle.base.specs.Meaning.{le16, le32}
-use Rattle.utf8.specs.Reading.{leadOf, conts, readValue, readUtf8}
+use Rattle.token.specs.Reading.{isNoncharacter}
+use Rattle.utf8.specs.Reading.{leadOf, conts, permittedAt, readValue, readUtf8}
 use Rattle.coding.specs.Reading.{markLen, readToken}
 use Rattle.table.specs.Reading.{stepsFrom, valueItem, stepItems, checkSteps}
 use Rattle.header.specs.Meaning.{glyphBytes}
@@ -25,5 +26,5 @@ smallText =
     ∷ 49 ∷ 32 ∷ 67 ∷ 53 ∷ 32 ∷ 43 ∷ 52 ∷ 49 ∷ 43 ∷ 51 ∷ 48 ∷ 65 ∷ 10 ∷ []
 
 pub small-listed : listingOf small ≡ smallText
-unfolding when le16 le32 leadOf conts readValue readUtf8 markLen readToken stepsFrom valueItem stepItems checkSteps glyphBytes startsWith kindOf headOf psf2Shaped saysOf sized entriesOf tailed throughBody throughEntries checkOf listingOf fontText linesText tableText linesOf pieceOf firstLine numberText numeral digits digitOf
+unfolding when le16 le32 leadOf conts isNoncharacter permittedAt readValue readUtf8 markLen readToken stepsFrom valueItem stepItems checkSteps glyphBytes startsWith kindOf headOf psf2Shaped saysOf sized entriesOf tailed throughBody throughEntries checkOf listingOf fontText linesText tableText linesOf pieceOf firstLine numberText numeral digits digitOf
 small-listed = refl

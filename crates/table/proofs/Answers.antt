@@ -40,6 +40,9 @@ ends-accepted (suc n) = ends-accepted n
 pub same-cut : {j k g h : ℕ} → j ≡ k → g ≡ h → TableCut j g ≡ TableCut k h
 same-cut p q = λ i. TableCut (p i) (q i)
 
+same-bad : {j k g h : ℕ} → j ≡ k → g ≡ h → TableBad j g ≡ TableBad k h
+same-bad p q = λ i. TableBad (p i) (q i)
+
 module _ (c : Coding) where
   -- the check of bytes that stand at a place, from a phase on, with g descriptions complete and n still to end
   abbrev pub walk : ℕ → ℕ → Phase → ℕ → List ℕ → TableAnswer
@@ -282,3 +285,19 @@ module _ (c : Coding) where
       on n p (m .left) (m .phase) x (m .move) g at (bytes c is)
       ∙ stops-before is i js (ended x g) (m .left) (m .phase) (at + length y) (m .rest-of) (m .rest)
       ∙ same-cut l (ended-more x g is)
+
+  -- a token that is bad, behind the items in front of an accepted one
+  pub bad-behind : (is : List Item) (i : Item) (js : List Item) (g n : ℕ) (p : Phase) (at : ℕ) (y : List ℕ) (k : ℕ) → 1 ≤ length y → readToken c y ≡ TokenBad k →
+      OfCoding c (is ++ (i ∷ js)) → Accepts n p (is ++ (i ∷ js)) → walk g n p at (bytes c is ++ y) ≡ TableBad (at + length (bytes c is) + k) (g + endsIn is)
+  unfolding checkSteps
+  bad-behind [] i js g zero p at y k h q o a = absurd a
+  bad-behind [] i js g (suc n) p at y k h q o a =
+      at-once g n p at y (StepBad (at + k)) (TableBad (at + k) g) h (ap (stepOf (markLen c) at) q) (λ xs. refl) ∙ same-bad (omega arith) (omega arith)
+  bad-behind (x ∷ is) i js g n p at y k h q o a =
+      let m = moved c n p x (is ++ (i ∷ js)) o a in
+      let z = itemBytes c x in
+      let l : at + length z + length (bytes c is) + k ≡ at + length (z ++ bytes c is) + k = omega (arith, length-append z (bytes c is)) in
+      ap (walk g n p at) (append-assoc z (bytes c is) y)
+      ∙ on n p (m .left) (m .phase) x (m .move) g at (bytes c is ++ y)
+      ∙ bad-behind is i js (ended x g) (m .left) (m .phase) (at + length z) y k h q (m .rest-of) (m .rest)
+      ∙ same-bad l (ended-more x g is)

@@ -10,14 +10,16 @@ use lib.Seq.{take-take, take-length, drop-cons, length-take-le}
 use Rattle.base.specs.Meaning.{Bytes}
 use Rattle.base.proofs.Parts.{bytes-right}
 use Rattle.base.proofs.Tests.{below}
+use Rattle.token.specs.declared.Token.the-variants.{Bad as TokenBad}
 use Rattle.coding.specs.declared.Coding.{Coding}
+use Rattle.coding.specs.Reading.{readToken}
 use Rattle.table.specs.declared.Item.{Item}
 use Rattle.table.specs.declared.TableAnswer.{TableAnswer}
 use Rattle.table.specs.declared.TableAnswer.the-variants.{Complete, Cut as TableCut, Bad as TableBad, Trailing}
 use Rattle.table.specs.Meaning.{Desc, items, bytes, OfCoding, encode, Readable, IsTable, Completable, LongestStart, Unfinished, BadAt}
 use Rattle.table.specs.Reading.{endsIn, stepsFrom, checkSteps, tableOf, tablePlace}
 use Rattle.table.proofs.Accepts.{singles, Accepts, accepts-items, accepted-items}
-use Rattle.table.proofs.Answers.{walk, Read, More, Stops, Says, answer-told, atOver, passes, stops-before}
+use Rattle.table.proofs.Answers.{walk, Read, More, Stops, Says, answer-told, atOver, passes, stops-before, bad-behind}
 use Rattle.table.proofs.Reading.{items-bytes}
 
 module _ (c : Coding) (n : ℕ) where
@@ -30,6 +32,13 @@ module _ (c : Coding) (n : ℕ) where
   cut-before ds is i js q o e =
       sym (whole (bytes c is))
       ∙ stops-before c is i js 0 n singles 0 (subst (OfCoding c) e o) (subst (Accepts n singles) e (subst (λ (m : ℕ). Accepts m singles (items ds)) q (accepts-items ds)))
+
+  -- a token that is bad, behind them
+  pub bad-token : (ds : List Desc) (is : List Item) (i : Item) (js : List Item) (y : List ℕ) (k : ℕ) → length ds ≡ n → Readable c ds → items ds ≡ is ++ (i ∷ js) →
+      1 ≤ length y → readToken c y ≡ TokenBad k → tableOf c n (bytes c is ++ y) ≡ TableBad (0 + length (bytes c is) + k) (0 + endsIn is)
+  bad-token ds is i js y k q o e h t =
+      sym (whole (bytes c is ++ y))
+      ∙ bad-behind c is i js 0 n singles 0 y k h t (subst (OfCoding c) e o) (subst (Accepts n singles) e (subst (λ (m : ℕ). Accepts m singles (items ds)) q (accepts-items ds)))
 
   -- a table, and what stands behind it
   table-over : (s y : List ℕ) → IsTable c n s → tableOf c n (s ++ y) ≡ atOver c (length s) y

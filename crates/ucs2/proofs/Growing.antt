@@ -8,7 +8,7 @@ use lib.ListN.{length}
 use Rattle.token.specs.declared.Token.the-variants.{Cut}
 use Rattle.token.proofs.Growing.{Growing}
 use Rattle.ucs2.specs.Reading.{readUcs2}
-use Rattle.ucs2.proofs.Stops.{word-goes}
+use Rattle.ucs2.proofs.Stops.{word-whole}
 
 token-kept : (p s : List ℕ) → (readUcs2 p ≡ Cut) ⊎ (readUcs2 (p ++ s) ≡ readUcs2 p)
 unfolding readUcs2
@@ -20,7 +20,7 @@ token-short : (p : List ℕ) → readUcs2 p ≡ Cut → length p < 4
 unfolding readUcs2
 token-short [] e = omega arith
 token-short (a ∷ []) e = omega arith
-token-short (a ∷ (b ∷ p)) e = absurd (rw e at (word-goes (a + 256 * b)))
+token-short (a ∷ (b ∷ p)) e = absurd (rw e at (word-whole (a + 256 * b)))
 
 pub growing-ucs2 : Growing readUcs2
 growing-ucs2 = record { kept = token-kept; cut-short = token-short }

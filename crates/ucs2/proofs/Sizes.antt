@@ -3,7 +3,7 @@ use mathlib.Core.List.{List, [], _∷_}
 use Prim.Native.Nat.{ℕ, _+_, _*_}
 use native.Mathlib.Omega.{arith}
 use lib.ListN.{length}
-use lib.Dec.{eqb}
+use lib.Dec.{eqb, ltb}
 use Rattle.base.proofs.Tests.{by-test}
 use Rattle.token.specs.declared.Token.{Token}
 use Rattle.token.proofs.Sized.{Sized}
@@ -16,4 +16,5 @@ read-sized (a ∷ []) = tt
 read-sized (a ∷ (b ∷ s)) =
     let P : Token → Type 0 = Sized 2 (length (a ∷ (b ∷ s))) in
     by-test P (isWord (a + 256 * b)) _ _ (λ _. omega arith) (λ _.
-    by-test P (eqb (a + 256 * b) 0xFFFE) _ _ (λ _. omega arith) (λ _. omega arith))
+    by-test P (ltb (a + 256 * b) 0xFFFE) _ _ (λ _. omega arith) (λ _.
+    by-test P (eqb (a + 256 * b) 0xFFFE) _ _ (λ _. omega arith) (λ _. omega arith)))

@@ -8,15 +8,18 @@ ghost use Rattle.ucs2.specs.Reading.{readUcs2, isWord};
 ghost use Rattle.ucs2.specs.Meaning.{Word, wordBytes};
 use token::Token;
 
-// Whether a number is a value of PSF1's coding: 0000 to FFFD, surrogates included.
+// Whether a number is a value of PSF1's coding: 0000 to FFFD, surrogates included, that is no noncharacter.
 pub fn is_word(v: u32) -> bool
     ensures { λ r. ⌜ r ≡ isWord v ⌝ }
 {
+    if token::is_noncharacter(v) {
+        return false;
+    }
     v < 0xFFFE
 }
 
 // The token at the front of some bytes: a value of two bytes, or a mark, FFFE that starts a sequence, FFFF that ends a
-// description; Cut where fewer than two bytes are left. None is Bad.
+// description; Cut where fewer than two bytes are left; a noncharacter is Bad at its second byte, since its first begins other values.
 pub fn read_ucs2(s: &[u8]) -> Token
     ensures { λ r. ⌜ r ≡ readUcs2 (now (s .entry)) ⌝ }
 {
@@ -26,6 +29,9 @@ pub fn read_ucs2(s: &[u8]) -> Token
     let v = base::get16(s, 0);
     if is_word(v) {
         return Token::Value(v, 2);
+    }
+    if v < 0xFFFE {
+        return Token::Bad(1);
     }
     if v == 0xFFFE {
         return Token::Start;

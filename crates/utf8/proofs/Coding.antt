@@ -15,7 +15,7 @@ use Rattle.token.proofs.Coded.{Coded}
 use Rattle.utf8.specs.declared.Read.{Read}
 use Rattle.utf8.specs.declared.Read.the-variants.{Value as ReadValue, Cut as ReadCut, Bad as ReadBad}
 use Rattle.utf8.specs.Reading.{readValue, asToken, readUtf8}
-use Rattle.utf8.specs.Meaning.{utf8Bytes, Scalar}
+use Rattle.utf8.specs.Meaning.{utf8Bytes, Scalar, Utf8Value}
 use Rattle.utf8.proofs.Writing.{value-read}
 use Rattle.utf8.proofs.Reading.{Written, value-of}
 
@@ -65,7 +65,7 @@ end-read : (s : List ℕ) → readUtf8 (0xFF ∷ s) ≡ End
 unfolding readUtf8
 end-read s = refl
 
-value-some : (v : ℕ) → Scalar v → 1 ≤ length (utf8Bytes v)
+value-some : (v : ℕ) → Utf8Value v → 1 ≤ length (utf8Bytes v)
 unfolding utf8Bytes
 value-some v u =
     let P : List ℕ → Type 0 = λ x. 1 ≤ length x in
@@ -77,16 +77,16 @@ top : (v : ℕ) → Scalar v → v < 0x110000
 top v (inl a) = omega arith
 top v (inr a) = a .1
 
-value-bytes : (v : ℕ) → Scalar v → Bytes (utf8Bytes v)
+value-bytes : (v : ℕ) → Utf8Value v → Bytes (utf8Bytes v)
 unfolding utf8Bytes
 value-bytes v u =
-    let m = top v u in
+    let m = top v (u .0) in
     by-test Bytes (ltb v 0x80) _ _ (λ p. let a = ltb-true v 0x80 p in (omega arith, tt)) (λ p.
     by-test Bytes (ltb v 0x800) _ _ (λ q. let a = ltb-true v 0x800 q in (omega arith, (omega arith, tt))) (λ q.
     by-test Bytes (ltb v 0x10000) _ _ (λ r. let a = ltb-true v 0x10000 r in (omega arith, (omega arith, (omega arith, tt)))) (λ r.
     (omega arith, (omega arith, (omega arith, (omega arith, tt)))))))
 
-pub coded-utf8 : Coded readUtf8 1 Scalar utf8Bytes (0xFE ∷ []) (0xFF ∷ [])
+pub coded-utf8 : Coded readUtf8 1 Utf8Value utf8Bytes (0xFE ∷ []) (0xFF ∷ [])
 coded-utf8 = record {
   value-read = value-read;
   start-read = start-read;

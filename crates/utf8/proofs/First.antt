@@ -7,12 +7,14 @@ use lib.ListN.{length, getD, drop}
 use lib.Dec.{eqb}
 use borrow.Author.Tests.{eq-eqb, ne-eqb}
 use Rattle.base.specs.Meaning.{pick}
+use Rattle.token.proofs.Noncharacters.{low}
 use Rattle.token.specs.declared.Token.the-variants.{Value as TokenValue, Start, End, Cut as TokenCut, Bad as TokenBad}
 use Rattle.utf8.specs.declared.Lead.{Lead}
 use Rattle.utf8.specs.declared.Read.{Read}
 use Rattle.utf8.specs.declared.Read.the-variants.{Value, Cut, Bad}
 use Rattle.utf8.proofs.Rows.{row-1}
-use Rattle.utf8.specs.Reading.{conts, leadOf, readValue, asToken, readUtf8}
+use Rattle.utf8.proofs.Permitted.{permitted-value}
+use Rattle.utf8.specs.Reading.{conts, leadOf, permittedAt, readValue, asToken, readUtf8}
 
 pub no-bytes : (s : List ℕ) → length s ≡ 0 → Cut ≡ readValue s
 unfolding readValue
@@ -22,7 +24,7 @@ no-bytes (b ∷ s) h = absurd (omega arith)
 first-value : (s : List ℕ) → 0 < length s →
     readValue s ≡
     pick (eqb (leadOf (getD s 0 0) .len) 0) (Bad 0)
-    (conts (leadOf (getD s 0 0) .len - 1) (leadOf (getD s 0 0) .lo) (leadOf (getD s 0 0) .hi) (getD s 0 0 % leadOf (getD s 0 0) .modulus) 1 (drop 1 s))
+    (permittedAt (leadOf (getD s 0 0) .len - 1) (conts (leadOf (getD s 0 0) .len - 1) (leadOf (getD s 0 0) .lo) (leadOf (getD s 0 0) .hi) (getD s 0 0 % leadOf (getD s 0 0) .modulus) 1 (drop 1 s)))
 unfolding readValue
 first-value [] h = absurd (omega arith)
 first-value (b ∷ s) h = refl
@@ -32,11 +34,11 @@ module _ (s : List ℕ) (h : 0 < length s) (l : Lead) (e : l ≡ leadOf (getD s 
   pub no-value : l .len ≡ 0 → Bad 0 ≡ readValue s
   no-value z = rw (first-value s h, ← e, eq-eqb (l .len) 0 z)
 
-  pub some-value : (l .len ≡ 0 → ⊥) → conts (l .len - 1) (l .lo) (l .hi) (getD s 0 0 % l .modulus) 1 (drop 1 s) ≡ readValue s
+  pub some-value : (l .len ≡ 0 → ⊥) → permittedAt (l .len - 1) (conts (l .len - 1) (l .lo) (l .hi) (getD s 0 0 % l .modulus) 1 (drop 1 s)) ≡ readValue s
   some-value z = rw (first-value s h, ← e, ne-eqb (l .len) 0 z)
 
   -- the same by the length
-  pub long-value : (n : ℕ) → l .len ≡ suc n → (v : ℕ) → v ≡ getD s 0 0 % l .modulus → conts n (l .lo) (l .hi) v 1 (drop 1 s) ≡ readValue s
+  pub long-value : (n : ℕ) → l .len ≡ suc n → (v : ℕ) → v ≡ getD s 0 0 % l .modulus → permittedAt n (conts n (l .lo) (l .hi) v 1 (drop 1 s)) ≡ readValue s
   long-value n z v u =
       let k : l .len - 1 ≡ n = omega arith in
       rw (k, ← u) at (some-value (λ y. absurd (omega arith)))
@@ -68,7 +70,7 @@ module _ (s : List ℕ) (h : 0 < length s) where
         pub as-bad : l .len ≡ 0 → TokenBad 0 ≡ readUtf8 s
         as-bad z = ap asToken (no-value s h l e z) ∙ no-mark
 
-        pub as-value : (l .len ≡ 0 → ⊥) → asToken (conts (l .len - 1) (l .lo) (l .hi) (getD s 0 0 % l .modulus) 1 (drop 1 s)) ≡ readUtf8 s
+        pub as-value : (l .len ≡ 0 → ⊥) → asToken (permittedAt (l .len - 1) (conts (l .len - 1) (l .lo) (l .hi) (getD s 0 0 % l .modulus) 1 (drop 1 s))) ≡ readUtf8 s
         as-value z = ap asToken (some-value s h l e z) ∙ no-mark
 
 -- a first byte below 80 gives itself, one byte long, whatever follows
@@ -76,7 +78,7 @@ pub ascii : (s : List ℕ) → 0 < length s → getD s 0 0 < 128 → TokenValue 
 unfolding conts
 ascii s h k =
     let m : getD s 0 0 ≡ getD s 0 0 % 128 = omega arith in
-    let r : Value (getD s 0 0) 1 ≡ readValue s = long-value s h _ (row-1 (getD s 0 0) (omega arith) k) 0 refl (getD s 0 0) m in
+    let r : Value (getD s 0 0) 1 ≡ readValue s = permitted-value 0 (getD s 0 0) 1 (low (getD s 0 0) (omega arith)) ∙ long-value s h _ (row-1 (getD s 0 0) (omega arith) k) 0 refl (getD s 0 0) m in
     ap asToken r ∙ no-mark s h (λ z. absurd (omega arith)) (λ z. absurd (omega arith))
 
 -- a token that is no mark was read as a value

@@ -9,13 +9,15 @@ use lib.ListN.{length}
 use lib.Dec.{eqb}
 use Rattle.base.specs.Meaning.{pick}
 use Rattle.base.specs.Reading.{within}
+use Rattle.token.specs.declared.Token.{Token}
 use Rattle.token.specs.declared.Token.the-variants.{Start, End, Cut as TokenCut}
 use Rattle.token.proofs.Growing.{Growing}
 use Rattle.utf8.specs.declared.Lead.{Lead}
 use Rattle.utf8.specs.declared.Read.{Read}
 use Rattle.utf8.specs.declared.Read.the-variants.{Cut, Bad}
-use Rattle.utf8.specs.Reading.{leadRow, leadOf, conts, readValue, asToken, readUtf8}
+use Rattle.utf8.specs.Reading.{leadRow, leadOf, conts, permittedAt, readValue, asToken, readUtf8}
 use Rattle.utf8.proofs.First.{back-cut}
+use Rattle.utf8.proofs.Permitted.{cut-permitted}
 
 -- the bytes after the first
 conts-kept : (n lo hi v k : ℕ) (p s : List ℕ) → (conts n lo hi v k p ≡ Cut) ⊎ (conts n lo hi v k (p ++ s) ≡ conts n lo hi v k p)
@@ -31,7 +33,7 @@ conts-kept (suc n) lo hi v k (b ∷ p) s = go (within lo hi b) (conts-kept n 0x8
     go true ih = ih
     go false ih = inr refl
 
-conts-short : (n lo hi v k : ℕ) (p : List ℕ) → conts n lo hi v k p ≡ Cut → length p < n
+pub conts-short : (n lo hi v k : ℕ) (p : List ℕ) → conts n lo hi v k p ≡ Cut → length p < n
 unfolding conts
 conts-short zero lo hi v k p e = let z : _≡_ {A = ℕ} 0 1 = cc in absurd (omega arith)
 conts-short (suc n) lo hi v k [] e = omega arith
@@ -63,30 +65,33 @@ short-rows b =
 abbrev inner : ℕ → List ℕ → Read
 inner b t = conts (leadOf b .len - 1) (leadOf b .lo) (leadOf b .hi) (b % leadOf b .modulus) 1 t
 
+abbrev token : ℕ → Read → Token
+token b r = asToken (permittedAt (leadOf b .len - 1) r)
+
 token-kept : (p s : List ℕ) → (readUtf8 p ≡ TokenCut) ⊎ (readUtf8 (p ++ s) ≡ readUtf8 p)
-unfolding readUtf8 readValue
+unfolding readUtf8 readValue permittedAt
 token-kept [] s = inl refl
 token-kept (b ∷ p) s = go (eqb b 0xFE) (eqb b 0xFF) (eqb (leadOf b .len) 0) (conts-kept (leadOf b .len - 1) (leadOf b .lo) (leadOf b .hi) (b % leadOf b .modulus) 1 p s)
   where
     go : (x y z : Bool) → (inner b p ≡ Cut) ⊎ (inner b (p ++ s) ≡ inner b p) →
-        (pick x Start (pick y End (asToken (pick z (Bad 0) (inner b p)))) ≡ TokenCut)
-        ⊎ (pick x Start (pick y End (asToken (pick z (Bad 0) (inner b (p ++ s))))) ≡ pick x Start (pick y End (asToken (pick z (Bad 0) (inner b p)))))
+        (pick x Start (pick y End (asToken (pick z (Bad 0) (permittedAt (leadOf b .len - 1) (inner b p))))) ≡ TokenCut)
+        ⊎ (pick x Start (pick y End (asToken (pick z (Bad 0) (permittedAt (leadOf b .len - 1) (inner b (p ++ s)))))) ≡ pick x Start (pick y End (asToken (pick z (Bad 0) (permittedAt (leadOf b .len - 1) (inner b p))))))
     go true y z h = inr refl
     go false true z h = inr refl
     go false false true h = inr refl
-    go false false false (inl e) = inl (ap asToken e)
-    go false false false (inr e) = inr (ap asToken e)
+    go false false false (inl e) = inl (ap (token b) e)
+    go false false false (inr e) = inr (ap (token b) e)
 
 token-short : (p : List ℕ) → readUtf8 p ≡ TokenCut → length p < 4
 unfolding readUtf8 readValue
 token-short [] e = omega arith
 token-short (b ∷ p) e = go (eqb b 0xFE) (eqb b 0xFF) (eqb (leadOf b .len) 0) e (conts-short (leadOf b .len - 1) (leadOf b .lo) (leadOf b .hi) (b % leadOf b .modulus) 1 p)
   where
-    go : (x y z : Bool) → pick x Start (pick y End (asToken (pick z (Bad 0) (inner b p)))) ≡ TokenCut → (inner b p ≡ Cut → length p < leadOf b .len - 1) → length (b ∷ p) < 4
+    go : (x y z : Bool) → pick x Start (pick y End (asToken (pick z (Bad 0) (permittedAt (leadOf b .len - 1) (inner b p))))) ≡ TokenCut → (inner b p ≡ Cut → length p < leadOf b .len - 1) → length (b ∷ p) < 4
     go true y z f ih = let z : _≡_ {A = ℕ} 0 1 = cc in absurd (omega arith)
     go false true z f ih = let z : _≡_ {A = ℕ} 0 1 = cc in absurd (omega arith)
     go false false true f ih = let z : _≡_ {A = ℕ} 0 1 = cc in absurd (omega arith)
-    go false false false f ih = let h = ih (back-cut (inner b p) f) in omega (arith, short-rows b)
+    go false false false f ih = let h = ih (cut-permitted (leadOf b .len - 1) (inner b p) (back-cut _ f)) in omega (arith, short-rows b)
 
 pub growing-utf8 : Growing readUtf8
 growing-utf8 = record { kept = token-kept; cut-short = token-short }

@@ -1,6 +1,7 @@
 -- The laws of the reader, and UTF-8 as an instance of a coding's laws.
 pub mod Rows
 pub mod Written
+pub mod Permitted
 pub mod Conts
 pub mod First
 pub mod Ascii

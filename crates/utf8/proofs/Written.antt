@@ -1,20 +1,22 @@
--- The rows of Table 3-6 one by one, and the test for a value.
+-- The rows of Table 3-6 one by one, and the tests for a scalar value and for a value.
 use mathlib.Core.Path.{_≡_, refl, sym, _∙_}
 use mathlib.Core.Logic.{_⊎_, _↔_, inl, inr}
-use mathlib.Core.Bool.{true, false}
+use mathlib.Core.Bool.{Bool, true, false}
 use mathlib.Core.List.{List, [], _∷_}
 use Prim.Native.Nat.{ℕ, _+_, _/_, _%_, _<_, _≤_}
 use native.Mathlib.Omega.{arith}
 use lib.Dec.{ltb}
 use lib.ListN.{length}
 use lib.Seq.{sets}
-use Rattle.base.specs.Reading.{over}
+use Rattle.base.specs.Reading.{when, over}
+use Rattle.token.specs.Reading.{isNoncharacter}
+use Rattle.token.proofs.Noncharacters.{noncharacter-no, no-noncharacter}
 use Rattle.base.proofs.Over.{stores}
 use borrow.Author.Tests.{lt-ltb, le-ltb, ltb-true}
 use Rattle.base.proofs.Tests.{below}
 use Rattle.base.proofs.Chain.{chain}
-use Rattle.utf8.specs.Meaning.{Scalar, utf8Bytes}
-use Rattle.utf8.specs.Reading.{isScalar}
+use Rattle.utf8.specs.Meaning.{Scalar, Utf8Value, utf8Bytes}
+use Rattle.utf8.specs.Reading.{isScalar, isUtf8Value}
 
 module _ (v : ℕ) where
   pub one-byte : v < 0x80 → v ∷ [] ≡ utf8Bytes v
@@ -36,7 +38,7 @@ module _ (v : ℕ) where
       let l : 0x800 ≤ v = omega arith in
       rw (le-ltb v 0x80 k, le-ltb v 0x800 l, le-ltb v 0x10000 g)
 
-  -- every value is below 110000
+  -- every scalar value is below 110000
   pub scalar-low : Scalar v → v < 0x110000
   scalar-low (inl h) = omega arith
   scalar-low (inr h) = h .1
@@ -53,7 +55,7 @@ module _ (v : ℕ) where
   unfolding isScalar
   above-surrogates h = search chain depth 30
 
-  -- the test holds of the values and of nothing else
+  -- the test holds of the scalar values and of nothing else
   pub scalar-exactly : (isScalar v ≡ true) ↔ Scalar v
   scalar-exactly = (λ e. yes e (below v 0xD800) (below v 0xE000), back)
     where
@@ -65,6 +67,23 @@ module _ (v : ℕ) where
       back : Scalar v → isScalar v ≡ true
       back (inl h) = sym (below-surrogates h)
       back (inr (g, h)) = sym (above-surrogates (omega arith, g)) ∙ lt-ltb v 0x110000 h
+
+  -- the test for a value
+  pub noncharacter-no-value : isNoncharacter v ≡ true → false ≡ isUtf8Value v
+  unfolding isUtf8Value when
+  noncharacter-no-value e = rw e
+
+  pub scalar-value : isNoncharacter v ≡ false → isScalar v ≡ isUtf8Value v
+  unfolding isUtf8Value when
+  scalar-value e = rw e
+
+  -- it holds of the values and of nothing else
+  pub utf8-value-exactly : (isUtf8Value v ≡ true) ↔ Utf8Value v
+  utf8-value-exactly = (λ e. there (isNoncharacter v) refl e, λ (h, n). sym (scalar-value (no-noncharacter v n)) ∙ scalar-exactly .1 h)
+    where
+      there : (t : Bool) → isNoncharacter v ≡ t → isUtf8Value v ≡ true → Utf8Value v
+      there true p e = absurd (let q : false ≡ true = noncharacter-no-value p ∙ e in let z : _≡_ {A = ℕ} 0 1 = cc in omega arith)
+      there false p e = (scalar-exactly .0 (scalar-value p ∙ e), noncharacter-no v p)
 
 -- a value's bytes stored one by one
 pub stored : (v : ℕ) (xs vs : List ℕ) → vs ≡ utf8Bytes v → length (utf8Bytes v) ≤ length xs → (length vs ≡ length (utf8Bytes v)) × (sets xs 0 vs ≡ over (utf8Bytes v) xs)

@@ -4,10 +4,15 @@ use mathlib.Core.Logic.{_⊎_}
 use Prim.Native.Nat.{ℕ, _+_, _/_, _%_, _<_, _≤_}
 use lib.Dec.{ltb}
 use Rattle.base.specs.Meaning.{pick}
+use Rattle.token.specs.Meaning.{Noncharacter}
 
--- a code point that is no surrogate
+-- a Unicode scalar value: a code point that is no surrogate
 abbrev pub Scalar : ℕ → Type 0
 Scalar v = (v < 0xD800) ⊎ ((0xE000 ≤ v) × (v < 0x110000))
+
+-- a value of a table in UTF-8 is no noncharacter either
+abbrev pub Utf8Value : ℕ → Type 0
+Utf8Value v = Scalar v × (Noncharacter v → ⊥)
 
 -- the bytes of a value: six bits to each byte after the first
 unfoldable pub utf8Bytes : ℕ → List ℕ

@@ -1,20 +1,24 @@
--- One value at the front of a list of bytes: well-formed UTF-8 (Unicode, Table 3-7). And one token: FE starts a sequence, FF ends a
--- description, and anything else is a value.
+-- One value at the front of a list of bytes: well-formed UTF-8 (Unicode, Table 3-7), and no noncharacter. And one token: FE starts a sequence, FF ends
+-- a description, and anything else is a value.
 use mathlib.Core.List.{List, [], _∷_}
 use Prim.Native.Nat.{ℕ, _+_, _%_, zero, suc, _-_, _*_}
 use mathlib.Core.Bool.{Bool, true, false}
 use lib.Dec.{ltb, eqb}
 use Rattle.base.specs.Meaning.{pick}
 use Rattle.base.specs.Reading.{when, within}
+use Rattle.token.specs.Reading.{isNoncharacter}
 use Rattle.token.specs.declared.Token.{Token}
 use Rattle.token.specs.declared.Token.the-variants.{Value as TokenValue, Start, End, Cut as TokenCut, Bad as TokenBad}
 use Rattle.utf8.specs.declared.Lead.{Lead}
 use Rattle.utf8.specs.declared.Read.{Read}
 use Rattle.utf8.specs.declared.Read.the-variants.{Value, Cut, Bad}
 
--- the same as a test
+-- the same as tests
 unfoldable pub isScalar : ℕ → Bool
 isScalar v = when (ltb v 0xD800) true (when (ltb v 0xE000) false (ltb v 0x110000))
+
+unfoldable pub isUtf8Value : ℕ → Bool
+isUtf8Value v = when (isNoncharacter v) false (isScalar v)
 
 -- a leadRow of Table 3-7: the value's length, the modulus that leaves the first byte's bits, the bounds of the second byte
 abbrev pub leadRow : ℕ → ℕ → ℕ → ℕ → Lead
@@ -40,12 +44,18 @@ conts zero lo hi v k s = Value v k
 conts (suc n) lo hi v k [] = Cut
 conts (suc n) lo hi v k (b ∷ s) = pick (within lo hi b) (conts n 0x80 0xBF (v * 64 + (b - 0x80)) (k + 1) s) (Bad k)
 
--- the value in front
+-- a noncharacter is no value: it is bad at k
+unfoldable pub permittedAt : ℕ → Read → Read
+permittedAt k (Value v l) = pick (isNoncharacter v) (Bad k) (Value v l)
+permittedAt k Cut = Cut
+permittedAt k (Bad j) = Bad j
+
+-- the value in front; a noncharacter is bad at its last byte
 unfoldable pub readValue : List ℕ → Read
 readValue [] = Cut
 readValue (b ∷ s) =
     pick (eqb (leadOf b .len) 0) (Bad 0)
-    (conts (leadOf b .len - 1) (leadOf b .lo) (leadOf b .hi) (b % leadOf b .modulus) 1 s)
+    (permittedAt (leadOf b .len - 1) (conts (leadOf b .len - 1) (leadOf b .lo) (leadOf b .hi) (b % leadOf b .modulus) 1 s))
 
 -- the same as a token
 abbrev pub asToken : Read → Token

@@ -4,7 +4,7 @@ ghost use mathlib.Core.Path.{_≡_};
 ghost use Prim.Native.Nat.{_+_, _-_, _*_, _≤_, _<_};
 ghost use lib.ListN.{length, drop};
 ghost use Rattle.base.specs.Reading.{within, over};
-ghost use Rattle.utf8.specs.Reading.{leadOf, readValue, readUtf8, conts, isScalar};
+ghost use Rattle.utf8.specs.Reading.{leadOf, readValue, readUtf8, conts, permittedAt, isScalar, isUtf8Value};
 ghost use Rattle.utf8.specs.Bounds.{Reached};
 ghost use Rattle.utf8.specs.Meaning.{Scalar, utf8Bytes};
 use base::wide;
@@ -166,8 +166,24 @@ fn four(s: &[u8], v: u32, lo: u8, hi: u8) -> Read
     }
 }
 
+// What was read, but a noncharacter is no value: it is bad at k, the place of its last byte, since the bytes before that begin other values.
+fn permitted_at(k: usize, r: Read) -> Read
+    ensures { λ x. ⌜ x ≡ permittedAt k r ⌝ }
+{
+    match r {
+        Read::Value(v, l) => {
+            if token::is_noncharacter(v) {
+                return Read::Bad(k);
+            }
+            Read::Value(v, l)
+        }
+        Read::Cut => Read::Cut,
+        Read::Bad(j) => Read::Bad(j),
+    }
+}
+
 // The value at the front of some bytes, and its length; Cut where the bytes end too soon, Bad with the place of the first byte that no
-// well-formed value has there.
+// value has there: a value is well-formed, and no noncharacter. Noncharacters have three bytes or four.
 pub fn read_value(s: &[u8]) -> Read
     ensures { λ r. ⌜ r ≡ readValue (now (s .entry)) ⌝ }
 {
@@ -185,8 +201,14 @@ pub fn read_value(s: &[u8]) -> Read
     match n {
         0 => return Read::Bad(0),
         2 => return further(s, 1, v, l.lo, l.hi),
-        3 => return three(s, v, l.lo, l.hi),
-        _ => return four(s, v, l.lo, l.hi),
+        3 => {
+            let r = three(s, v, l.lo, l.hi);
+            return permitted_at(2, r);
+        }
+        _ => {
+            let r = four(s, v, l.lo, l.hi);
+            return permitted_at(3, r);
+        }
     }
 }
 
@@ -212,7 +234,7 @@ pub fn read_utf8(s: &[u8]) -> Token
     }
 }
 
-// Whether a number is a value of UTF-8: a code point that is no surrogate.
+// Whether a number is a Unicode scalar value: a code point that is no surrogate.
 pub fn is_scalar(v: u32) -> bool
     ensures { λ r. ⌜ r ≡ isScalar v ⌝ }
 {
@@ -223,6 +245,16 @@ pub fn is_scalar(v: u32) -> bool
         return false;
     }
     v < 0x110000
+}
+
+// Whether a number is a value of a table in UTF-8: a scalar value that is no noncharacter.
+pub fn is_utf8_value(v: u32) -> bool
+    ensures { λ r. ⌜ r ≡ isUtf8Value v ⌝ }
+{
+    if token::is_noncharacter(v) {
+        return false;
+    }
+    is_scalar(v)
 }
 
 // How many bytes a value has.
@@ -241,7 +273,7 @@ pub fn len_utf8(v: u32) -> usize
     4
 }
 
-// A value's bytes to the front, and how many they are. Asks for a value of UTF-8 and for room: the caller has tested both.
+// A value's bytes to the front, and how many they are. Asks for a scalar value and for room: the caller has tested both.
 pub fn put_utf8(v: u32, out: &mut [u8]) -> usize
     requires { ⌜ Scalar v × (length (utf8Bytes v) ≤ length (now out)) ⌝ }
     ensures { λ r. ⌜ (r ≡ length (utf8Bytes v)) × (now (out .exit) ≡ over (utf8Bytes v) (now (out .entry))) ⌝ }

@@ -248,7 +248,7 @@ impl Asking<'_> {
         for _ in 0..3 {
             self.value(random.of(&EDGES));
         }
-        self.value(random.of(&[0xD800, 0xDFFF, 0xFFFE, 0xFFFF, 0x110000, u32::MAX]));
+        self.value(random.of(&[0xD800, 0xDFFF, 0xFDD0, 0xFFFE, 0xFFFF, 0x110000, u32::MAX]));
         self.sequence(&[]);
         self.sequence(&[0x41, random.of(&[0x10FFFF, 0x110000, u32::MAX])]);
     }

@@ -87,7 +87,7 @@ fn one_way(first: &[u8], second: &[u8], more: usize, tally: &mut Tally) -> bool 
 }
 
 /// Two fonts, both ways.
-fn two(first: &[u8], second: &[u8], more: usize, tally: &mut Tally) {
+pub fn two(first: &[u8], second: &[u8], more: usize, tally: &mut Tally) {
     tally.files += 2;
     for (first, second) in [(first, second), (second, first)] {
         tally.sound += one_way(first, second, more, tally) as u64;

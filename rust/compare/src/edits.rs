@@ -73,9 +73,9 @@ fn edit(
 }
 
 /// Edits of one font, each of a buffer of its own.
-struct Editing<'a> {
-    file: &'a [u8],
-    tally: &'a mut Tally,
+pub struct Editing<'a> {
+    pub file: &'a [u8],
+    pub tally: &'a mut Tally,
 }
 
 impl Editing<'_> {
@@ -102,11 +102,12 @@ impl Editing<'_> {
 
     /// Both edits of the whole font, with room for either and bytes behind it, with no room
     /// but the font, and an add with just the room that it needs and with one byte less.
-    fn both(&mut self, g: usize, v: u32) {
+    pub fn both(&mut self, g: usize, v: u32) {
         let len = self.file.len();
         for e in [Add, Drop] {
-            let Some(new) = self.once(e, len + 9, len, g, v) else { continue };
+            let new = self.once(e, len + 9, len, g, v);
             self.once(e, len, len, g, v);
+            let Some(new) = new else { continue };
             if new > len {
                 self.once(e, new, len, g, v);
                 self.once(e, new - 1, len, g, v);
@@ -120,8 +121,22 @@ const WORDS: [&[u8]; 6] =
     [&[0x41], &[0xC3, 0x85], &[0xE2, 0x84, 0xAB], &[0xF0, 0x9F, 0x98, 0x80], &[0xFE], &[0xFF]];
 const LISTED: [u32; 4] = [0x41, 0xC5, 0x212B, 0x1F600];
 
-/// Values that no edit takes.
-const WRONG: [u32; 7] = [0xD800, 0xDBFF, 0xDC00, 0xDFFF, 0x110000, 0x1000041, u32::MAX];
+/// Values that no edit takes; noncharacters, which can't be added and are never there.
+const WRONG: [u32; 13] = [
+    0xD800,
+    0xDBFF,
+    0xDC00,
+    0xDFFF,
+    0x110000,
+    0x1000041,
+    u32::MAX,
+    0xFDD0,
+    0xFDEF,
+    0xFFFE,
+    0xFFFF,
+    0x1FFFE,
+    0x10FFFF,
+];
 
 const MOST_WORDS: u32 = 6;
 const TABLE_JOBS: usize = 36;
@@ -170,7 +185,16 @@ fn lengths(job: usize, tally: &mut Tally) {
         let near = |len: usize| end < 300 || len < 40 || len + 12 > end;
         let lens = (0..room + 3).filter(|&len| near(len));
         for len in lens.chain([1 << 20, 1 << 32, usize::MAX - 3, usize::MAX]) {
-            for (g, v) in [(0, 0x41), (n - 1, 0x42), (n - 1, 0x10FFFF), (n, 0x41), (0, 0xDC00)] {
+            let (last, none) = (n - 1, 0xFFFE);
+            for (g, v) in [
+                (0, 0x41),
+                (last, 0x42),
+                (last, 0x10FFFD),
+                (n, 0x41),
+                (0, 0xDC00),
+                (0, none),
+                (n, none),
+            ] {
                 editing.once(Add, room, len, g, v);
                 editing.once(Drop, room, len, g, v);
             }
@@ -189,7 +213,7 @@ fn many(job: usize, tally: &mut Tally) {
     // the last glyphs alone where it would take too long
     let first = [0, 1, 43, 44, 255, 256, 257, 299].into_iter().filter(|_| n < 1000);
     for g in first.chain([n - 1, n, n + 256, 1 << 32, usize::MAX]) {
-        for v in [own(g % n), own((g % n + 1) % n), 0x41, 0x10FFFF] {
+        for v in [own(g % n), own((g % n + 1) % n), 0x41, 0x10FFFD] {
             editing.both(g, v);
         }
     }
@@ -204,7 +228,9 @@ fn limit(job: usize, tally: &mut Tally) {
     assert_eq!(file.len(), LIMIT - job);
     let mut editing = Editing { file: &file, tally };
     editing.check();
-    for (g, v) in [(0, 0x61), (0, 0x41), (31, 0xC5), (63, 0x212B), (127, 0x1F600), (127, 0x61)] {
+    for (g, v) in
+        [(0, 0x61), (0, 0x41), (31, 0xC5), (63, 0x212B), (127, 0x1F600), (127, 0x61), (127, 0xFFFF)]
+    {
         editing.both(g, v);
         editing.once(Add, LIMIT, file.len(), g, v);
         editing.once(Add, LIMIT + 9, LIMIT + 1, g, v);

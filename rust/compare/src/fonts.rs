@@ -9,14 +9,16 @@ pub const FIELDS: [u32; 26] = [
     0x7FFFFFFF, 0x80000000, 0xFFFFFFFE, 0xFFFFFFFF,
 ];
 
-/// Bytes at the bounds of Table 3-7's ranges, and the marks.
-pub const UTF8_EDGES: [u8; 28] = [
-    0x00, 0x41, 0x7F, 0x80, 0x81, 0x8F, 0x90, 0x9F, 0xA0, 0xBF, 0xC0, 0xC1, 0xC2, 0xDF, 0xE0, 0xE1,
-    0xEC, 0xED, 0xEE, 0xEF, 0xF0, 0xF1, 0xF3, 0xF4, 0xF5, 0xFD, 0xFE, 0xFF,
+/// Bytes at the bounds of Table 3-7's ranges, at the bounds of noncharacters' last bytes, and
+/// the marks.
+pub const UTF8_EDGES: [u8; 32] = [
+    0x00, 0x41, 0x7F, 0x80, 0x81, 0x8F, 0x90, 0x9F, 0xA0, 0xAF, 0xB7, 0xBD, 0xBE, 0xBF, 0xC0, 0xC1,
+    0xC2, 0xDF, 0xE0, 0xE1, 0xEC, 0xED, 0xEE, 0xEF, 0xF0, 0xF1, 0xF3, 0xF4, 0xF5, 0xFD, 0xFE, 0xFF,
 ];
 
-/// Bytes that matter in PSF1's table: of marks, of surrogates, of others.
-pub const UNIT_EDGES: [u8; 10] = [0x00, 0x41, 0xD7, 0xD8, 0xDB, 0xDF, 0xE0, 0xFD, 0xFE, 0xFF];
+/// Bytes that matter in PSF1's table: of marks, of surrogates, of noncharacters, of others.
+pub const UNIT_EDGES: [u8; 13] =
+    [0x00, 0x41, 0xCF, 0xD0, 0xD7, 0xD8, 0xDB, 0xDF, 0xE0, 0xEF, 0xFD, 0xFE, 0xFF];
 
 /// Metrics at the edges of an entry's.
 const METRICS: [i16; 14] =
@@ -78,7 +80,7 @@ fn random_narrow(random: &mut Random) -> Vec<u8> {
     for _ in 0..random.below(5) {
         let g = random.of(&[0, 1, 254, 255, n - 2, n - 1, 77]);
         texts[g] = random_text(random, false);
-        let most = random.of(&[0xFFFC, 0xFFFD, 0xFFFE, 0xFFFF, 0x10FFFF]);
+        let most = random.of(&[0xFDCF, 0xFFFC, 0xFFFD, 0x10000, 0x10FFFF]);
         let Text { singles, sequences } = &mut texts[g];
         for v in singles.iter_mut().chain(sequences.iter_mut().flatten()) {
             *v = (*v).min(most);
@@ -120,13 +122,14 @@ pub fn random_tail(random: &mut Random) -> Vec<u8> {
         vfont2(32, &vec![NONE; left], &[], Some(&[]))
     };
     for _ in 0..random.below(9) {
-        match (units, random.below(4)) {
+        match (units, random.below(5)) {
             (true, 0) => file.push(random.of(&UNIT_EDGES)),
             (true, 1) => file.extend([0xFE, 0xFF]),
             (true, 2) => file.extend([0xFF, 0xFF]),
             (true, _) => file.extend([random.of(&UNIT_EDGES), random.of(&UNIT_EDGES)]),
             (false, 0) => file.push(random.of(&UTF8_EDGES)),
             (false, 1) => file.push(random.of(&[0xFE, 0xFF, 0xFF])),
+            (false, 2) if random.below(4) == 0 => file.extend(utf8(random.of(&noncharacters()))),
             (false, _) => file.extend(utf8(random.of(&EDGES))),
         }
     }

@@ -17,6 +17,7 @@ mod lines;
 #[allow(dead_code)]
 #[path = "../../vectors/src/make.rs"]
 mod make;
+mod noncharacters;
 mod pieces;
 mod records;
 mod tables;
@@ -88,7 +89,7 @@ fn run_part(parts: &[Part], job: usize, tally: &mut Tally) {
     }
 }
 
-const SERIES: [Series; 14] = [
+const SERIES: [Series; 15] = [
     Series { name: "fonts", jobs: FONT_JOBS, run: |j, t| random(1, j, t, fonts::random_font) },
     Series { name: "tails", jobs: TAIL_JOBS, run: |j, t| random(2, j, t, fonts::random_tail) },
     Series { name: "junk", jobs: JUNK_JOBS, run: |j, t| random(3, j, t, fonts::junk) },
@@ -109,6 +110,7 @@ const SERIES: [Series; 14] = [
     Series { name: "records", jobs: records::JOBS, run: records::run },
     Series { name: "edits", jobs: edits::JOBS, run: edits::run },
     Series { name: "differences", jobs: differences::JOBS, run: differences::run },
+    Series { name: "noncharacters", jobs: noncharacters::JOBS, run: noncharacters::run },
     Series { name: "tables of 4 boundary bytes", jobs: tables::EDGE_JOBS, run: tables::run_edges },
     Series { name: "tables of up to 3 bytes", jobs: tables::JOBS, run: tables::run },
 ];

@@ -73,7 +73,7 @@ impl Asking<'_> {
     }
 
     /// As a wire may bring it: byte by byte, in frames of 64, in random pieces.
-    fn arriving(&mut self, random: &mut Random) {
+    pub fn arriving(&mut self, random: &mut Random) {
         let whole = self.whole();
         self.chunks(1, whole);
         self.chunks(64, whole);
@@ -82,7 +82,7 @@ impl Asking<'_> {
 
     /// Every cut into two pieces, and into three; of a font over `SMALL` bytes the first cut
     /// of three goes in steps.
-    fn every_cut(&mut self) {
+    pub fn every_cut(&mut self) {
         let whole = self.whole();
         let (file, length) = (self.file, self.file.len());
         for a in 0..=length {
@@ -94,8 +94,24 @@ impl Asking<'_> {
                 break;
             }
             for b in a..=length {
-                let pieces = [&file[..a], &file[a..b], &file[b..]];
-                self.fed(pieces.into_iter(), whole, &|| format!("cut at {a} and {b}"));
+                self.three(a, b, whole);
+            }
+        }
+    }
+
+    /// In three pieces.
+    fn three(&mut self, a: usize, b: usize, whole: Answer<Shape>) {
+        let file = self.file;
+        let pieces = [&file[..a], &file[a..b], &file[b..]];
+        self.fed(pieces.into_iter(), whole, &|| format!("cut at {a} and {b}"));
+    }
+
+    /// In three pieces with both cuts among these places.
+    pub fn cuts(&mut self, places: std::ops::Range<usize>) {
+        let whole = self.whole();
+        for a in places.clone() {
+            for b in a..places.end {
+                self.three(a, b, whole);
             }
         }
     }

@@ -219,7 +219,7 @@ pub fn vfont2_to_psf2(file: &[u8], out: &mut [u8]) -> Result<usize, Refusal> {
 /// other item of every description and the bytes behind the font as it is then stay. A refused
 /// call leaves `buffer` as it was; ROOM's place is the size needed. Refusals: ASK for a `len`
 /// above the buffer's, 1 to 12, WRONG KIND, NO TABLE, ASK for the glyph and for a value above
-/// 10FFFF or a surrogate, HAVE, SIZE, ROOM.
+/// 10FFFF, a surrogate or a noncharacter, HAVE, SIZE, ROOM.
 ///
 /// ```
 /// # let (file, mut buffer) = (lavandol::SMALL, [0; 64]);
@@ -238,7 +238,7 @@ pub fn add_mapping(buffer: &mut [u8], len: usize, g: usize, v: u32) -> Result<us
 /// bytes of `buffer`: the font's new length. The font is changed in place, and the bytes that
 /// are freed become 0; all else stays, as in `add_mapping`. A refused call leaves `buffer` as
 /// it was. Refusals: ASK for a `len` above the buffer's, 1 to 12, WRONG KIND, NO TABLE, ASK for
-/// the glyph and for a value above 10FFFF or a surrogate, NOT THERE.
+/// the glyph and for a value above 10FFFF or a surrogate, NOT THERE (also for a noncharacter).
 pub fn drop_mapping(buffer: &mut [u8], len: usize, g: usize, v: u32) -> Result<usize, Refusal> {
     number(unsafe { lav_drop_mapping(buffer.as_mut_ptr(), buffer.len(), len, g, v) })
 }

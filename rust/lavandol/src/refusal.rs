@@ -67,17 +67,19 @@ reasons! {
     /// The Unicode table could still be completed, but is not complete; place: the file's
     /// length.
     10 TableCut "table cut",
-    /// No table begins so; place: the end of the longest part that could be completed.
+    /// No table begins so; place: the end of the longest part that could be completed, so the
+    /// last byte of a noncharacter, which is no value.
     11 TableBad "table bad",
     /// Bytes after a complete table, or after the bitmaps of a font without one; place: the
     /// first of them.
     12 Trailing "trailing",
     /// Glyph, item, row or column number too high, value above 10FFFF, empty sequence; of an
-    /// edit also a surrogate, or a font's length above the buffer's; place 0.
+    /// edit also a surrogate, or a font's length above the buffer's; of an add also a
+    /// noncharacter; place 0.
     13 Ask "ask",
     /// A walk, lookup or edit on a font without a Unicode table; place 0.
     14 NoTable "no table",
-    /// No glyph lists it; place 0.
+    /// No glyph lists it, as of a noncharacter always; place 0.
     15 Unmapped "unmapped",
     /// A bitmap or metrics asked of a vfont2 entry of size 0; place 0.
     16 NoGlyph "no glyph",
@@ -87,7 +89,7 @@ reasons! {
     /// width not 8 (28). From vfont2: an entry that has no glyph, or whose five metrics are
     /// not (greatest height, 0, 0, greatest width, greatest width); place: its start.
     18 Glyphs "glyphs",
-    /// The target can't have a value: a surrogate (PSF1 to PSF2), above FFFD (to PSF1);
+    /// The target can't have a value: a surrogate (PSF1 to PSF2), above FFFF (to PSF1);
     /// place: its first byte.
     19 Value "value",
     /// The output, or the edited font, would be over 1,048,576 bytes; place 0.
@@ -102,7 +104,8 @@ reasons! {
     23 Line "line",
     /// The glyph lists the value that is to be added as a single already; place 0.
     24 Have "have",
-    /// The glyph does not list the value that is to be dropped as a single; place 0.
+    /// The glyph does not list the value that is to be dropped as a single, as of a
+    /// noncharacter always; place 0.
     25 NotThere "not there",
 }
 

@@ -168,6 +168,33 @@ fn questions_are_refused() {
     assert_eq!(refusal(item(&file, 0, 0)), (Reason::NoTable, 0));
 }
 
+/// No lookup finds a noncharacter, and no font lists one: TABLE BAD at its last byte.
+#[test]
+fn noncharacters_are_no_values() {
+    for v in [0xFDD0, 0xFDEF, 0xFFFE, 0xFFFF, 0x1FFFE, 0x10FFFF] {
+        let word = char::from_u32(v).unwrap().to_string();
+        for file in [PSF2, VFONT2, LETTERS] {
+            assert_eq!(refusal(find_value(file, v)), (Reason::Unmapped, 0));
+            assert_eq!(refusal(find_sequence(file, &[0x41, v])), (Reason::Unmapped, 0));
+        }
+        // before A in glyph 0, and in glyph 1's sequence
+        for at in [36, 41] {
+            let file = [&PSF2[..at], word.as_bytes(), &PSF2[at..]].concat();
+            assert_eq!(refusal(check(&file)), (Reason::TableBad, at + word.len() - 1));
+        }
+    }
+    let mut units = LETTERS.to_vec();
+    let at = 2052 + 2 * 0x20; // the value of glyph 20, behind 20 end marks (hexadecimal)
+    for (unit, sound) in [(0xFDCF, true), (0xFDD0, false), (0xFDEF, false), (0xFDF0, true)] {
+        units[at..at + 2].copy_from_slice(&u16::to_le_bytes(unit));
+        if sound {
+            assert_eq!(find_value(&units, unit.into()), Ok(0x20));
+        } else {
+            assert_eq!(refusal(check(&units)), (Reason::TableBad, at + 1));
+        }
+    }
+}
+
 #[test]
 fn an_entry_of_size_0_has_no_glyph() {
     let mut file = VFONT2.to_vec();
@@ -220,6 +247,13 @@ fn conversions_are_refused() {
     let at = 2052 + 2 * 0x20; // the value of glyph 20, behind 20 end marks (hexadecimal)
     surrogate[at..at + 2].copy_from_slice(&[0, 0xD8]);
     assert_eq!(refusal(psf1_to_psf2(&surrogate, &mut [])), (Reason::Value, at));
+    // FFFD can be in PSF1, 10000 can't: in place of glyph 20's value
+    let wide = converted(psf1_to_psf2, LETTERS);
+    let at = 2080 + 0x20;
+    let with = |v: char| [&wide[..at], v.to_string().as_bytes(), &wide[at + 1..]].concat();
+    let back = converted(psf2_to_psf1, &with('\u{FFFD}'));
+    assert_eq!(find_value(&back, 0xFFFD), Ok(0x20));
+    assert_eq!(refusal(psf2_to_psf1(&with('\u{10000}'), &mut [])), (Reason::Value, at));
 }
 
 #[test]

@@ -16,9 +16,9 @@ const VALUES: [(u32, usize); 9] = [
     (0x7FF, 2),
     (0x800, 3),
     (0xD7FF, 3),
-    (0xFFFF, 3),
+    (0xFFFD, 3),
     (0x10000, 4),
-    (0x10FFFF, 4),
+    (0x10FFFD, 4),
 ];
 
 /// What stands behind a font in its buffer.
@@ -192,12 +192,32 @@ fn glyph_and_value_are_asked_for() {
     }
 }
 
+/// A noncharacter can't be added, whatever the room, and is never there to be dropped.
+#[test]
+fn noncharacters() {
+    for v in [0xFDD0, 0xFDEF, 0xFFFE, 0xFFFF, 0x1FFFE, 0x1FFFF, 0x10FFFE, 0x10FFFF] {
+        for room in [45, 60] {
+            for g in [0, 1] {
+                assert_eq!(refused(add_mapping, PSF2, room, 45, g, v), (Reason::Ask, 0));
+                assert_eq!(refused(drop_mapping, PSF2, room, 45, g, v), (Reason::NotThere, 0));
+            }
+            assert_eq!(refused(drop_mapping, PSF2, room, 45, 2, v), (Reason::Ask, 0));
+        }
+    }
+    for v in [0xFDCF, 0xFDF0, 0xFFFD, 0x1FFFD, 0x20000, 0x10FFFD] {
+        let mut b = buffer(PSF2, 60);
+        let len = add_mapping(&mut b, 45, 0, v).unwrap();
+        assert_eq!(find_value(&b[..len], v), Ok(0));
+        assert_eq!(drop_mapping(&mut b, len, 0, v), Ok(45));
+    }
+}
+
 /// HAVE comes before ROOM.
 #[test]
 fn listed_already_or_not_there() {
     assert_eq!(refused(add_mapping, PSF2, 45, 45, 0, 0x41), (Reason::Have, 0));
     assert_eq!(refused(add_mapping, PSF2, 60, 45, 1, 0xC5), (Reason::Have, 0));
-    for (g, v) in [(0, 0x42), (0, 0xC5), (1, 0x41), (1, 0x30A), (0, 0x10FFFF)] {
+    for (g, v) in [(0, 0x42), (0, 0xC5), (1, 0x41), (1, 0x30A), (0, 0x10FFFD)] {
         assert_eq!(refused(drop_mapping, PSF2, 45, 45, g, v), (Reason::NotThere, 0));
     }
 }

@@ -108,7 +108,7 @@ pub fn psf1_to_psf2(file: &[u8], out: &mut [u8]) -> Result<usize, Refusal> {
     })
 }
 
-/// PSF2 to PSF1. GLYPHS for the count, then the width; VALUE above FFFD.
+/// PSF2 to PSF1. GLYPHS for the count, then the width; VALUE above FFFF.
 pub fn psf2_to_psf1(file: &[u8], out: &mut [u8]) -> Result<usize, Refusal> {
     let font = source(file, Kind::Psf2)?;
     if font.count != 256 && font.count != 512 {
@@ -117,7 +117,7 @@ pub fn psf2_to_psf1(file: &[u8], out: &mut [u8]) -> Result<usize, Refusal> {
     if font.width != 8 {
         return refuse(GLYPHS, 28);
     }
-    values_fit(&font, |v| v <= 0xFFFD)?;
+    values_fit(&font, |v| v <= 0xFFFF)?;
     let c = glyph_bytes(&font);
     let table = table_bytes(&font, Coding::Units);
     deliver(4 + font.count * c + table.len(), out, || {

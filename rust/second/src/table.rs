@@ -10,6 +10,8 @@
 //! - `read` cuts the whole tail at the end marks, each piece at the start marks,
 //!   and decodes what is between. It knows nothing of places.
 
+use std::sync::OnceLock;
+
 /// An item of a description.
 #[derive(Debug, Clone, Copy, PartialEq, Eq)]
 pub enum Item {
@@ -50,29 +52,70 @@ pub enum Verdict {
     Trailing(usize),
 }
 
-/// A word of the table: the range of each of its bytes.
-type Word = &'static [(u8, u8)];
+/// The bytes that may stand at one place of a word, as ranges.
+type Bytes = &'static [(u8, u8)];
 
-/// Unicode Standard, Table 3-7, well-formed UTF-8 byte sequences, row by row.
+/// A word of the table: what each of its bytes may be.
+type Word = &'static [Bytes];
+
+/// Whether a byte is one of these.
+fn has(bytes: Bytes, byte: u8) -> bool {
+    bytes.iter().any(|&(low, high)| low <= byte && byte <= high)
+}
+
+const ANY: Bytes = &[(0x80, 0xBF)];
+/// Second bytes of four in all rows, but those before the last 4096 values of a plane.
+const NOT_LAST: Bytes = &[(0x80, 0x8E), (0x90, 0x9E), (0xA0, 0xAE), (0xB0, 0xBE)];
+const BUT_BF: Bytes = &[(0x80, 0xBE)];
+const BUT_BE_BF: Bytes = &[(0x80, 0xBD)];
+
+/// Unicode Standard, Table 3-7, well-formed UTF-8 byte sequences, without the
+/// noncharacters: the row of EE and EF and those of four bytes are split where a
+/// noncharacter's last byte is.
 const UTF8_VALUES: &[Word] = &[
-    &[(0x00, 0x7F)],
-    &[(0xC2, 0xDF), (0x80, 0xBF)],
-    &[(0xE0, 0xE0), (0xA0, 0xBF), (0x80, 0xBF)],
-    &[(0xE1, 0xEC), (0x80, 0xBF), (0x80, 0xBF)],
-    &[(0xED, 0xED), (0x80, 0x9F), (0x80, 0xBF)],
-    &[(0xEE, 0xEF), (0x80, 0xBF), (0x80, 0xBF)],
-    &[(0xF0, 0xF0), (0x90, 0xBF), (0x80, 0xBF), (0x80, 0xBF)],
-    &[(0xF1, 0xF3), (0x80, 0xBF), (0x80, 0xBF), (0x80, 0xBF)],
-    &[(0xF4, 0xF4), (0x80, 0x8F), (0x80, 0xBF), (0x80, 0xBF)],
+    &[&[(0x00, 0x7F)]],
+    &[&[(0xC2, 0xDF)], ANY],
+    &[&[(0xE0, 0xE0)], &[(0xA0, 0xBF)], ANY],
+    &[&[(0xE1, 0xEC)], ANY, ANY],
+    &[&[(0xED, 0xED)], &[(0x80, 0x9F)], ANY],
+    &[&[(0xEE, 0xEE)], ANY, ANY],
+    // EF B7 90 to EF B7 AF are FDD0 to FDEF; EF BF BE and EF BF BF are FFFE and FFFF
+    &[&[(0xEF, 0xEF)], &[(0x80, 0xB6), (0xB8, 0xBE)], ANY],
+    &[&[(0xEF, 0xEF)], &[(0xB7, 0xB7)], &[(0x80, 0x8F), (0xB0, 0xBF)]],
+    &[&[(0xEF, 0xEF)], &[(0xBF, 0xBF)], BUT_BE_BF],
+    // the last two of a plane: a second byte that ends in F, then BF, then BE or BF
+    &[&[(0xF0, 0xF0)], &[(0x90, 0x9E), (0xA0, 0xAE), (0xB0, 0xBE)], ANY, ANY],
+    &[&[(0xF0, 0xF0)], &[(0x9F, 0x9F), (0xAF, 0xAF), (0xBF, 0xBF)], BUT_BF, ANY],
+    &[&[(0xF0, 0xF0)], &[(0x9F, 0x9F), (0xAF, 0xAF), (0xBF, 0xBF)], &[(0xBF, 0xBF)], BUT_BE_BF],
+    &[&[(0xF1, 0xF3)], NOT_LAST, ANY, ANY],
+    &[&[(0xF1, 0xF3)], &[(0x8F, 0x8F), (0x9F, 0x9F), (0xAF, 0xAF), (0xBF, 0xBF)], BUT_BF, ANY],
+    &[
+        &[(0xF1, 0xF3)],
+        &[(0x8F, 0x8F), (0x9F, 0x9F), (0xAF, 0xAF), (0xBF, 0xBF)],
+        &[(0xBF, 0xBF)],
+        BUT_BE_BF,
+    ],
+    &[&[(0xF4, 0xF4)], &[(0x80, 0x8E)], ANY, ANY],
+    &[&[(0xF4, 0xF4)], &[(0x8F, 0x8F)], BUT_BF, ANY],
+    &[&[(0xF4, 0xF4)], &[(0x8F, 0x8F)], &[(0xBF, 0xBF)], BUT_BE_BF],
 ];
-const UTF8_START: Word = &[(0xFE, 0xFE)];
-const UTF8_END: Word = &[(0xFF, 0xFF)];
+const UTF8_START: Word = &[&[(0xFE, 0xFE)]];
+const UTF8_END: Word = &[&[(0xFF, 0xFF)]];
 
-/// 0000 to FFFD with the low byte first: below FE in the low byte every high
-/// byte goes; FE and FF need a high byte other than FF.
-const UNIT_VALUES: &[Word] = &[&[(0x00, 0xFD), (0x00, 0xFF)], &[(0xFE, 0xFF), (0x00, 0xFE)]];
-const UNIT_START: Word = &[(0xFE, 0xFE), (0xFF, 0xFF)];
-const UNIT_END: Word = &[(0xFF, 0xFF), (0xFF, 0xFF)];
+/// 0000 to FFFD without FDD0 to FDEF, the low byte first: a low byte of D0 to EF needs
+/// a high byte other than FD, FE and FF one other than FF, and the rest goes with all.
+const UNIT_VALUES: &[Word] = &[
+    &[&[(0x00, 0xCF), (0xF0, 0xFD)], &[(0x00, 0xFF)]],
+    &[&[(0xD0, 0xEF)], &[(0x00, 0xFC), (0xFE, 0xFF)]],
+    &[&[(0xFE, 0xFF)], &[(0x00, 0xFE)]],
+];
+const UNIT_START: Word = &[&[(0xFE, 0xFE)], &[(0xFF, 0xFF)]];
+const UNIT_END: Word = &[&[(0xFF, 0xFF)], &[(0xFF, 0xFF)]];
+
+/// Whether v is a noncharacter: FDD0 to FDEF, and the last two of each plane.
+pub fn noncharacter(v: u32) -> bool {
+    (0xFDD0..=0xFDEF).contains(&v) || v % 0x10000 >= 0xFFFE
+}
 
 /// Where in the grammar a description stands between two words.
 #[derive(Debug, Clone, Copy, PartialEq, Eq)]
@@ -110,31 +153,35 @@ impl Coding {
         }
     }
 
-    /// A thread for every word that may come in this state.
-    fn open(self, state: State, threads: &mut Vec<Thread>) {
+    /// The values that begin with a byte.
+    fn values_from(self, byte: u8) -> &'static [Word] {
+        static BY_BYTE: [OnceLock<Vec<Vec<Word>>>; 2] = [OnceLock::new(), OnceLock::new()];
+        let from = |b: u8| self.values().iter().copied().filter(|w| has(w[0], b)).collect();
+        &BY_BYTE[self as usize].get_or_init(|| (0..=255).map(from).collect())[byte as usize]
+    }
+
+    /// A thread for every word that may come in this state and has this byte first.
+    fn begin(self, state: State, byte: u8) -> impl Iterator<Item = Thread> {
         let after_value = match state {
             State::Singles => State::Singles,
             State::Started | State::InSequence => State::InSequence,
             State::Ended => unreachable!("the next description begins with singles"),
         };
-        for word in self.values() {
-            threads.push(Thread { word, read: 0, then: after_value });
-        }
-        if state != State::Started {
-            let (start, end) = self.marks();
-            threads.push(Thread { word: start, read: 0, then: State::Started });
-            threads.push(Thread { word: end, read: 0, then: State::Ended });
-        }
+        let (start, end) = self.marks();
+        let marks = [(start, State::Started), (end, State::Ended)];
+        let marks =
+            marks.into_iter().filter(move |(w, _)| state != State::Started && has(w[0], byte));
+        let values = self.values_from(byte).iter().map(move |&word| (word, after_value));
+        values.chain(marks).map(|(word, then)| Thread { word, read: 0, then })
     }
 }
 
 /// What the tail is as a table of n descriptions.
 pub fn judge(coding: Coding, n: usize, tail: &[u8]) -> Verdict {
     let mut missing = n;
-    let mut threads = Vec::new();
-    if missing > 0 {
-        coding.open(State::Singles, &mut threads);
-    }
+    // words under way, and the state in which another one may begin
+    let mut threads: Vec<Thread> = Vec::new();
+    let mut fresh = (n > 0).then_some(State::Singles);
     let mut next = Vec::new();
     for (at, &byte) in tail.iter().enumerate() {
         if missing == 0 {
@@ -142,29 +189,26 @@ pub fn judge(coding: Coding, n: usize, tail: &[u8]) -> Verdict {
         }
         next.clear();
         let mut finished = None;
-        for thread in &threads {
-            let (low, high) = thread.word[thread.read];
-            if low <= byte && byte <= high {
+        let beginning = fresh.into_iter().flat_map(|state| coding.begin(state, byte));
+        for thread in threads.iter().copied().chain(beginning) {
+            if has(thread.word[thread.read], byte) {
                 let read = thread.read + 1;
                 if read < thread.word.len() {
-                    next.push(Thread { read, ..*thread });
+                    next.push(Thread { read, ..thread });
                 } else {
                     assert!(finished.is_none(), "two words end at one byte");
                     finished = Some(thread.then);
                 }
             }
         }
-        match finished {
-            None => {}
+        fresh = match finished {
             Some(State::Ended) => {
                 missing -= 1;
-                if missing > 0 {
-                    coding.open(State::Singles, &mut next);
-                }
+                (missing > 0).then_some(State::Singles)
             }
-            Some(state) => coding.open(state, &mut next),
-        }
-        if next.is_empty() && missing > 0 {
+            other => other,
+        };
+        if next.is_empty() && fresh.is_none() && missing > 0 {
             return Verdict::Bad(at);
         }
         std::mem::swap(&mut threads, &mut next);
@@ -242,12 +286,17 @@ fn cut<W: PartialEq>(
     Some(descriptions)
 }
 
+/// The values, unless one is a noncharacter.
+fn characters(values: impl Iterator<Item = (u32, usize)>) -> Option<Vec<(u32, usize)>> {
+    values.map(|(v, i)| (!noncharacter(v)).then_some((v, i))).collect()
+}
+
 /// FE and FF are in no well-formed UTF-8, so every FF ends a description and
 /// every FE starts a sequence.
 fn read_utf8(tail: &[u8]) -> Option<Vec<Description>> {
     cut(tail, 1, 0xFE, 0xFF, |part| {
         let text = std::str::from_utf8(part).ok()?;
-        Some(text.char_indices().map(|(i, c)| (c as u32, i)).collect())
+        characters(text.char_indices().map(|(i, c)| (c as u32, i)))
     })
 }
 
@@ -258,7 +307,7 @@ fn read_units(tail: &[u8]) -> Option<Vec<Description>> {
     }
     let units: Vec<u16> = tail.chunks(2).map(|b| u16::from_le_bytes([b[0], b[1]])).collect();
     cut(&units, 2, 0xFFFE, 0xFFFF, |part| {
-        Some(part.iter().enumerate().map(|(i, &u)| (u as u32, i)).collect())
+        characters(part.iter().enumerate().map(|(i, &u)| (u as u32, i)))
     })
 }
 

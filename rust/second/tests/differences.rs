@@ -239,8 +239,6 @@ fn items_of_both_codings() {
     assert_eq!(compared(&file, &psf1_as_psf2(b"A\xE2\x82\xAD\xFE\xEF\xBF\xBD")), [(5, 3)]);
     assert_eq!(compared(&file, &psf1_as_psf2(b"A\xE2\x82\xAC\xEF\xBF\xBD")), [(5, 3)]);
     assert_eq!(compared(&psf1_as_psf2(b""), &file), [(5, 3)]);
-    // FFFE is a value in UTF-8, a mark in PSF1
-    assert_eq!(compared(&psf1(&[0xFFFE, 0x41]), &psf1_as_psf2(b"\xEF\xBF\xBEA")), [(5, 3)]);
     // the upper half counts
     assert_eq!(compared(&psf1(&[0x41]), &psf1_as_psf2(b"\xF0\x90\x81\x81")), [(5, 3)]);
 }

@@ -113,8 +113,10 @@ fn other_items_stay() {
 
 #[test]
 fn add_then_drop() {
-    let values =
-        [0, 0x7F, 0x80, 0xFE, 0x7FF, 0x800, 0xD7FF, 0xE000, 0xFFFE, 0xFFFF, 0x10000, 0x10FFFF];
+    let values = [
+        0, 0x7F, 0x80, 0xFE, 0x7FF, 0x800, 0xD7FF, 0xE000, 0xFDCF, 0xFDF0, 0xFFFD, 0x10000,
+        0x10FFFD,
+    ];
     let tables: [&[u8]; 4] =
         [&[0xFF; 3], &[0x41, 0xFF, 0xFE, 0x41, 0xFF, 0x42, 0xFE, 0, 0xFF], &[0xFF], &[0x43, 0xFF]];
     for header in [32, 33, 4096] {
@@ -236,9 +238,9 @@ fn the_longest_font() {
         (1, 0x7F, true),
         (1, 0x80, false),
         (2, 0x7FF, true),
-        (3, 0xFFFF, true),
+        (3, 0xFFFD, true),
         (3, 0x10000, false),
-        (4, 0x10FFFF, true),
+        (4, 0x10FFFD, true),
     ] {
         let file = near_limit(left);
         for room in [file.len(), LIMIT, LIMIT + 10] {

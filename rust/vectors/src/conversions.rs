@@ -132,16 +132,24 @@ fn psf2_to_psf1(s: &mut Script) {
         s.take();
         s.check();
     }
-    s.label("psf2 to psf1: single values around FFFD, on glyphs 0, 255, 256, 511");
-    for v in [0xD7FF, 0xE000, 0xFFFC, 0xFFFD, 0xFFFE, 0xFFFF, 0x10000, 0x10FFFF] {
+    s.label("psf2 to psf1: single values around FFFF, on glyphs 0, 255, 256, 511");
+    for v in [0xD7FF, 0xE000, 0xFDCF, 0xFDF0, 0xFFFD, 0x10000, 0x1FFFD, 0x10FFFD] {
         for g in [0, 255, 256, 511] {
             let some = [(2, text(&[0x41], &[])), (g, text(&[0x20AC, v, 0x42], &[]))];
             s.file(&utf8_font(512, &some));
             s.convert_exact(1);
         }
     }
-    s.label("psf2 to psf1: values around FFFD in sequences, first and last of them");
-    for v in [0xFFFD, 0xFFFE, 0xFFFF, 0x10000, 0x1F600] {
+    s.label("psf2 to psf1: a noncharacter is the font's refusal, also behind a VALUE");
+    for v in [0xFDD0, 0xFFFE, 0xFFFF, 0x1FFFE, 0x10FFFF] {
+        for singles in [&[v][..], &[0x10000, v]] {
+            s.file(&utf8_font(256, &[(100, text(singles, &[]))]));
+            s.convert_exact(1);
+            s.convert_exact(2);
+        }
+    }
+    s.label("psf2 to psf1: values around FFFF in sequences, first and last of them");
+    for v in [0xFDF0, 0xFFFD, 0x10000, 0x1F600, 0x10FFFD] {
         for sequence in [[v, 0x41, 0x42], [0x20AC, 0x41, v]] {
             let some = [(100, text(&[0xE9], &[&[0x41], &sequence, &[0x43]]))];
             s.file(&utf8_font(256, &some));
@@ -149,15 +157,15 @@ fn psf2_to_psf1(s: &mut Script) {
         }
     }
     s.label("psf2 to psf1: the first of several values too high");
-    let some = [(5, text(&[0x41, 0xFFFE], &[&[0x10000]])), (6, text(&[0xFFFF], &[]))];
+    let some = [(5, text(&[0x41, 0x10001], &[&[0x10000]])), (6, text(&[0x1FFFD], &[]))];
     s.file(&utf8_font(256, &some));
     s.convert_rooms(1);
-    let some = [(5, text(&[0x41], &[&[0x10000, 0xFFFE]])), (4, text(&[], &[&[0x41, 0xFFFF]]))];
+    let some = [(5, text(&[0x41], &[&[0x10000, 0xFFFD]])), (4, text(&[], &[&[0x41, 0x20000]]))];
     s.file(&utf8_font(256, &some));
     s.convert_rooms(1);
     s.label("psf2 to psf1: header sizes 33, 40, 4096; VALUE's place moves with them");
     for header in [33, 40, 4096] {
-        for v in [0xFFFD, 0xFFFE] {
+        for v in [0xFFFD, 0x10000] {
             let texts = spread(256, &[(0, text(&[0x41, v], &[]))]);
             s.file(&psf2_wide(header, 256, 1, 8, &[0x66; 256], Some(&table(&texts))));
             s.convert_exact(1);
@@ -259,7 +267,7 @@ fn psf2_to_vfont2(s: &mut Script) {
         s.check();
     }
     s.label("psf2 to vfont2: GLYPHS and VALUE never apply");
-    let texts = [text(&EDGES, &[&EDGES]), text(&[0xFFFE, 0x10FFFF], &[])];
+    let texts = [text(&EDGES, &[&EDGES]), text(&[0xFFFD, 0x10FFFD], &[])];
     s.file(&psf2(2, 255, 255, &[0xC3; 16320], Some(&table(&texts))));
     s.convert_rooms(2);
     s.take();

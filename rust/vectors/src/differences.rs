@@ -180,7 +180,7 @@ fn codings(s: &mut Script) {
         s.compare_with(&[(at, &[byte])]);
     }
     s.label("a surrogate in psf1 alone, two of them for a value above FFFF, the same in both");
-    for (units, value) in [(&[0xDEAD][..], 0x1EAD), (&[0xD83D, 0xDE00], 0x1F600), (&[], 0xFFFE)] {
+    for (units, value) in [(&[0xDEAD][..], 0x1EAD), (&[0xD83D, 0xDE00], 0x1F600), (&[], 0xFFFD)] {
         s.file(&wide(text(&[value], &[])));
         s.keep();
         s.file(&narrow(text(units, &[])));
@@ -188,10 +188,24 @@ fn codings(s: &mut Script) {
     }
     keep(s, &narrow(text(&[0xDEAD], &[])));
     s.compare();
-    s.label("a mark of psf1 that is a value of psf2");
-    keep(s, &wide(text(&[0xFFFE, 0x41], &[])));
+    s.label("noncharacters in psf2 and in psf1: refused, first and second");
+    s.file(&narrow(text(&[0x41], &[])));
+    s.keep();
+    for v in [0xFFFE, 0xFDD0, 0x10FFFF] {
+        s.file(&wide(text(&[v, 0x41], &[])));
+        s.neither_compared();
+    }
+    s.keep();
+    s.file(&narrow(text(&[0xFDEF], &[])));
+    s.neither_compared();
+    s.label("the values beside them, in psf2 and in psf1");
+    for v in [0xFDCF, 0xFDF0, 0xFFFD] {
+        s.file(&wide(text(&[v], &[])));
+        s.keep();
+        s.file(&narrow(text(&[v], &[])));
+        s.compare();
+    }
     s.file(&narrow(text(&[], &[&[0x41]])));
-    s.compare();
     s.label("modes 2 and 4");
     s.keep();
     s.set(2, 4);

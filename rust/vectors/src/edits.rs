@@ -195,7 +195,9 @@ fn other_fonts(s: &mut Script) {
         s.label(&format!("edits of a {name} font"));
         s.file(&file);
         let len = file.len();
-        for (g, v) in [(0, 0x41), (FAR, 0x41), (0, 0xD800), (0, 0x110000), (FAR, u32::MAX)] {
+        for (g, v) in
+            [(0, 0x41), (FAR, 0x41), (0, 0xD800), (0, 0xFFFE), (0, 0x110000), (FAR, u32::MAX)]
+        {
             s.both_refused(len + 4, len, g, v);
         }
         s.both_refused(len, len, 0, 0x41);
@@ -232,6 +234,32 @@ fn asked(s: &mut Script) {
         s.add(45, 45, 1, v);
     }
     s.check();
+    s.label("noncharacters: ASK to add, NOT THERE to drop");
+    for v in noncharacters() {
+        s.both_refused(60, 45, 1, v);
+    }
+    for v in [0xFDD0, 0xFDEF, 0xFFFE, 0xFFFF, 0x1FFFE, 0x10FFFF] {
+        s.both_refused(45, 45, 0, v);
+        s.both_refused(60, 45, 2, v);
+        s.both_refused(44, 45, 0, v);
+        s.both_refused(44, 44, 0, v);
+    }
+    s.check();
+    s.label("the values beside them: added, HAVE, dropped, NOT THERE");
+    for v in neighbours() {
+        s.add(49, 45, 1, v);
+        s.add(s.file.len(), s.file.len(), 1, v);
+        s.drop_good(1, v);
+        s.drop(45, 45, 1, v);
+    }
+    s.check();
+    s.label("a font that lists one is refused");
+    for v in [0xFDD0, 0xFFFE, 0x10FFFF] {
+        let texts = [text(&[0x41, v], &[])];
+        s.file(&psf2(1, 1, 8, &[0xFF], Some(&table(&texts))));
+        s.both_refused(s.file.len() + 4, s.file.len(), 0, v);
+        s.both_refused(s.file.len() + 4, s.file.len(), 0, 0x41);
+    }
 }
 
 /// Values of one to four bytes, at each glyph of three.
@@ -246,7 +274,7 @@ fn values(s: &mut Script) {
         s.drop_good(1, v);
     }
     for g in [0, 2] {
-        for v in [0x7F, 0x7FF, 0xFFFF, 0x10FFFF] {
+        for v in [0x7F, 0x7FF, 0xFFFD, 0x10FFFD] {
             s.add_exact(g, v);
             s.drop_good(g, v);
         }
@@ -258,7 +286,7 @@ fn values(s: &mut Script) {
     }
     s.check();
     s.walk_all(1..2);
-    for v in [0x800, 0, 0x10FFFF, 0xFE, 0xFFFE] {
+    for v in [0x800, 0, 0x10FFFD, 0xFE, 0xFDCF] {
         s.drop_good(1, v);
         s.check();
         s.value(v);
@@ -368,14 +396,15 @@ fn limit(s: &mut Script) {
     let len = s.file.len();
     s.add(LONGEST, len, 0, 0x10000);
     s.add(len, len, 0, 0x10000);
-    s.add(len, len, 0, 0xFFFF);
-    s.add(LIMIT - 1, len, 0, 0xFFFF);
+    s.add(len, len, 0, 0xFFFD);
+    s.add(LIMIT - 1, len, 0, 0xFFFD);
     s.label("three fit, and then none; HAVE and ASK before SIZE");
-    s.add(LIMIT, len, n - 1, 0xFFFF);
+    s.add(LIMIT, len, n - 1, 0xFFFD);
     s.check();
-    s.value(0xFFFF);
+    s.value(0xFFFD);
     s.add(LONGEST, LIMIT, 0, 0x41);
-    s.add(LIMIT, LIMIT, n - 2, 0x10FFFF);
+    s.add(LIMIT, LIMIT, n - 2, 0x10FFFD);
+    s.both_refused(LIMIT, LIMIT, 0, 0x10FFFF);
     s.add(LIMIT, LIMIT, n - 1, 0x42);
     s.add(LIMIT, LIMIT, n, 0x41);
     s.add(LIMIT, LIMIT, 0, 0xDFFF);

@@ -16,6 +16,7 @@ pub fn script() -> Vec<u8> {
     small_tables(&mut s);
     utf8_rows(&mut s);
     utf8_boundaries(&mut s);
+    noncharacter_values(&mut s);
     unit_tables(&mut s);
     cut_tables(&mut s);
     trailing(&mut s);
@@ -365,8 +366,9 @@ fn entries(s: &mut Script) {
     let good = entry(0, 2, 0, 0, 9);
     let bitmaps = pattern(600);
     // entry 1 is the one that varies; 0 and 2 are 2 rows of 9
+    s.file(&vfont2(32, &[good, good, good], &bitmaps, None));
     let ask = |s: &mut Script, e: Entry| {
-        s.file(&vfont2(32, &[good, e, good], &bitmaps, None));
+        s.put(0, &vfont2(32, &[good, e, good], &bitmaps, None));
         s.check();
     };
     s.label("vfont2 entries: size 0 with wild other fields");
@@ -738,8 +740,8 @@ fn utf8_rows(s: &mut Script) {
 fn utf8_boundaries(s: &mut Script) {
     s.label("the first and last value of every row of Table 3-7");
     let edges = [
-        0x0, 0x7F, 0x80, 0x7FF, 0x800, 0xFFF, 0x1000, 0xCFFF, 0xD000, 0xD7FF, 0xE000, 0xFFFF,
-        0x10000, 0x3FFFF, 0x40000, 0xFFFFF, 0x100000, 0x10FFFF, 0xFFFD, 0xFFFE, 0xFDD0,
+        0x0, 0x7F, 0x80, 0x7FF, 0x800, 0xFFF, 0x1000, 0xCFFF, 0xD000, 0xD7FF, 0xE000, 0xFFFD,
+        0x10000, 0x3FFFD, 0x40000, 0xFFFFD, 0x100000, 0x10FFFD,
     ];
     let texts: Vec<Text> = edges.iter().map(|&v| text(&[v], &[&[v], &[v, v]])).collect();
     s.file(&dots(edges.len(), &table(&texts)));
@@ -749,7 +751,7 @@ fn utf8_boundaries(s: &mut Script) {
         s.sequence(&[v, v]);
         s.walk(edges.iter().position(|&e| e == v).unwrap() as u64, 0);
     }
-    s.values(&[0x81, 0xFFE, 0x1001, 0xD800, 0xDFFF, 0x110000, 0x10FFFE]);
+    s.values(&[0x81, 0xFFE, 0x1001, 0xD800, 0xDFFF, 0x110000, 0x10FFFC]);
     s.label("values just outside: overlong, surrogates, above 10FFFF, five and six bytes");
     for bytes in [
         &[0xC0, 0x80][..],
@@ -778,6 +780,146 @@ fn utf8_boundaries(s: &mut Script) {
             s.check();
         }
     }
+}
+
+/// Noncharacters are no values: bad at their last byte, in singles and in sequences. The
+/// values beside them are.
+fn noncharacter_values(s: &mut Script) {
+    let beside = neighbours();
+    s.label("the values beside the noncharacters, psf2 then vfont2; noncharacters looked up");
+    let texts: Vec<Text> = beside.iter().map(|&v| text(&[v], &[&[v, v]])).collect();
+    s.file(&dots(beside.len(), &table(&texts)));
+    s.check();
+    s.values(&beside);
+    for &v in &beside {
+        s.sequence(&[v, v]);
+    }
+    for g in [0, 1, 2, beside.len() as u64 - 1] {
+        s.walk(g, 0);
+        s.walk(g, 3);
+    }
+    s.values(&noncharacters());
+    for v in [0xFDD0, 0xFDEF, 0xFFFE, 0xFFFF, 0x1FFFE, 0x10FFFF] {
+        for sequence in [&[v][..], &[v, v], &[0xFFFD, v], &[v, 0x110000]] {
+            s.sequence(sequence);
+        }
+    }
+    s.file(&vfont2(32, &vec![NONE; beside.len()], &[], Some(&table(&texts))));
+    s.check();
+    s.values(&[0xFDCF, 0xFDF0, 0xFFFD, 0x10FFFD, 0xFDD0, 0xFFFE]);
+
+    s.label("EF B7 and 8F to B0: FDD0 to FDEF and the values beside them");
+    s.file(&dots(1, &[0xEF, 0xB7, 0x8F, 0x41, 0xFF]));
+    for third in 0x8F..=0xB0 {
+        s.put(35, &[third]);
+        s.check();
+    }
+    s.label("the last two of each plane and the value before them");
+    for plane in 0..=16 {
+        let value = utf8(plane << 16 | 0xFFFD);
+        if plane < 2 {
+            s.file(&dots(1, &[&value[..], &[0x41, 0xFF]].concat()));
+        } else {
+            s.put(33, &value);
+        }
+        for last in 0xBD..=0xBF {
+            s.put(32 + value.len(), &[last]);
+            s.check();
+        }
+    }
+    s.value(0x10FFFF);
+    s.walk(0, 0);
+    s.label("like noncharacters but for one byte: values");
+    for (i, word) in [
+        [0xF0, 0x97, 0xBF, 0xBE],
+        [0xF1, 0x9E, 0xBF, 0xBF],
+        [0xF4, 0x8E, 0xBF, 0xBF],
+        [0xF3, 0xBF, 0xBE, 0xBF],
+        [0xF4, 0x80, 0xBF, 0xBE],
+        [0xF0, 0x9F, 0xB7, 0x90],
+        [0xF4, 0x8F, 0xB7, 0xAF],
+    ]
+    .iter()
+    .enumerate()
+    {
+        s.put(33, word);
+        s.check();
+        s.walk(0, i as u64 % 2);
+    }
+    s.file(&dots(
+        1,
+        &[0xEF, 0xBE, 0xBE, 0xEE, 0xBF, 0xBF, 0xEE, 0xB7, 0x90, 0xE7, 0xBF, 0xBE, 0xFF],
+    ));
+    s.check();
+    s.values(&[0xFFBE, 0xEFFF, 0xEDD0, 0x7FFE]);
+
+    for v in [0xFDD0, 0xFFFE, 0x1FFFF, 0x10FFFE] {
+        s.label(&format!("{v:X} as a single and as each value of a sequence, whole and cut"));
+        let word = utf8(v);
+        let fill = |before: &[u8], after: &[u8]| [before, &word, after, &[0xFF]].concat();
+        for (before, after) in [
+            (&b"A"[..], &b""[..]),
+            (b"", b"\xFEA"),
+            (b"A\xFE", b""),
+            (b"A\xFE", b"BC"),
+            (b"\xFEB", b"C"),
+            (b"\xFEBC", b"\xFED"),
+        ] {
+            s.file(&dots(1, &fill(before, after)));
+            s.check();
+        }
+        for k in (0..=word.len()).rev() {
+            s.trim(36 + k);
+            s.check();
+        }
+        s.file(&dots(3, &fill(b"\xFFA\xFF", b"")));
+        s.check();
+        s.value(0x41);
+        s.sequence(&[v]);
+        s.file(&vfont2(32, &[NONE, NONE], &[], Some(&fill(b"", b"\xFF"))));
+        s.check();
+        s.value(v);
+    }
+    s.label("a noncharacter behind a complete table");
+    s.file(&dots(1, b"A\xFF\xEF\xBF\xBE"));
+    s.check();
+
+    s.label("psf1: low bytes CF to F0 before high byte FD, among the singles");
+    // the last glyph: the unit, then 41 00 FF FF
+    let at = 260 + 510;
+    s.file(&last_unit_glyph(&[0xCF, 0xFD, 0x41, 0x00, 0xFF, 0xFF]));
+    for low in 0xCF..=0xF0 {
+        s.put(at, &[low]);
+        s.check();
+    }
+    s.values(&[0xFDCF, 0xFDD0, 0xFDEF, 0xFDF0, 0x41]);
+    s.label("psf1: high bytes FC, FD, FE after low bytes D0 and EF");
+    for low in [0xD0, 0xEF] {
+        for high in [0xFC, 0xFE, 0xFF, 0xFD] {
+            s.put(at, &[low, high]);
+            s.check();
+        }
+    }
+    s.label("psf1: D0 FD and EF FD in a sequence, and cut before FD");
+    for v in [0xFDD0, 0xFDEF] {
+        for sequence in [&[v, 0x41, 0x42][..], &[0x41, v, 0x42], &[0x41, v]] {
+            s.file(&last_unit_glyph(&units(&[text(&[0x43], &[sequence])])));
+            s.check();
+        }
+        s.value(v);
+        for length in [at + 8, at + 7] {
+            s.trim(length);
+            s.check();
+        }
+        s.file(&psf1(2, 1, 0x80, &units(&spread(256, &[(0, text(&[v], &[]))]))));
+        s.check();
+        s.sequence(&[v]);
+    }
+    s.label("psf1: D0 and FD that straddle two values");
+    let some = [(0, text(&[0xD041, 0x41FD, 0xDFFD, 0xFEFD, 0xFFFD], &[&[0xEF00, 0x00FD]]))];
+    s.file(&psf1(2, 1, 0x80, &units(&spread(256, &some))));
+    s.check();
+    s.walk_all(0..1);
 }
 
 fn unit_tables(s: &mut Script) {
@@ -986,8 +1128,10 @@ fn bit_two(s: &mut Script) {
 }
 
 fn lookups(s: &mut Script) {
-    let asked =
-        [0, 0x7F, 0x80, 0xD800, 0xDFFF, 0xFFFD, 0xFFFE, 0xFFFF, 0x10FFFF, 0x110000, 0xFFFFFFFF];
+    let asked = [
+        0, 0x7F, 0x80, 0xD800, 0xDFFF, 0xFDCF, 0xFDD0, 0xFDEF, 0xFDF0, 0xFFFD, 0xFFFE, 0xFFFF,
+        0x10FFFD, 0x10FFFE, 0x10FFFF, 0x110000, 0xFFFFFFFF,
+    ];
     let ask = |s: &mut Script| {
         s.check();
         for v in asked {
@@ -995,8 +1139,8 @@ fn lookups(s: &mut Script) {
             s.sequence(&[v]);
         }
     };
-    let listed = [0, 0x7F, 0x80, 0xFFFD, 0xFFFE, 0xFFFF, 0x10FFFF];
-    s.label("psf2 that lists 0, 7F, 80, FFFD, FFFE, FFFF, 10FFFF one by one");
+    let listed = [0, 0x7F, 0x80, 0xFDCF, 0xFDF0, 0xFFFD, 0x10FFFD];
+    s.label("psf2 that lists 0, 7F, 80, FDCF, FDF0, FFFD, 10FFFD one by one");
     let texts: Vec<Text> = listed.iter().map(|&v| text(&[v], &[])).collect();
     s.file(&dots(7, &table(&texts)));
     ask(s);
@@ -1007,8 +1151,8 @@ fn lookups(s: &mut Script) {
     s.label("psf2 that lists nothing");
     s.file(&dots(7, &[0xFF; 7]));
     ask(s);
-    s.label("psf1 that lists 0, 7F, 80, D800, DFFF, FFFD as singles and as sequences of one");
-    let some: Vec<(usize, Text)> = [0, 0x7F, 0x80, 0xD800, 0xDFFF, 0xFFFD]
+    s.label("psf1 that lists 0, 7F, 80, D800, DFFF, FDCF, FDF0, FFFD, single and sequences of one");
+    let some: Vec<(usize, Text)> = [0, 0x7F, 0x80, 0xD800, 0xDFFF, 0xFDCF, 0xFDF0, 0xFFFD]
         .iter()
         .enumerate()
         .flat_map(|(i, &v)| [(2 * i, text(&[v], &[])), (200 + i, text(&[], &[&[v]]))])
@@ -1019,7 +1163,7 @@ fn lookups(s: &mut Script) {
     s.file(&psf1(2, 1, 0x80, &[0xFF; 512]));
     ask(s);
     s.label("vfont2 that lists some on entries without glyph");
-    let texts = [text(&[0, 0x7F], &[]), text(&[0x10FFFF, 0x7F], &[&[0x80]])];
+    let texts = [text(&[0, 0x7F], &[]), text(&[0x10FFFD, 0x7F], &[&[0x80]])];
     s.file(&vfont2(32, &[NONE, NONE], &[], Some(&table(&texts))));
     ask(s);
 

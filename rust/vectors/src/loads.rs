@@ -7,7 +7,30 @@ use crate::script::Script;
 pub fn script() -> Vec<u8> {
     let mut s = Script::new();
     two_cuts(&mut s);
+    noncharacters(&mut s);
     s.bytes
+}
+
+/// Cuts in and around a noncharacter, and in and around the values beside it.
+fn noncharacters(s: &mut Script) {
+    for v in [0xFDCF, 0xFDD0, 0xFDEF, 0xFFFD, 0xFFFE, 0x1FFFF, 0x10FFFD, 0x10FFFF] {
+        s.label(&format!("psf2 with {v:X} in three pieces"));
+        s.file(&psf2(1, 1, 8, &[0x5A], Some(&table(&[text(&[v], &[&[0x41, v]])]))));
+        for a in 32..s.file.len() as u8 {
+            for b in 0..4 {
+                s.cuts(a, b);
+            }
+        }
+        s.late();
+    }
+    for v in [0xFDCF, 0xFDD0, 0xFDEF, 0xFFFD] {
+        s.label(&format!("psf1 with {v:X} as its first single in three pieces"));
+        s.file(&psf1(2, 1, 0x0F, &units(&spread(256, &[(0, text(&[v, 0x41], &[]))]))));
+        for (a, b) in [(255, 5), (255, 6), (255, 7), (200, 61), (200, 60)] {
+            s.cuts(a, b);
+        }
+        s.late();
+    }
 }
 
 /// Cuts in and around the header, an entry, the bitmaps and each part of the table; then a

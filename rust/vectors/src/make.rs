@@ -194,9 +194,21 @@ pub fn worked_vfont2() -> Vec<u8> {
 
 /// Values at the edges of codings and of the questions.
 pub const EDGES: [u32; 20] = [
-    0, 1, 0x41, 0x7F, 0x80, 0xFE, 0xFF, 0x7FF, 0x800, 0xD7FF, 0xE000, 0xFEFF, 0xFFFC, 0xFFFD,
-    0xFFFE, 0xFFFF, 0x10000, 0x1F600, 0x10FFFE, 0x10FFFF,
+    0, 1, 0x41, 0x7F, 0x80, 0xFE, 0xFF, 0x7FF, 0x800, 0xD7FF, 0xE000, 0xFDCF, 0xFDF0, 0xFEFF,
+    0xFFFC, 0xFFFD, 0x10000, 0x1F600, 0x1FFFD, 0x10FFFD,
 ];
+
+/// The noncharacters, all 66.
+pub fn noncharacters() -> Vec<u32> {
+    let last_two = |plane: u32| [plane << 16 | 0xFFFE, plane << 16 | 0xFFFF];
+    (0xFDD0..=0xFDEF).chain((0..=16).flat_map(last_two)).collect()
+}
+
+/// The values that have a noncharacter beside them.
+pub fn neighbours() -> Vec<u32> {
+    let planes = (0..=16).flat_map(|plane| [plane << 16 | 0xFFFD, (plane + 1) << 16]);
+    [0xFDCF, 0xFDF0].into_iter().chain(planes).filter(|&v| v <= 0x10FFFF).collect()
+}
 
 fn random_value(random: &mut Random, units: bool) -> u32 {
     let v = match random.below(3) {

@@ -2,7 +2,7 @@
 use mathlib.Core.Path.{sym, _∙_}
 use native.Mathlib.Omega.{arith}
 use borrow.Author.Needs.{needs}
-use Rattle.ucs2.proofs.Pairs.{short, as-start, as-end, as-value}
+use Rattle.ucs2.proofs.Pairs.{short, as-start, as-end, as-bad, as-value}
 use Rattle.ucs2.proofs.read_ucs2.Statement.{statement}
 use Rattle.ucs2.proofs.read_ucs2.Tie as tie
 
@@ -19,10 +19,13 @@ returns-2 : tie.Need-returns-2
 returns-2 c = as-value _ (omega arith) _ (c .before .before .get16 .ensures .0) (sym (c .before .is-word .ensures) ∙ c .if2 .taken)
 
 returns-3 : tie.Need-returns-3
-returns-3 c = as-start _ (omega arith) _ (c .before .before .before .get16 .ensures .0) (sym (c .before .before .is-word .ensures) ∙ c .before .if2 .left) (c .if3 .taken)
+returns-3 c = as-bad _ (omega arith) _ (c .before .before .before .get16 .ensures .0) (sym (c .before .before .is-word .ensures) ∙ c .before .if2 .left) (c .if3 .taken)
 
 returns-4 : tie.Need-returns-4
-returns-4 c = as-end _ (omega arith) _ (c .before .before .before .get16 .ensures .0) (sym (c .before .before .is-word .ensures) ∙ c .before .if2 .left) (c .if3 .left)
+returns-4 c = as-start _ (omega arith) _ (c .before .before .before .before .get16 .ensures .0) (sym (c .before .before .before .is-word .ensures) ∙ c .before .before .if2 .left) (c .before .if3 .left) (c .if4 .taken)
+
+returns-5 : tie.Need-returns-5
+returns-5 c = as-end _ (omega arith) _ (c .before .before .before .before .get16 .ensures .0) (sym (c .before .before .before .is-word .ensures) ∙ c .before .before .if2 .left) (c .before .if3 .left) (c .if4 .left)
 
 pub read-ucs2-spec : {M : Type 1} → statement M
-read-ucs2-spec = tie.close (tie.spec returns get16-requires is-word-requires returns-2 returns-3 returns-4)
+read-ucs2-spec = tie.close (tie.spec returns get16-requires is-word-requires returns-2 returns-3 returns-4 returns-5)

@@ -1,8 +1,8 @@
 -- `utf8::read_value` meets its contract: a first byte below 80 is the value, else its row decides. Assumes nothing.
-use mathlib.Core.Path.{_≡_, sym, _∙_}
+use mathlib.Core.Path.{_≡_, sym, _∙_, ap}
 use mathlib.Core.Bool.{not}
 use mathlib.Core.List.{List, [], _∷_}
-use Prim.Native.Nat.{ℕ, _≤_, _<_}
+use Prim.Native.Nat.{ℕ, _+_, _*_, _≤_, _<_}
 use native.Mathlib.Omega.{arith}
 use native.Mathlib.Nat.{mod-lt}
 use lib.Dec.{eqb}
@@ -11,8 +11,9 @@ use denote.Ref.{now}
 use borrow.Author.Tests.{eq-eqb}
 use Rattle.base.proofs.Ranged.{ranged}
 use Rattle.utf8.specs.declared.Read.the-variants.{Value}
-use Rattle.utf8.specs.Reading.{leadOf, readValue}
+use Rattle.utf8.specs.Reading.{leadOf, permittedAt, readValue}
 use Rattle.utf8.proofs.First.{no-bytes, no-value, long-value}
+use Rattle.utf8.proofs.Permitted.{permitted-low}
 use Rattle.utf8.proofs.Ascii.{ascii-value}
 use Rattle.utf8.proofs.Rows.{Fine, all-fine}
 use borrow.Author.Needs.{needs}
@@ -57,19 +58,25 @@ further-requires : tie.Need-further-requires
 further-requires c κs = let f : Fine (c .before .before .lead-of .result) = rw (c .before .before .lead-of .ensures) (all-fine _ (omega (arith, c .before .before .before .before .shared-slice-known2 .given 0))) in let w = c .before .wide2 .ensures .0 in (omega (arith, mod-lt (getD (now (c .before .before .before .before .before .before .before .args .s)) 0 0) (f .some), f .small), omega arith)
 
 returns-4 : tie.Need-returns-4
-returns-4 c = c .further .ensures .0 ∙ long-value _ (omega arith) _ (c .before .before .before .lead-of .ensures) 1 (c .before .match .keys2) _ (c .before .before .wide2 .ensures .0)
+returns-4 c = let f : Fine (c .before .before .before .lead-of .result) = rw (c .before .before .before .lead-of .ensures) (all-fine _ (omega (arith, c .before .before .before .before .before .shared-slice-known2 .given 0))) in let w = c .before .before .wide2 .ensures .0 in let b : c .before .before .wide2 .result * 64 + 128 ≤ 0xFDD0 = omega (arith, mod-lt (getD (now (c .before .before .before .before .before .before .before .before .args .s)) 0 0) (f .some), f .small) in permitted-low 1 _ _ _ b (c .further .ensures .1) ∙ ap (permittedAt 1) (c .further .ensures .0) ∙ long-value _ (omega arith) _ (c .before .before .before .lead-of .ensures) 1 (c .before .match .keys2) _ (c .before .before .wide2 .ensures .0)
 
 three-requires : tie.Need-three-requires
 three-requires c κs = let f : Fine (c .before .before .lead-of .result) = rw (c .before .before .lead-of .ensures) (all-fine _ (omega (arith, c .before .before .before .before .shared-slice-known2 .given 0))) in let w = c .before .wide2 .ensures .0 in (omega (arith, mod-lt (getD (now (c .before .before .before .before .before .before .before .args .s)) 0 0) (f .some)), omega arith)
 
+permitted-at-requires : tie.Need-permitted-at-requires
+permitted-at-requires c κs = search needs
+
 returns-5 : tie.Need-returns-5
-returns-5 c = c .three .ensures .0 ∙ long-value _ (omega arith) _ (c .before .before .before .lead-of .ensures) 2 (c .before .match .keys3) _ (c .before .before .wide2 .ensures .0)
+returns-5 c = c .permitted-at .ensures ∙ ap (permittedAt 2) (c .before .three .ensures .0) ∙ long-value _ (omega arith) _ (c .before .before .before .before .lead-of .ensures) 2 (c .before .before .match .keys3) _ (c .before .before .before .wide2 .ensures .0)
 
 four-requires : tie.Need-four-requires
 four-requires c κs = let f : Fine (c .before .before .lead-of .result) = rw (c .before .before .lead-of .ensures) (all-fine _ (omega (arith, c .before .before .before .before .shared-slice-known2 .given 0))) in let w = c .before .wide2 .ensures .0 in (omega (arith, mod-lt (getD (now (c .before .before .before .before .before .before .before .args .s)) 0 0) (f .some)), omega arith)
 
+permitted-at-requires-2 : tie.Need-permitted-at-requires-2
+permitted-at-requires-2 c κs = search needs
+
 returns-6 : tie.Need-returns-6
-returns-6 c = let h : getD (now (c .before .before .before .before .before .before .before .before .args .s)) 0 0 < 256 = omega (arith, c .before .before .before .before .before .shared-slice-known2 .given 0) in let f : Fine (c .before .before .before .lead-of .result) = rw (c .before .before .before .lead-of .ensures) (all-fine _ h) in let o : c .before .before .before .lead-of .result .len ≡ 1 → ⊥ = rw (c .before .before .before .lead-of .ensures) (longer _ (omega (arith, c .before .before .before .before .if2 .left)) h) in let m = c .before .match .rest in let n : c .before .before .before .lead-of .result .len ≡ 4 = omega (arith, f .few, o, m .0 .0 .1, m .0 .1, m .1) in c .four .ensures ∙ long-value _ (omega arith) _ (c .before .before .before .lead-of .ensures) 3 n _ (c .before .before .wide2 .ensures .0)
+returns-6 c = let h : getD (now (c .before .before .before .before .before .before .before .before .before .args .s)) 0 0 < 256 = omega (arith, c .before .before .before .before .before .before .shared-slice-known2 .given 0) in let f : Fine (c .before .before .before .before .lead-of .result) = rw (c .before .before .before .before .lead-of .ensures) (all-fine _ h) in let o : c .before .before .before .before .lead-of .result .len ≡ 1 → ⊥ = rw (c .before .before .before .before .lead-of .ensures) (longer _ (omega (arith, c .before .before .before .before .before .if2 .left)) h) in let m = c .before .before .match .rest in let n : c .before .before .before .before .lead-of .result .len ≡ 4 = omega (arith, f .few, o, m .0 .0 .1, m .0 .1, m .1) in c .permitted-at2 .ensures ∙ ap (permittedAt 3) (c .before .four .ensures) ∙ long-value _ (omega arith) _ (c .before .before .before .before .lead-of .ensures) 3 n _ (c .before .before .before .wide2 .ensures .0)
 
 pub read-value-spec : {M : Type 1} → statement M
 read-value-spec =
@@ -86,6 +93,8 @@ read-value-spec =
     further-requires
     returns-4
     three-requires
+    permitted-at-requires
     returns-5
     four-requires
+    permitted-at-requires-2
     returns-6)

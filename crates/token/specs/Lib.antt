@@ -1,0 +1,3 @@
+-- Noncharacters.
+pub mod Meaning
+pub mod Reading
