@@ -38,9 +38,9 @@
 
 /*
  * The number of this interface: it grows when a declaration below changes, not when one is added. Since 2 every answer begins with a
- * lav_refusal.
+ * lav_refusal; since 3 that has a glyph number, where it had padding: code compiled for 2 still reads `number`, `place` and all else right.
  */
-#define LAVANDOL_VERSION 2
+#define LAVANDOL_VERSION 3
 
 #ifdef __cplusplus
 extern "C" {
@@ -48,12 +48,15 @@ extern "C" {
 
 /*
  * Refusals. The first member of each answer is `refusal`, a lav_refusal (lav_loader_feed answers a lav_refusal alone, lav_loader_fresh a
- * record without one). Its number is 0 (LAV_OK) where the question is answered; then its place is 0. Else its number is one of those
- * below, its place tells where, and all other members of the answer are 0 (but `font` of lav_differences, which tells whose it is).
+ * record without one). Its number is 0 (LAV_OK) where the question is answered; then its place is 0 and its glyph LAV_GLYPH_NONE. Else its
+ * number is one of those below, its place tells where, its glyph which glyph it was, and all other members of the answer are 0 (but `font`
+ * of lav_differences, which tells whose it is).
  *
  * Every call on a file gives the font's own refusal, 1 to 12, before any other (but an edit ASK, where it is told more bytes than the
  * buffer has). They are tried in this order and the first that applies is given, so a font that is refused is refused by all calls alike.
- * The places of 1 to 12 are offsets in the file; the place of 13 to 16 is 0; those of 17 to 25 are said at each.
+ * The places of 1 to 12 are offsets in the file; the place of 13 to 16 is 0; those of 17 to 25 are said at each. The glyph is a number below
+ * the font's count for ENTRY at an entry, TABLE_CUT, TABLE_BAD, GLYPHS from vfont2 and VALUE, and LAV_GLYPH_NONE (4096) for all others. In the
+ * table it is the number of descriptions that are complete before the place, so the glyph whose description is being read there.
  */
 enum {
     LAV_OK = 0,
@@ -66,12 +69,14 @@ enum {
     LAV_SHAPE = 7,       /* PSF1 size 0 (place 3); PSF2 height (24), then width (28) not in 1 to 255, then a wrong byte count (20);
                             vfont2 greatest height (24), then width (28), above 255 */
     LAV_BODY_CUT = 8,    /* the file ends before the bitmaps do; place: its length */
-    LAV_ENTRY = 9,       /* a vfont2 entry breaks a rule (place: the first such entry's start); then the greatest height (24) or
-                            width (28) in the header is not the entries' */
-    LAV_TABLE_CUT = 10,  /* the Unicode table ends too early, but more bytes could complete it; place: the file's length */
+    LAV_ENTRY = 9,       /* a vfont2 entry breaks a rule (place: the first such entry's start; glyph: its number); then the greatest
+                            height (24) or width (28) in the header is not the entries' (no glyph) */
+    LAV_TABLE_CUT = 10,  /* the Unicode table ends too early, but more bytes could complete it; place: the file's length; glyph: the
+                            first whose description is not complete */
     LAV_TABLE_BAD = 11,  /* no table begins so; place: the first byte after the longest part that could still be completed, so the last
-                            byte of a noncharacter */
-    LAV_TRAILING = 12,   /* bytes after a complete table, or after the bitmaps of a font without one; place: the first such byte */
+                            byte of a noncharacter; glyph: the one whose description this byte is in */
+    LAV_TRAILING = 12,   /* bytes after a complete table, or after the bitmaps of a font without one; place: the first such byte; it is in
+                            no glyph's description */
 
     LAV_ASK = 13,        /* the question's fault: glyph, item, row or column number too high, value above 10FFFF, empty sequence; of an
                             edit also a surrogate, or a font's length above the buffer's; of an add also a noncharacter; place 0 */
@@ -80,10 +85,11 @@ enum {
     LAV_NO_GLYPH = 16,   /* a bitmap or metrics asked of a vfont2 entry of size 0; place 0 */
 
     LAV_WRONG_KIND = 17, /* the conversion wants another kind, an edit wants PSF2; place 0 */
-    LAV_GLYPHS = 18,     /* the target can't have these glyphs; to PSF1: not 256 or 512 of them (place 16), then width not 8 (28);
-                            vfont2 to PSF2: place is the start of the first entry that has no glyph or whose five metrics are not
-                            (greatest height, 0, 0, greatest width, greatest width) */
-    LAV_VALUE = 19,      /* the target can't have a value: a surrogate (PSF1 to PSF2), above FFFF (to PSF1); place: its first byte */
+    LAV_GLYPHS = 18,     /* the target can't have these glyphs; to PSF1: not 256 or 512 of them (place 16), then width not 8 (28; both no
+                            glyph); vfont2 to PSF2: place is the start, and glyph the number, of the first entry that has no glyph or
+                            whose five metrics are not (greatest height, 0, 0, greatest width, greatest width) */
+    LAV_VALUE = 19,      /* the target can't have a value: a surrogate (PSF1 to PSF2), above FFFF (to PSF1); place: its first byte; glyph:
+                            the one that lists it, as a single or in a sequence */
     LAV_SIZE = 20,       /* the output, or the edited font, would be over 1,048,576 bytes; place 0 */
     LAV_ROOM = 21,       /* the lent buffer is shorter than the output, or than the edited font; place: the size needed, in bytes; of
                             lav_differences: it has fewer numbers than the pairs; place: the count of numbers needed */
@@ -111,9 +117,13 @@ enum {
     LAV_TABLE_DIFFERS = 6   /* just one of the fonts has a Unicode table; the pair's second number is 0 */
 };
 
+/* `glyph` of a lav_refusal where there is no glyph to name: a font has 4,096 glyphs at most, so none has this number. 0 is a glyph. */
+#define LAV_GLYPH_NONE 4096
+
 /* A refusal, the first member of every answer. */
 typedef struct {
     uint32_t number; /* LAV_OK where the question is answered, else LAV_TOO_LONG to LAV_LATE, LAV_HAVE or LAV_NOT_THERE */
+    uint32_t glyph;  /* which glyph it was, else LAV_GLYPH_NONE, as where the question is answered */
     uint64_t place;
 } lav_refusal;
 
@@ -210,6 +220,7 @@ typedef struct {
 #define LAVANDOL_AT(type, member, at) LAVANDOL_ASSERT(offsetof(type, member) == at, #member " of " #type " stands at " #at)
 LAVANDOL_SIZE(lav_refusal, 16);
 LAVANDOL_AT(lav_refusal, number, 0);
+LAVANDOL_AT(lav_refusal, glyph, 4);
 LAVANDOL_AT(lav_refusal, place, 8);
 LAVANDOL_SIZE(lav_font, 88);
 LAVANDOL_AT(lav_font, refusal, 0);
@@ -421,13 +432,13 @@ lav_loader lav_loader_fresh(void);
 
 /*
  * Feeds the next piece, also one of length 0 (`piece` is not NULL even then). The answer's number is 0: the piece is taken, whatever its
- * bytes are. Refusals: LATE (place 0), the loader is closed and stays as it was.
+ * bytes are. Refusals: LATE (place 0, no glyph), the loader is closed and stays as it was.
  */
 lav_refusal lav_loader_feed(lav_loader *loader, const uint8_t *piece, size_t piece_len);
 
 /*
  * What lav_check answers on all pieces joined, in every member, and closes the loader, whatever the answer. Refusals: 1 to 12, as the
- * whole file's; LATE (place 0), the loader was closed before and stays as it was.
+ * whole file's, with its place and its glyph; LATE (place 0, no glyph), the loader was closed before and stays as it was.
  */
 lav_font lav_loader_close(lav_loader *loader);
 

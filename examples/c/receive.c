@@ -33,7 +33,8 @@ int main(int argc, char **argv) {
 
     lav_font font = lav_loader_close(&loader);
     if (font.refusal.number) {
-        fprintf(stderr, "%zu frames: refused %" PRIu32 " %" PRIu64 "\n", frames, font.refusal.number, font.refusal.place);
+        lav_refusal r = font.refusal;
+        fprintf(stderr, "%zu frames: refused %" PRIu32 " %" PRIu64 " %" PRIu32 "\n", frames, r.number, r.place, r.glyph);
         return 1;
     }
     printf("%zu frames: sound, %zu glyphs\n", frames, font.count);

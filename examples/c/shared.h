@@ -15,10 +15,10 @@ static const char *const names[] = {
     "late", "line", "have", "not there",
 };
 
-/* Tells a refusal by number, place and name: `C5: refused 15 0 (unmapped)`. */
+/* Tells a refusal by number, place, glyph (4096: no one glyph) and name: `C5: refused 15 0 4096 (unmapped)`. */
 static int refused(const char *what, lav_refusal refusal) {
     const char *name = refusal.number < sizeof names / sizeof *names ? names[refusal.number] : "unknown";
-    fprintf(stderr, "%s: refused %" PRIu32 " %" PRIu64 " (%s)\n", what, refusal.number, refusal.place, name);
+    fprintf(stderr, "%s: refused %" PRIu32 " %" PRIu64 " %" PRIu32 " (%s)\n", what, refusal.number, refusal.place, refusal.glyph, name);
     return 1;
 }
 

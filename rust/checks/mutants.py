@@ -1,10 +1,32 @@
-"""Puts one slip at a time into oracle.py and says which corpus notices it."""
+"""Puts one slip at a time into oracle.py and says which corpus notices it: all, or those from a number on."""
 import subprocess
 import sys
 
-F, C, M, L, E, D = 'fonts', 'conversions', 'metrics', 'loads', 'edits', 'differences'
+F, C, M, L, E, D, G = 'fonts', 'conversions', 'metrics', 'loads', 'edits', 'differences', 'glyphs'
 NONE = "    if add and noncharacter(v):\n        no(13, 0)\n"
 LAST = "                ok = ok and not (need == 0 and noncharacter(v))\n"
+TOLD = "    raise No(number, place, glyph)\n"
+CUT_VALUE = "            no(10, length, len(glyphs))\n        if"
+CUT = "    no(10, length, len(glyphs))\n\n\ncache"
+BAD = "no(11, base + v, len(glyphs))"
+MARK = "no(11, base + at + (1 if unit else 0), len(glyphs))"
+SUMS = "no(9, hs + 18 * i, i)\n                if s"
+SIZE = "a + s > b:\n                    no(9, hs + 18 * i, i)"
+SURROGATE = "0x1B:\n                    no(19, at, g)"
+HIGH = "0xFFFF:\n                    no(19, at, g)"
+LOAD = """put(f'load {k} {said(b"".join(f[j:j + length] for j in range(0, len(f), length)))}\\n')"""
+CUTS = "put(f'cuts {a} {b} {said(f[:a] + f[a:a + b] + f[a + b:])}\\n')"
+
+
+def load(glyph):
+    """A loader that tells another glyph of a table or an entry."""
+    return f"told = said(f).split(); told[3:] = [str({glyph})] if told[1] in ('9', '10', '11') and told[3:] != ['4096'] else told[3:]; put(f'load {{k}} ' + ' '.join(told) + '\\n')"
+
+
+def cuts(glyph):
+    return f"told = said(f).split(); told[3:] = [str({glyph})] if told[1] in ('9', '10', '11') and told[3:] != ['4096'] else told[3:]; put(f'cuts {{a}} {{b}} ' + ' '.join(told) + '\\n')"
+
+
 SLIPS = [
     (F, "len(f) > LIMIT", "len(f) >= LIMIT"),
     (F, "no(1, LIMIT)", "no(1, len(f))"),
@@ -38,9 +60,9 @@ SLIPS = [
     (F, "if W != w:", "if W > w:"),
     (F, "            if H != h:\n                no(9, 24)\n            if W != w:\n                no(9, 28)\n", "            if W != w:\n                no(9, 28)\n            if H != h:\n                no(9, 24)\n"),
     (F, "            if h > 255:\n                no(7, 24)\n", ""),
-    (F, "no(10, length)", "no(10, base)"),
-    (F, "no(11, base + at + (1 if unit else 0))", "no(11, base + at)"),
-    (F, "no(11, base + v)", "no(11, base + at)"),
+    (F, "no(10, length, ", "no(10, base, "),
+    (F, "no(11, base + at + (1 if unit else 0), ", "no(11, base + at, "),
+    (F, "no(11, base + v, ", "no(11, base + at, "),
     (F, "if end < len(tail):", "if False:"),
     (F, "0xC2 <= b <= 0xDF", "0xC0 <= b <= 0xDF"),
     (F, "0xC2 <= b <= 0xDF", "0xC1 <= b <= 0xDF"),
@@ -141,7 +163,7 @@ SLIPS = [
     (C, "v > 0xFFFF", "v > 0xFFFF and s == 'single'"),
     (C, "v > 0xFFFF", "v > 0x1FFFF"),
     (C, "v > 0xFFFF", "v > 0xFDCF"),
-    (C, "no(18, o.head + 18 * i)", "no(18, 32 + 18 * i)"),
+    (C, "no(18, o.head + 18 * i, i)", "no(18, 32 + 18 * i, i)"),
     (C, "e[1:] != (o.h, 0, 0, o.w, o.w)", "e[1:5] != (o.h, 0, 0, o.w)"),
     (C, "e[1:] != (o.h, 0, 0, o.w, o.w)", "(e[1] + e[2], e[3], e[4], e[5]) != (o.h, 0, o.w, o.w)"),
     (C, "e[0] == 0 or", ""),
@@ -249,7 +271,7 @@ SLIPS = [
     (D, "    a, b = o\n", "    b, a = o\n"),
     (D, "    if a.tab != b.tab:\n        out += [6, 0]\n", ""),
     (D, "    if a.tab != b.tab:\n        out += [6, 0]\n", "    if a.tab > b.tab:\n        out += [6, 0]\n"),
-    (D, "    if a.tab != b.tab:\n        out += [6, 0]\n", "    if a.tab != b.tab:\n        out += [6, 0]\n    if len(out) > room:\n        raise No(21, len(out), 0)\n"),
+    (D, "    if a.tab != b.tab:\n        out += [6, 0]\n", "    if a.tab != b.tab:\n        out += [6, 0]\n    if len(out) > room:\n        raise No(21, len(out), NONE, 0)\n"),
     (D, "        out += [6, 0]\n", "        out += [6, a.n]\n"),
     (D, "        out += [6, 0]\n", "        return [6, 0][:room]\n"),
     (D, "    if a.tab != b.tab:\n        out += [6, 0]\n    for g", "    if a.kind == 'psf1' and b.kind == 'psf1' and first[2] != second[2] or a.tab != b.tab:\n        out += [6, 0]\n    for g"),
@@ -300,17 +322,106 @@ SLIPS = [
     (D, "    if len(out) > room:\n", "    if len(out) >= room:\n"),
     (D, "    if len(out) > room:\n", "    if len(out) // 2 > room:\n"),
     (D, "    if len(out) > room:\n", "    if len(out) > room + 1:\n"),
-    (D, "        raise No(21, len(out), 0)\n    return out", "        raise No(21, len(out) // 2, 0)\n    return out"),
-    (D, "        raise No(21, len(out), 0)\n    return out", "        raise No(21, 4 * len(out), 0)\n    return out"),
-    (D, "        raise No(21, len(out), 0)\n    return out", "        raise No(21, len(out), 1)\n    return out"),
-    (D, "        raise No(21, len(out), 0)\n    return out", "        raise No(21, room, 0)\n    return out"),
-    (D, "        raise No(21, len(out), 0)\n    return out", "        return out[:room]\n    return out"),
+    (D, "        raise No(21, len(out), NONE, 0)\n    return out", "        raise No(21, len(out) // 2, NONE, 0)\n    return out"),
+    (D, "        raise No(21, len(out), NONE, 0)\n    return out", "        raise No(21, 4 * len(out), NONE, 0)\n    return out"),
+    (D, "        raise No(21, len(out), NONE, 0)\n    return out", "        raise No(21, len(out), NONE, 1)\n    return out"),
+    (D, "        raise No(21, len(out), NONE, 0)\n    return out", "        raise No(21, room, NONE, 0)\n    return out"),
+    (D, "        raise No(21, len(out), NONE, 0)\n    return out", "        return out[:room]\n    return out"),
     (D, "buf[:len(out)] = out\n", "buf[:] = out\n"),
     (D, "buf[:len(out)] = out\n", "buf[:] = out + [0] * (room - len(out))\n"),
+    # the glyph of a refusal
+    (G, "NONE = 4096\n", "NONE = 4095\n"),
+    (F, "NONE = 4096\n", "NONE = 4095\n"),
+    (G, "NONE = 4096\n", "NONE = 0\n"),
+    (G, TOLD, TOLD.replace("glyph)", "glyph if glyph == NONE else glyph & 255)")),
+    (G, TOLD, TOLD.replace("glyph)", "glyph if glyph == NONE else min(glyph, 255))")),
+    (G, TOLD, TOLD.replace("glyph)", "glyph if glyph == NONE else glyph & 511)")),
+    (G, TOLD, TOLD.replace("glyph)", "glyph & 4095)")),
+    (G, TOLD, TOLD.replace("glyph)", "glyph if glyph == NONE else glyph + 1)")),
+    (F, TOLD, TOLD.replace("glyph)", "glyph or NONE)")),
+    (G, TOLD, TOLD.replace("glyph)", "glyph or NONE)")),
+    (G, TOLD, TOLD.replace("glyph)", "min(glyph, 4094) if glyph < NONE else NONE)")),
+    *((G, old, old.replace("len(glyphs)", new)) for old in (CUT_VALUE, CUT, BAD, MARK)
+      for new in ("len(glyphs) + 1", "max(0, len(glyphs) - 1)", "NONE", "0", "n", "n - 1", "len(glyphs) & 255", "n - len(glyphs)")),
+    *((F, old, old.replace("len(glyphs)", "len(glyphs) + 1")) for old in (CUT_VALUE, CUT, BAD, MARK)),
+    *((L, old, old.replace("len(glyphs)", "len(glyphs) + 1")) for old in (CUT, BAD)),
+    (G, BAD, "no(11, base + v, bytes(tail[:v]).count(b'\\xff\\xff') if unit else len(glyphs))"),
+    (G, MARK, "no(11, base + at + (1 if unit else 0), bytes(tail[:at]).count(b'\\xff\\xff') if unit else len(glyphs))"),
+    (G, CUT, CUT.replace("len(glyphs)", "bytes(tail).count(b'\\xff\\xff') if unit else len(glyphs)")),
+    (G, BAD, "no(11, base + v, bytes(tail).count(255) - 1 if not unit else len(glyphs))"),
+    (G, BAD, "no(11, base + v, sum(len(d) > 1 for d in glyphs))"),
+    (G, MARK, "no(11, base + at + (1 if unit else 0), len(glyphs) + (sort == 'end'))"),
+    (G, CUT, CUT.replace("len(glyphs))", "len(glyphs) - (not items))")),
+    (G, CUT, CUT.replace("len(glyphs))", "len(glyphs) + bool(items))")),
+    *((G, "no(12, base + end)", f"no(12, base + end, {new})") for new in ("n", "n - 1", "len(glyphs)", "0")),
+    *((F, "no(12, base + end)", f"no(12, base + end, {new})") for new in ("n", "n - 1", "0")),
+    *((F, "no(12, o.end)", f"no(12, o.end, {new})") for new in ("o.n", "o.n - 1", "0")),
+    *((G, old, old.replace("i)", new + ")")) for old in (SUMS, SIZE)
+      for new in ("i + 1", "NONE", "0", "i & 255", "min(i, 255)", "n - 1 - i", "n", "(hs + 18 * i) // 18", "(18 * i) // 16", "sum(c is not None for c in o.cells)")),
+    *((M, SUMS, SUMS.replace("i)", new + ")")) for new in ("i + 1", "NONE")),
+    *((F, SIZE, SIZE.replace("i)", new + ")")) for new in ("i + 1", "NONE", "sum(c is not None for c in o.cells)")),
+    *((G, f"no(9, {at})", f"no(9, {at}, {new})") for at in (24, 28) for new in ("0", "n", "n - 1", "len(o.cells)")),
+    *((G, "no(18, o.head + 18 * i, i)", f"no(18, o.head + 18 * i, {new})")
+      for new in ("i + 1", "NONE", "0", "i & 255", "o.n - 1", "i if e[0] else NONE", "NONE if e[0] else i", "(o.head + 18 * i) // 18")),
+    *((C, "no(18, o.head + 18 * i, i)", f"no(18, o.head + 18 * i, {new})") for new in ("i + 1", "NONE")),
+    *((G, f"no(18, {at})", f"no(18, {at}, {new})") for at in (16, 28) for new in ("0", "o.n", "o.n - 1")),
+    *((G, old, old.replace("g)", new + ")")) for old in (SURROGATE, HIGH)
+      for new in ("g + 1", "NONE", "0", "g & 255", "max(0, g - 1)", "g if s == 'single' else NONE", "g if s == 'single' else g + 1", "o.n - 1", "o.n - g")),
+    *((C, old, old.replace("g)", new + ")")) for old in (SURROGATE, HIGH) for new in ("g + 1", "NONE")),
+    (G, "    if g >= o.n:\n        no(13, 0)\n    if o.cells", "    if g >= o.n:\n        no(13, 0, g)\n    if o.cells"),
+    (G, "    if o.cells[g] is None:\n        no(16, 0)\n", "    if o.cells[g] is None:\n        no(16, 0, g)\n"),
+    (G, "    if o.ent[g][0] == 0:\n        no(16, 0)\n", "    if o.ent[g][0] == 0:\n        no(16, 0, g)\n"),
+    (M, "    if o.ent[g][0] == 0:\n        no(16, 0)\n", "    if o.ent[g][0] == 0:\n        no(16, 0, g)\n"),
+    (G, "    if r >= h:\n        no(13, 0)\n", "    if r >= h:\n        no(13, 0, g)\n"),
+    (G, "    if r >= h or c >= w:\n        no(13, 0)\n", "    if r >= h or c >= w:\n        no(13, 0, g)\n"),
+    (G, "k >= len(o.read[g]):\n        no(13, 0)\n", "k >= len(o.read[g]):\n        no(13, 0, g)\n"),
+    (G, "    no(15, 0)\n\n\ndef sequence", "    no(15, 0, o.n)\n\n\ndef sequence"),
+    (G, "    no(15, 0)\n\n\ndef put8", "    no(15, 0, o.n)\n\n\ndef put8"),
+    (E, "            no(24, 0)\n", "            no(24, 0, g)\n"),
+    (G, "            no(24, 0)\n", "            no(24, 0, g)\n"),
+    (E, "            no(25, 0)\n", "            no(25, 0, g)\n"),
+    (E, "        no(21, len(new))\n", "        no(21, len(new), g)\n"),
+    (E, "        no(20, 0)\n    if len(new) > len(buf)", "        no(20, 0, g)\n    if len(new) > len(buf)"),
+    (E, "    if v > 0x10FFFF or 0xD800 <= v <= 0xDFFF:\n        no(13, 0)\n", "    if v > 0x10FFFF or 0xD800 <= v <= 0xDFFF:\n        no(13, 0, g)\n"),
+    (C, "        no(21, size)\n", "        no(21, size, o.n)\n"),
+    (C, "        no(20, 0)\n    if size > room", "        no(20, 0, o.n)\n    if size > room"),
+    (C, "[which]:\n        no(17, 0)\n", "[which]:\n        no(17, 0, 0)\n"),
+    (F, "        no(14, 0)\n    return o", "        no(14, 0, 0)\n    return o"),
+    (F, "no(2, 0)", "no(2, 0, 0)"),
+    (F, "no(8, len(f))", "no(8, len(f), 0)"),
+    (F, "no(6, 16)", "no(6, 16, n)"),
+    (D, "        raise No(21, len(out), NONE, 0)\n", "        raise No(21, len(out), out[-1], 0)\n"),
+    (D, "            raise No(*e.args, number)", "            raise No(*e.args[:2], NONE, number)"),
+    (G, "            raise No(*e.args, number)", "            raise No(*e.args[:2], NONE, number)"),
+    (G, "    f = bytes(buf[:length])\n    o = check(f)\n", "    f = bytes(buf[:length])\n    try:\n        o = check(f)\n    except No as e:\n        no(*e.args[:2])\n"),
+    (G, "def convert(f, which, room):\n    o = check(f)\n", "def convert(f, which, room):\n    try:\n        o = check(f)\n    except No as e:\n        no(*e.args[:2])\n"),
+    (G, "def tabled(f):\n    o = check(f)\n", "def tabled(f):\n    try:\n        o = check(f)\n    except No as e:\n        no(*e.args[:2])\n"),
+    (G, "def cell(f, g):\n    o = check(f)\n", "def cell(f, g):\n    try:\n        o = check(f)\n    except No as e:\n        no(*e.args[:2])\n"),
+    (G, "def metrics(f, g):\n    o = check(f)\n", "def metrics(f, g):\n    try:\n        o = check(f)\n    except No as e:\n        no(*e.args[:2])\n"),
+    (L, "refused 22 0 {NONE} refused", "refused 22 0 0 refused"),
+    (L, "refused 22 0 {NONE}\\n", "refused 22 0 0\\n"),
+    (G, "refused 22 0 {NONE}\\n", "refused 22 0 0\\n"),
+    # a loader that forgets the glyph, or counts from the last piece, or goes on counting
+    (G, LOAD, load("4096")),
+    (F, LOAD, load("4096")),
+    (G, LOAD, load("0")),
+    (G, LOAD, load("int(told[3]) & 255")),
+    (G, LOAD, load("int(told[3]) + 1")),
+    (G, LOAD, load("bytes(f[len(f) - (len(f) % length or length):]).count(255)")),
+    (G, LOAD, load("max(0, int(told[3]) - bytes(f[32:32 + length]).count(255))")),
+    (G, LOAD, load("int(told[3]) if told[1] != '9' else int(told[2]) // 18")),
+    (G, LOAD, load("int(told[3]) if told[1] != '11' else int(told[3]) + bytes(f[int(told[2]):]).count(255)")),
+    (G, LOAD, load("int(told[3]) if told[1] != '10' else f[16] + 256 * f[17]")),
+    (G, CUTS, cuts("4096")),
+    (L, CUTS, cuts("4096")),
+    (G, CUTS, cuts("int(told[3]) if a + b < int(told[2]) else 0")),
+    (G, CUTS, cuts("int(told[3]) if told[1] != '11' else int(told[3]) + bytes(f[int(told[2]):]).count(255)")),
+    (G, CUTS, cuts("(int(told[2]) - 32) // 18 + 1 if told[1] == '9' and a + b > int(told[2]) + 18 else told[3]")),
 ]
 source = open('oracle.py').read()
 kept = 0
-for number, (corpus, old, new) in enumerate(SLIPS):
+first = int(sys.argv[1]) if sys.argv[1:] else 0
+for number, (corpus, old, new) in list(enumerate(SLIPS))[first:]:
     assert old in source, old
     open('../out/mutant.py', 'w').write(source.replace(old, new, 1))
     script = open(f'../out/{corpus}/stdin', 'rb')
@@ -319,4 +430,4 @@ for number, (corpus, old, new) in enumerate(SLIPS):
     if run.returncode == 0 and run.stdout == want:
         kept += 1
         print(number, corpus, 'NOT NOTICED', repr(old), '->', repr(new), flush=True)
-print(len(SLIPS), 'slips,', kept, 'not noticed')
+print(len(SLIPS) - first, 'slips,', kept, 'not noticed')

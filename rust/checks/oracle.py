@@ -10,8 +10,11 @@ class No(Exception):
     pass
 
 
-def no(number, place):
-    raise No(number, place)
+NONE = 4096
+
+
+def no(number, place, glyph=NONE):
+    raise No(number, place, glyph)
 
 
 class Font:
@@ -88,11 +91,11 @@ def read(tail, n, unit, base, length):
         raise ValueError
     for sort, v, at, end in tokens(tail, unit):
         if sort == 'cut':
-            no(10, length)
+            no(10, length, len(glyphs))
         if sort == 'bad':
-            no(11, base + v)
+            no(11, base + v, len(glyphs))
         if state == 'started' and sort != 'value':
-            no(11, base + at + (1 if unit else 0))
+            no(11, base + at + (1 if unit else 0), len(glyphs))
         if sort == 'value':
             items.append(('single' if state == 'singles' else 'value', v, base + at))
             if state == 'started':
@@ -108,7 +111,7 @@ def read(tail, n, unit, base, length):
                 if end < len(tail):
                     no(12, base + end)
                 return glyphs
-    no(10, length)
+    no(10, length, len(glyphs))
 
 
 cache = {}
@@ -194,9 +197,9 @@ def check_(f):
                     continue
                 hh, ww = u + d, l + r
                 if hh < 1 or hh > 255 or ww < 1 or ww > 255:
-                    no(9, hs + 18 * i)
+                    no(9, hs + 18 * i, i)
                 if s != hh * ((ww + 7) // 8) or a + s > b:
-                    no(9, hs + 18 * i)
+                    no(9, hs + 18 * i, i)
                 H, W = max(H, hh), max(W, ww)
                 o.cells.append((bm + a, hh, ww))
             if H != h:
@@ -314,15 +317,15 @@ def convert(f, which, room):
     if which == 3:
         for i, e in enumerate(o.ent):
             if e[0] == 0 or e[1:] != (o.h, 0, 0, o.w, o.w):
-                no(18, o.head + 18 * i)
+                no(18, o.head + 18 * i, i)
     t = bytearray()
-    for d in o.read:
+    for g, d in enumerate(o.read):
         for s, v, at in d:
             if s in ('single', 'value'):
                 if which == 0 and v >> 11 == 0x1B:
-                    no(19, at)
+                    no(19, at, g)
                 if which == 1 and v > 0xFFFF:
-                    no(19, at)
+                    no(19, at, g)
                 t += struct.pack('<H', v) if which == 1 else put8(v)
             elif which == 1:
                 t += b'\xfe\xff' if s == 'start' else b'\xff\xff'
@@ -429,7 +432,7 @@ def differences(first, second, room):
             if [it[:2] for it in a.read[g]] != [it[:2] for it in b.read[g]]:
                 out += [5, g]
     if len(out) > room:
-        raise No(21, len(out), 0)
+        raise No(21, len(out), NONE, 0)
     return out
 
 
@@ -458,14 +461,14 @@ def main():
             o = check(f)
             return f'sound {o.kind} {o.n} {o.h} {o.w} {"table" if o.tab else "bare"}'
         except No as e:
-            return 'refused %d %d' % e.args
+            return 'refused %d %d %d' % e.args
 
     def part(fn, *a):
         try:
             at, n = fn(bytes(f), *a)
             return f'{at} {n} ' + f[at:at + n].hex().upper()
         except No as e:
-            return 'refused %d %d -' % e.args
+            return 'refused %d %d %d -' % e.args
 
     while i < len(s):
         op = num(1)
@@ -500,7 +503,7 @@ def main():
             try:
                 a = pixel(f, g, r, c)
             except No as e:
-                a = 'refused %d %d' % e.args
+                a = 'refused %d %d %d' % e.args
             put(f'pixel {g} {r} {c} {a}\n')
         elif op == 0x14:
             g, k = num(8), num(8)
@@ -509,21 +512,21 @@ def main():
                 if a in ('single', 'value'):
                     a += ' %X' % v
             except No as e:
-                a = 'refused %d %d' % e.args
+                a = 'refused %d %d %d' % e.args
             put(f'item {g} {k} {a}\n')
         elif op == 0x15:
             v = num(4)
             try:
                 a = 'glyph %d' % value(f, v)
             except No as e:
-                a = 'refused %d %d' % e.args
+                a = 'refused %d %d %d' % e.args
             put(f'value {v:X} {a}\n')
         elif op == 0x16:
             vs = [num(4) for _ in range(num(1))]
             try:
                 a = 'glyph %d' % sequence(f, vs)
             except No as e:
-                a = 'refused %d %d' % e.args
+                a = 'refused %d %d %d' % e.args
             put('sequence %s %s\n' % (''.join('+%X' % v for v in vs) or '-', a))
         elif op == 0x17:
             g, asked = num(8), [num(2) for _ in range(5)]
@@ -531,14 +534,14 @@ def main():
                 signed = tuple(a - 65536 if a >= 32768 else a for a in asked)
                 a = 'is' if metrics(f, g) == signed else 'is not'
             except No as e:
-                a = 'refused %d %d' % e.args
+                a = 'refused %d %d %d' % e.args
             put('metrics %d %d %d %d %d %d %s\n' % (g, *asked, a))
         # a font in pieces is answered as their join is, however it was cut
         elif op == 0x18:
             a, b = num(1), num(1)
             put(f'cuts {a} {b} {said(f[:a] + f[a:a + b] + f[a + b:])}\n')
         elif op == 0x19:
-            put('late taken refused 22 0 refused 22 0\n')
+            put(f'late taken refused 22 0 {NONE} refused 22 0 {NONE}\n')
         elif 0x40 <= op < 0x80:
             k = op - 0x40
             length = k or max(len(f), 1)
@@ -552,7 +555,7 @@ def main():
                 last = out
                 a = f'wrote {len(out)}'
             except No as e:
-                a = 'refused %d %d' % e.args
+                a = 'refused %d %d %d' % e.args
             put(f'convert {which} {room} {a} sum {checksum(buf)}\n')
         elif op == 0x21:
             f = bytearray(last)
@@ -564,7 +567,7 @@ def main():
                 f = buf[:n]
                 a = f'length {n}'
             except No as e:
-                a = 'refused %d %d' % e.args
+                a = 'refused %d %d %d' % e.args
             name = 'add' if op == 0x22 else 'drop'
             put(f'{name} {room} {length} {g} {v:X} {a} sum {checksum(buf)}\n')
         elif op == 0x24:
@@ -578,7 +581,7 @@ def main():
                 buf[:len(out)] = out
                 a = ' '.join(map(str, ['pairs', len(out) // 2] + out))
             except No as e:
-                a = 'font %d refused %d %d' % (e.args[2], *e.args[:2])
+                a = 'font %d refused %d %d %d' % (e.args[3], *e.args[:3])
             put(f'differences {which} {room} {a} sum {checksum(buf)}\n')
         else:
             raise ValueError(op)

@@ -2,9 +2,11 @@
 -- include/lavandol.h says the same in C.
 use Prim.Native.Nat.{ℕ}
 use lib.IntN.{pos}
+use lib.Dec.{ltb}
 use mathlib.Core.Bool.{Bool, true, false}
+use Rattle.base.specs.Meaning.{pick}
 use Rattle.refusal.specs.declared.Refusal.{Refusal}
-use Rattle.refusal.specs.Meaning.{numberOf}
+use Rattle.refusal.specs.Meaning.{numberOf, noGlyph}
 use Rattle.header.specs.declared.Kind.{Kind}
 use Rattle.header.specs.declared.Kind.the-variants.{Psf1, Psf2, Vfont2}
 use Rattle.header.specs.declared.Checked.{Checked}
@@ -37,13 +39,17 @@ use Rattle.answers.specs.declared.LavItem.{LavItem}
 use Rattle.answers.specs.declared.LavNumber.{LavNumber}
 use Rattle.answers.specs.declared.LavDifferences.{LavDifferences}
 
--- a refusal: document 01's number (the column "No", `numberOf`) and place
-abbrev pub refusalTold : Refusal → LavRefusal
-refusalTold r = record { number = numberOf (r .reason); place = r .place }
+-- a glyph number, or 4,096 where it is none that a glyph can have
+abbrev pub glyphTold : ℕ → ℕ
+glyphTold g = pick (ltb g noGlyph) g noGlyph
 
--- the call is answered: LAV_OK, place 0
+-- a refusal: document 01's number (the column "No", `numberOf`) and place, and its glyph
+abbrev pub refusalTold : Refusal → LavRefusal
+refusalTold r = record { number = numberOf (r .reason); glyph = glyphTold (r .glyph); place = r .place }
+
+-- the call is answered: LAV_OK, place 0, no glyph
 abbrev pub noRefusal : LavRefusal
-noRefusal = record { number = 0; place = 0 }
+noRefusal = record { number = 0; glyph = noGlyph; place = 0 }
 
 -- feeding's answer: the piece is taken, or LATE
 abbrev pub replyTold : Reply → LavRefusal

@@ -13,13 +13,14 @@ use questions::Walk;
 use refusal::Refusal;
 use table::Item;
 ghost use mathlib.Core.Path.{_≡_};
-ghost use Rattle.answers.specs.Meaning.{noRefusal, refusalTold, replyTold, kindNumber, flagNumber, refusedFont, fontAnswer, refusedPart, partAnswer, refusedMetrics, metricsAnswer, numberAnswer, refusedNumber, pixelAnswer, lookupAnswer, itemAnswer, refusedItem, walkAnswer, convertedAnswer, editedAnswer, comparedAnswer};
+ghost use Rattle.answers.specs.Meaning.{noRefusal, glyphTold, refusalTold, replyTold, kindNumber, flagNumber, refusedFont, fontAnswer, refusedPart, partAnswer, refusedMetrics, metricsAnswer, numberAnswer, refusedNumber, pixelAnswer, lookupAnswer, itemAnswer, refusedItem, walkAnswer, convertedAnswer, editedAnswer, comparedAnswer};
 
-// A refusal as C reads it, the first field of every answer: document 01's number and place; both 0 where the call is answered.
-// Only `no_refusal` and `refusal_told` make one.
+// A refusal as C reads it, the first field of every answer: document 01's number and place, both 0 where the call is answered; and the
+// glyph, 4,096 where there is none to name. Only `no_refusal` and `refusal_told` make one.
 #[repr(C)]
 pub struct LavRefusal {
     pub number: u32,
+    pub glyph: u32,
     pub place: u64,
 }
 
@@ -93,8 +94,19 @@ pub fn no_refusal() -> LavRefusal
 {
     LavRefusal {
         number: 0,
+        glyph: 4096,
         place: 0,
     }
+}
+
+// A glyph number in 32 bits. Each refusal of a font has one that is at most 4,096; a loader's record that its own calls have not made may hold any.
+fn glyph_told(glyph: usize) -> u32
+    ensures { λ n. ⌜ n ≡ glyphTold glyph ⌝ }
+{
+    if glyph < refusal::NO_GLYPH {
+        return glyph as u32;
+    }
+    4096
 }
 
 pub fn refusal_told(r: Refusal) -> LavRefusal
@@ -104,6 +116,7 @@ pub fn refusal_told(r: Refusal) -> LavRefusal
     let number = refusal::number(reason);
     LavRefusal {
         number: number,
+        glyph: glyph_told(r.glyph),
         place: r.place as u64,
     }
 }

@@ -33,7 +33,7 @@ module _ (s : List ℕ) (f : Font) (g : ℕ) (p : Placed s f) (h : g < f .count)
   pub even-inside : Even f → Inside s (evenBitmap f g)
   even-inside e = (omega (arith, p .7, e .0, mul-le-mul-right {m = suc g} {n = f .count} (f .size) h), e .1, p .3, p .4)
 
-  by-entry : (at : ℕ) → f .end ≡ f .bitmaps + f .size → (x : Entry) → entryOf s (f .size) at ≡ x → LocatedInside s (entryLocated s f at x)
+  by-entry : (at : ℕ) → f .end ≡ f .bitmaps + f .size → (x : Entry) → entryOf s (f .size) at ≡ x → LocatedInside s (entryLocated s f g at x)
   by-entry at e Empty q = tt
   by-entry at e (Glyph r c) q =
       let k = keeps s (f .size) at r c q in

@@ -3,7 +3,7 @@ use Prim.Native.Nat.{ℕ, _+_}
 use mathlib.Core.List.{List}
 use lib.Dec.{ltb}
 use Rattle.base.specs.Reading.{when}
-use Rattle.refusal.specs.Meaning.{refusal}
+use Rattle.refusal.specs.Meaning.{refusal, refusalAt}
 use Rattle.refusal.specs.declared.Reason.the-variants.{Ask, NoGlyph, Entry as BrokenEntry}
 use Rattle.entries.specs.Meaning.{entryAt, addressAt, sizeAt}
 use Rattle.entries.specs.Reading.{entryOf}
@@ -23,16 +23,16 @@ use Rattle.bitmap.specs.declared.GlyphMetrics.{GlyphMetrics}
 use Rattle.bitmap.specs.declared.GlyphMetrics.the-variants.{Is, Refused as NoMetrics}
 use Rattle.bitmap.specs.Meaning.{evenBitmap, kindMetrics, rowStart, pixelIn}
 
--- the glyph of the dispatch entry at an offset. "Size 0 means no glyph." No entry of a checked font is broken.
-abbrev pub entryLocated : List ℕ → Font → ℕ → Entry → Located
-entryLocated s f at Empty = NotLocated (refusal NoGlyph 0)
-entryLocated s f at (Glyph r c) = Found (record { start = f .bitmaps + addressAt s at; len = sizeAt s at; height = r; width = c })
-entryLocated s f at Broken = NotLocated (refusal BrokenEntry at)
+-- glyph g, whose dispatch entry stands at an offset. "Size 0 means no glyph." No entry of a checked font is broken.
+abbrev pub entryLocated : List ℕ → Font → ℕ → ℕ → Entry → Located
+entryLocated s f g at Empty = NotLocated (refusal NoGlyph 0)
+entryLocated s f g at (Glyph r c) = Found (record { start = f .bitmaps + addressAt s at; len = sizeAt s at; height = r; width = c })
+entryLocated s f g at Broken = NotLocated (refusalAt BrokenEntry at g)
 
 abbrev pub kindBitmap : List ℕ → Font → ℕ → Kind → Located
 kindBitmap s f g Psf1 = Found (evenBitmap f g)
 kindBitmap s f g Psf2 = Found (evenBitmap f g)
-kindBitmap s f g Vfont2 = entryLocated s f (entryAt (f .entries) g) (entryOf s (f .size) (entryAt (f .entries) g))
+kindBitmap s f g Vfont2 = entryLocated s f g (entryAt (f .entries) g) (entryOf s (f .size) (entryAt (f .entries) g))
 
 -- glyph g's bitmap
 unfoldable pub bitmapOf : List ℕ → Font → ℕ → Located

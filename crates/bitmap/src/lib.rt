@@ -62,10 +62,10 @@ fn even_bitmap(f: Font, g: usize) -> Bitmap
     }
 }
 
-// The glyph of the dispatch entry at `at`.
-fn entry_located(file: &[u8], f: Font, at: usize) -> Located
+// Glyph g, whose dispatch entry stands at `at`.
+fn entry_located(file: &[u8], f: Font, g: usize, at: usize) -> Located
     requires { ⌜ (at + 18 ≤ length (now file)) × (f .bitmaps ≤ 1048576) ⌝ }
-    ensures { λ r. ⌜ r ≡ entryLocated (now (file .entry)) f at (entryOf (now (file .entry)) (f .size) at) ⌝ }
+    ensures { λ r. ⌜ r ≡ entryLocated (now (file .entry)) f g at (entryOf (now (file .entry)) (f .size) at) ⌝ }
 {
     let e = entries::entry_at(file, f.size, at);
     match e {
@@ -76,7 +76,7 @@ fn entry_located(file: &[u8], f: Font, at: usize) -> Located
             height: rows,
             width: cols,
         }),
-        Entry::Broken => Located::Refused(refusal::refuse(Reason::Entry, at)),
+        Entry::Broken => Located::Refused(refusal::refuse_at(Reason::Entry, at, g)),
     }
 }
 
@@ -91,7 +91,7 @@ pub fn locate(file: &[u8], f: Font, g: usize) -> Located
         return match k {
             Kind::Psf1 => Located::Found(even_bitmap(f, g)),
             Kind::Psf2 => Located::Found(even_bitmap(f, g)),
-            Kind::Vfont2 => entry_located(file, f, f.entries + g * Vfont2::ENTRY_LEN),
+            Kind::Vfont2 => entry_located(file, f, g, f.entries + g * Vfont2::ENTRY_LEN),
         };
     }
     Located::Refused(refusal::refuse(Reason::Ask, 0))

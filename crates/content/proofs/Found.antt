@@ -38,12 +38,12 @@ module _ (s : List ℕ) (f : Font) (y : Bytes s) (e : checkOf s ≡ Sound f) (g 
   found-of Psf2 q n = refl
   found-of Vfont2 q n =
       let at = entryAt (f .entries) g in
-      ap (entryLocated s f at) (entry-found s (f .size) at (unbroken s f y e q g l) n)
+      ap (entryLocated s f g at) (entry-found s (f .size) at (unbroken s f y e q g l) n)
 
   none-of : (k : Kind) → NoGlyph s f g k → kindBitmap s f g k ≡ NotLocated (refusal None 0)
   none-of Psf1 n = absurd n
   none-of Psf2 n = absurd n
-  none-of Vfont2 n = let at = entryAt (f .entries) g in ap (entryLocated s f at) (sym (cases.empty s (f .size) at n))
+  none-of Vfont2 n = let at = entryAt (f .entries) g in ap (entryLocated s f g at) (sym (cases.empty s (f .size) at n))
 
   -- a glyph is found where its bitmap stands
   pub glyph-found : (NoGlyph s f g (f .kind) → ⊥) → bitmapOf s f g ≡ Found (bitmapIn s f g (f .kind))

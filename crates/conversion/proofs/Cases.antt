@@ -6,7 +6,7 @@ use Prim.Native.Nat.{ℕ, zero, suc, _+_, _-_, _*_, _≤_, _<_}
 use native.Mathlib.Omega.{arith}
 use native.Mathlib.Numerals.{add-one}
 use lib.Dec.{eqb}
-use lib.ListN.{length}
+use lib.ListN.{length, take}
 use borrow.Author.Tests.{eq-eqb, ne-eqb}
 use Rattle.base.specs.Reading.{when}
 use Rattle.base.specs.Meaning.{le16}
@@ -14,7 +14,10 @@ use Rattle.base.proofs.Chain.{chain}
 use Rattle.refusal.specs.Meaning.{refusal}
 use Rattle.refusal.specs.declared.Refusal.{Refusal}
 use Rattle.refusal.specs.declared.Reason.the-variants.{WrongKind, Glyphs, Size}
+use Rattle.coding.specs.declared.Coding.{Coding}
 use Rattle.coding.specs.declared.Coding.the-variants.{Utf8, Ucs2}
+use Rattle.table.specs.declared.TableAnswer.{TableAnswer}
+use Rattle.table.specs.Reading.{tableOf}
 use Rattle.transcode.specs.Reading.{tableLen}
 use Rattle.transcode.specs.declared.Measured.{Measured}
 use Rattle.transcode.specs.declared.Measured.the-variants.{Length}
@@ -25,7 +28,7 @@ use Rattle.header.specs.declared.Checked.{Checked}
 use Rattle.header.specs.declared.Checked.the-variants.{Sound, Refused}
 use Rattle.header.specs.Meaning.{limit, charSize, headerLen, entryLen}
 use Rattle.entries.specs.Meaning.{entryAt, sizeAt}
-use Rattle.stages.specs.Meaning.{tailOf}
+use Rattle.stages.specs.Meaning.{codingOf, tailOf}
 use Rattle.stages.specs.Reading.{checkOf}
 use Rattle.conversion.specs.declared.Conversion.{Conversion}
 use Rattle.conversion.specs.declared.Conversion.the-variants.{Psf1ToPsf2, Psf2ToPsf1, Psf2ToVfont2, Vfont2ToPsf2}
@@ -34,7 +37,7 @@ use Rattle.conversion.specs.declared.Suits.{Suits}
 use Rattle.conversion.specs.declared.Suits.the-variants.{Yes, Refused as Unsuited}
 use Rattle.conversion.specs.declared.Prepared.the-variants.{Ready, Refused as Unprepared}
 use Rattle.conversion.specs.Meaning.{sourceKind, targetKind, frontLen}
-use Rattle.conversion.specs.Reading.{sameKind, ofKind, openedOf, isPsf1Count, suitsPsf1, isEven, evenness, evenSuits, suitsOf, measuredOf, fitting, measuredThen, openedThen, preparedOn, preparedOf}
+use Rattle.conversion.specs.Reading.{sameKind, ofKind, openedOf, isPsf1Count, suitsPsf1, isEven, evenness, evenSuits, suitsOf, measuredOf, fitting, glyphIn, glyphAt, measuredThen, openedThen, preparedOn, preparedOf}
 
 -- 17
 pub kind-same : (a b : Kind) → sameKind a b ≡ true → b ≡ a
@@ -209,7 +212,7 @@ front-is c f k a b z e ea eb ez = rw (ea, eb, ez, e)
 
 -- 18 to 20, and before them the font's own and 17
 module _ (c : Conversion) (s : List ℕ) (f : Font) where
-  pub suited : suitsOf c s f ≡ Yes → measuredThen c f (measuredOf c (tailOf s f)) ≡ preparedOn c s f
+  pub suited : suitsOf c s f ≡ Yes → measuredThen c f (tailOf s f) (measuredOf c (tailOf s f)) ≡ preparedOn c s f
   unfolding preparedOn
   suited e = rw e
 
@@ -220,3 +223,8 @@ module _ (c : Conversion) (s : List ℕ) (f : Font) where
 pub opened-as : (c : Conversion) (s : List ℕ) (x : Checked) → openedOf (sourceKind c) s ≡ x → openedThen x (preparedOn c s) ≡ preparedOf c s
 unfolding preparedOf
 opened-as c s x e = rw e
+
+-- the glyph that is told where a table is cut at a place
+pub told-at : (f : Font) (tail : List ℕ) (k : ℕ) (c : Coding) (a : TableAnswer) → c ≡ codingOf (f .kind) → a ≡ tableOf c (f .count) (take k tail) → glyphIn a ≡ glyphAt f tail k
+unfolding glyphAt
+told-at f tail k c a e q = ap glyphIn (q ∙ ap (λ (x : Coding). tableOf x (f .count) (take k tail)) e)

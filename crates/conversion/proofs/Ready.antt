@@ -77,7 +77,7 @@ module _ (c : Conversion) (s : List ℕ) (f : Font) (n : ℕ) where
   unfolding preparedOn
   on-font g o e = by-suits (suitsOf c s g) refl e
     where
-      by-measure : suitsOf c s g ≡ Yes → (m : Measured) → measuredOf c (tailOf s g) ≡ m → measuredThen c g m ≡ Ready f n → Known c s f n
+      by-measure : suitsOf c s g ≡ Yes → (m : Measured) → measuredOf c (tailOf s g) ≡ m → measuredThen c g (tailOf s g) m ≡ Ready f n → Known c s f n
       by-measure u (Length t) q e =
           let r = fit-ready g f (frontLen c g + t) n e in
           let h = r .0 in
@@ -91,9 +91,9 @@ module _ (c : Conversion) (s : List ℕ) (f : Font) (n : ℕ) where
             long = sym (r .1) ∙ ap (λ (x : Font). frontLen c x + t) h;
             short = omega (arith, r .1, r .2);
           }
-      by-measure u (Uncarried k i) q e = never-ready _ f n e
+      by-measure u (Uncarried k) q e = never-ready _ f n e
 
-      by-suits : (x : Suits) → suitsOf c s g ≡ x → suitsThen x (measuredThen c g (measuredOf c (tailOf s g))) ≡ Ready f n → Known c s f n
+      by-suits : (x : Suits) → suitsOf c s g ≡ x → suitsThen x (measuredThen c g (tailOf s g) (measuredOf c (tailOf s g))) ≡ Ready f n → Known c s f n
       by-suits Yes u e = by-measure u (measuredOf c (tailOf s g)) refl e
       by-suits (Unsuited r) u e = never-ready r f n e
 

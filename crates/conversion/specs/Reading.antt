@@ -4,10 +4,13 @@ use Prim.Native.Nat.{ℕ, zero, suc, _+_}
 use mathlib.Core.List.{List}
 use mathlib.Core.Bool.{Bool, true, false, not}
 use lib.Dec.{ltb, eqb}
-use lib.ListN.{length}
+use lib.ListN.{length, take}
 use Rattle.base.specs.Reading.{when}
 use Rattle.base.specs.Meaning.{le16}
-use Rattle.refusal.specs.Meaning.{refusal}
+use Rattle.refusal.specs.Meaning.{refusal, refusalAt, noGlyph}
+use Rattle.table.specs.declared.TableAnswer.{TableAnswer}
+use Rattle.table.specs.declared.TableAnswer.the-variants.{Complete, Cut, Bad, Trailing}
+use Rattle.table.specs.Reading.{tableOf}
 use Rattle.refusal.specs.declared.Reason.the-variants.{WrongKind, Glyphs, Value, Size}
 use Rattle.coding.specs.declared.Coding.the-variants.{Utf8, Ucs2}
 use Rattle.transcode.specs.declared.Measured.{Measured}
@@ -21,7 +24,7 @@ use Rattle.header.specs.declared.Checked.the-variants.{Sound, Refused}
 use Rattle.header.specs.Meaning.{limit, charSize}
 use Rattle.entries.specs.Meaning.{entryAt, sizeAt}
 use Rattle.layout.specs.Reading.{fontBytes, glyphsIn, evenly}
-use Rattle.stages.specs.Meaning.{tailOf}
+use Rattle.stages.specs.Meaning.{codingOf, tailOf}
 use Rattle.stages.specs.Reading.{andThen, checkOf}
 use Rattle.conversion.specs.declared.Conversion.{Conversion}
 use Rattle.conversion.specs.declared.Conversion.the-variants.{Psf1ToPsf2, Psf2ToPsf1, Psf2ToVfont2, Vfont2ToPsf2}
@@ -74,10 +77,10 @@ unfoldable pub evenness : List ℕ → ℕ → ℕ → ℕ → ℕ → ℕ → E
 evenness s height width start zero i = Even
 evenness s height width start (suc k) i = when (isEven s height width (entryAt start i)) (evenness s height width start k (suc i)) (UnevenAt i)
 
--- 18 from vfont2: "GLYPHS, place that entry's start"
+-- 18 from vfont2: "GLYPHS, place that entry's start", and its number
 abbrev pub evenSuits : Font → Evenness → Suits
 evenSuits f Even = Yes
-evenSuits f (UnevenAt i) = Unsuited (refusal Glyphs (entryAt (f .entries) i))
+evenSuits f (UnevenAt i) = Unsuited (refusalAt Glyphs (entryAt (f .entries) i) i)
 
 -- 18
 unfoldable pub suitsOf : Conversion → List ℕ → Font → Suits
@@ -97,10 +100,21 @@ measuredOf Vfont2ToPsf2 tail = Length (length tail)
 unfoldable pub fitting : Font → ℕ → Prepared
 fitting f need = when (ltb limit need) (Unprepared (refusal Size 0)) (Ready f need)
 
--- 19: "value's first byte"
-abbrev pub measuredThen : Conversion → Font → Measured → Prepared
-measuredThen c f (Length t) = fitting f (frontLen c f + t)
-measuredThen c f (Uncarried k g) = Unprepared (refusal Value (f .end + k))
+-- the glyph that a table's answer tells
+abbrev pub glyphIn : TableAnswer → ℕ
+glyphIn Complete = noGlyph
+glyphIn (Cut k g) = g
+glyphIn (Bad k g) = g
+glyphIn (Trailing k) = noGlyph
+
+-- the glyph that is told where a font's table is cut at a place
+unfoldable pub glyphAt : Font → List ℕ → ℕ → ℕ
+glyphAt f tail k = glyphIn (tableOf (codingOf (f .kind)) (f .count) (take k tail))
+
+-- 19: "value's first byte", and the glyph that lists it
+abbrev pub measuredThen : Conversion → Font → List ℕ → Measured → Prepared
+measuredThen c f tail (Length t) = fitting f (frontLen c f + t)
+measuredThen c f tail (Uncarried k) = Unprepared (refusalAt Value (f .end + k) (glyphAt f tail k))
 
 abbrev pub suitsThen : Suits → Prepared → Prepared
 suitsThen Yes next = next
@@ -112,7 +126,7 @@ openedThen (Refused r) next = Unprepared r
 
 -- 18 to 20
 unfoldable pub preparedOn : Conversion → List ℕ → Font → Prepared
-preparedOn c s f = suitsThen (suitsOf c s f) (measuredThen c f (measuredOf c (tailOf s f)))
+preparedOn c s f = suitsThen (suitsOf c s f) (measuredThen c f (tailOf s f) (measuredOf c (tailOf s f)))
 
 -- the font's own, 17 to 20
 unfoldable pub preparedOf : Conversion → List ℕ → Prepared

@@ -8,6 +8,7 @@ use psf1::Psf1;
 use psf2::Psf2;
 use refusal::Reason;
 use refusal::Refusal;
+use table::TableAnswer;
 use transcode::Measured;
 use vfont2::Vfont2;
 ghost use mathlib.Core.Path.{_≡_};
@@ -19,7 +20,7 @@ ghost use Rattle.header.specs.declared.Kind.the-variants.{Vfont2 as vfont2};
 ghost use Rattle.transcode.specs.Bounds.{MeasuredWithin};
 ghost use Rattle.entries.specs.Meaning.{entryAt};
 ghost use Rattle.conversion.specs.Meaning.{sourceKind, targetKind, frontLen};
-ghost use Rattle.conversion.specs.Reading.{sameKind, openedOf, isPsf1Count, suitsPsf1, isEven, evenness, evenSuits, suitsOf, measuredOf, fitting, measuredThen, preparedOn, preparedOf};
+ghost use Rattle.conversion.specs.Reading.{sameKind, openedOf, isPsf1Count, suitsPsf1, isEven, evenness, evenSuits, suitsOf, measuredOf, fitting, glyphIn, glyphAt, measuredThen, preparedOn, preparedOf};
 ghost use Rattle.stages.specs.Meaning.{tailOf};
 ghost use Rattle.conversion.specs.Bounds.{OpenedPlaced};
 
@@ -207,9 +208,10 @@ fn suits_psf2(file: &[u8], f: Font) -> Suits
     let e = first_uneven(file, f.height, f.width, f.count, f.entries);
     match e {
         Evenness::Even => Suits::Yes,
-        Evenness::UnevenAt(i) => Suits::Refused(refusal::refuse(
+        Evenness::UnevenAt(i) => Suits::Refused(refusal::refuse_at(
             Reason::Glyphs,
             f.entries + i * Vfont2::ENTRY_LEN,
+            i,
         )),
     }
 }
@@ -261,16 +263,43 @@ fn fit(f: Font, need: usize) -> Prepared
     Prepared::Ready(f, need)
 }
 
+// The glyph that a table's answer tells.
+fn glyph_in(a: TableAnswer) -> usize
+    ensures { λ r. ⌜ r ≡ glyphIn a ⌝ }
+{
+    match a {
+        TableAnswer::Complete => refusal::NO_GLYPH,
+        TableAnswer::Cut(_, g) => g,
+        TableAnswer::Bad(_, g) => g,
+        TableAnswer::Trailing(_) => refusal::NO_GLYPH,
+    }
+}
+
+// The glyph that is told where a font's table is cut at a place: so many descriptions are complete before it. Counted only where a value is
+// refused, so that measuring counts none. Asks for a place in the tail.
+fn glyph_at(f: Font, tail: &[u8], k: usize) -> usize
+    requires { ⌜ k ≤ length (now tail) ⌝ }
+    ensures { λ r. ⌜ r ≡ glyphAt f (now (tail .entry)) k ⌝ }
+{
+    let kind = f.kind;
+    let c = stages::coding_of(kind);
+    glyph_in(table::check_table(c, &tail[..k], f.count))
+}
+
 // Refusals 19 and 20. Asks for a font whose parts stand in the file.
 fn measured(c: Conversion, file: &[u8], f: Font) -> Prepared
     requires { ⌜ Placed (now file) f ⌝ }
-    ensures { λ r. ⌜ r ≡ measuredThen c f (measuredOf c (tailOf (now (file .entry)) f)) ⌝ }
+    ensures { λ r. ⌜ r ≡ measuredThen c f (tailOf (now (file .entry)) f) (measuredOf c (tailOf (now (file .entry)) f)) ⌝ }
 {
     let end = f.end;
     let m = table_len(c, &file[end..]);
     match m {
         Measured::Length(t) => fit(f, front_len(c, f) + t),
-        Measured::Uncarried(k, _) => Prepared::Refused(refusal::refuse(Reason::Value, end + k)),
+        Measured::Uncarried(k) => Prepared::Refused(refusal::refuse_at(
+            Reason::Value,
+            end + k,
+            glyph_at(f, &file[end..], k),
+        )),
     }
 }
 

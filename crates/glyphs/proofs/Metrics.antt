@@ -93,7 +93,7 @@ module _ (s : List ℕ) (f : Font) (g : ℕ) (l : Placed s f) (b : g < f .count)
   abbrev Sizes : Kind → Bitmap → Type 0
   Sizes k p = (p .height ≡ rowsOf (wordsOf s f g k)) × (p .width ≡ colsOf (wordsOf s f g k))
 
-  by-entry : (p : Bitmap) (x : Entry) → entryOf s (f .size) (entryAt (f .entries) g) ≡ x → entryLocated s f (entryAt (f .entries) g) x ≡ Found p → Sizes Vfont2 p
+  by-entry : (p : Bitmap) (x : Entry) → entryOf s (f .size) (entryAt (f .entries) g) ≡ x → entryLocated s f g (entryAt (f .entries) g) x ≡ Found p → Sizes Vfont2 p
   unfolding rowsAt colsAt
   by-entry p Empty q e = let z : _≡_ {A = ℕ} 0 1 = cc in absurd (omega arith)
   by-entry p (Glyph r c) q e =

@@ -67,7 +67,7 @@ module _ (s : List ℕ) where
   psf1-not-vfont2 : Begins (magicOf Psf1) s → Begins (magicOf Vfont2) s → ⊥
   psf1-not-vfont2 a b = front 0x36 0x27 _ _ s a b (λ e. omega arith)
 
-  psf2-not-vfont2 : Begins (magicOf Psf2) s → Begins (magicOf Vfont2) s → ⊥
+  pub psf2-not-vfont2 : Begins (magicOf Psf2) s → Begins (magicOf Vfont2) s → ⊥
   psf2-not-vfont2 a b = front 0x72 0x27 _ _ s a b (λ e. omega arith)
 
 -- what the check says, x: a refusal of stages 1 to 9 is its own, and for a font that passed them the rows after them decide

@@ -12,7 +12,7 @@ use borrow.Author.Tests.{lt-ltb, le-ltb, eq-eqb, ne-eqb}
 use Rattle.base.specs.Meaning.{pick}
 use Rattle.base.specs.Reading.{when}
 use Rattle.base.proofs.Tests.{by-when, below, same}
-use Rattle.refusal.specs.Meaning.{refusal}
+use Rattle.refusal.specs.Meaning.{refusal, refusalAt}
 use Rattle.refusal.specs.declared.Reason.the-variants.{TooLong, BodyCut, TableCut, TableBad, Trailing}
 use Rattle.header.specs.declared.Kind.{Kind}
 use Rattle.header.specs.declared.Kind.the-variants.{Psf1, Psf2, Vfont2}
@@ -44,7 +44,7 @@ use Rattle.tablefeed.specs.declared.Standing.{Standing}
 use Rattle.tablefeed.specs.Reading.{runOf, isSet, settled, tableRead, tableFed}
 use Rattle.tablefeed.proofs.Running.{tableTold, told}
 use Rattle.loader.specs.declared.Loader.{Loader}
-use Rattle.loader.specs.Reading.{partOf, entriesIn, tableIn, counted, fontFed, saidFed, bodyFed, headed, pastLimit, freshOf, isOpen, fedOf, kindTold, entriesTold, tailTold, fontTold, answerOf}
+use Rattle.loader.specs.Reading.{entryNumber, partOf, entriesIn, tableIn, counted, fontFed, saidFed, bodyFed, headed, pastLimit, freshOf, isOpen, fedOf, kindTold, entriesTold, tailTold, fontTold, answerOf}
 use Rattle.loader.proofs.Opening.{opens}
 use Rattle.loader.proofs.Cases.{answer-long, answer-short, answer-whole, entries-first, no-entries, no-tail, table-first, table-cut, table-whole, table-over, table-bad, bare-over, bare-sound}
 use Rattle.laws.proofs.Regions.{Kept, kept-of}
@@ -120,9 +120,12 @@ module _ (f : Font) (s : List ℕ) (w : Parts f) (within : f .end ≤ length s) 
             ap (λ (y : entries.Fed). y .sums) (sym (entries-first f 0 (heldOf []) no-sums s P refl z (omega arith) (heldOf []) refl _ refl) ∙ first-fed (f .size) (f .entries) P)
             ∙ all-read (f .size) (f .entries) (f .count) P size
 
+    numbered : (start i : ℕ) → entryNumber start (entryAt start i) ≡ i
+    numbered start i = let e : start + i * 18 - start ≡ i * 18 = omega arith in rw e (omega arith)
+
     tells : (r : Scan) → kindTold f (afterScan (f .entries) r) Vfont2 ≡ scanned f r
     unfolding when
-    tells (BrokenAt i) = let z : entryAt (f .entries) i ≡ 0 → ⊥ = λ e. omega (arith, w .0) in rw (ne-eqb (entryAt (f .entries) i) 0 z)
+    tells (BrokenAt i) = let z : entryAt (f .entries) i ≡ 0 → ⊥ = λ e. omega (arith, w .0) in rw (ne-eqb (entryAt (f .entries) i) 0 z, numbered (f .entries) i)
     tells (Greatest h g) = refl
 
   entries-told : entriesTold f (entriesIn f 0 (heldOf []) no-sums s .sums) ≡ entriesOf s f
@@ -150,9 +153,9 @@ module _ (f : Font) (s : List ℕ) (within : f .end ≤ length s) (short : lengt
       l : length (tailOf s f) ≡ length s - f .end
       l = length-drop (f .end) s
 
-      at-cut : (k : ℕ) → f .count - r .ended ≡ k → r .ended < f .count → Refused (refusal TableCut (length s)) ≡ answered f (atEnd (r .ended) k (length (tailOf s f)))
+      at-cut : (k : ℕ) → f .count - r .ended ≡ k → r .ended < f .count → Refused (refusalAt TableCut (length s) (r .ended)) ≡ answered f (atEnd (r .ended) k (length (tailOf s f)))
       at-cut zero z q = absurd (omega arith)
-      at-cut (suc k) z q = let end : length s ≡ f .end + length (tailOf s f) = omega (arith, l) in ap (λ (m : ℕ). Refused (refusal TableCut m)) end
+      at-cut (suc k) z q = let end : length s ≡ f .end + length (tailOf s f) = omega (arith, l) in ap (λ (m : ℕ). Refused (refusalAt TableCut m (r .ended))) end
 
       at-whole : (k : ℕ) → f .count - r .ended ≡ k → f .count ≤ r .ended → Sound f ≡ answered f (atEnd (r .ended) k (length (tailOf s f)))
       at-whole zero z q = refl
@@ -164,7 +167,7 @@ module _ (f : Font) (s : List ℕ) (within : f .end ≤ length s) (short : lengt
       go : (r .halted ≡ 0) ⊎ (r .halted ≡ 0 → ⊥) → (r .halted ≡ 12) ⊎ (r .halted ≡ 12 → ⊥) → tailTold f (length s) t ≡ answered f (tableTold (f .count) (length (tailOf s f)) r)
       go (inl z) y =
           ⊎-elim
-          (λ (k : r .ended < f .count). sym (table-cut f (length s) t b (h ∙ z) (omega arith)) ∙ at-cut (f .count - r .ended) refl k ∙ going z)
+          (λ (k : r .ended < f .count). sym (table-cut f (length s) t b (h ∙ z) (omega arith)) ∙ ap (λ (m : ℕ). Refused (refusalAt TableCut (length s) m)) e ∙ at-cut (f .count - r .ended) refl k ∙ going z)
           (λ (k : f .count ≤ r .ended). sym (table-whole f (length s) t b (h ∙ z) (omega arith)) ∙ at-whole (f .count - r .ended) refl k ∙ going z)
           (below (r .ended) (f .count))
       go (inr z) (inl y) =
@@ -173,7 +176,7 @@ module _ (f : Font) (s : List ℕ) (within : f .end ≤ length s) (short : lengt
           ∙ rw (ne-eqb (r .halted) 0 z, eq-eqb (r .halted) 12 y)
       go (inr z) (inr y) =
           sym (table-bad f (length s) t b (λ k. z (sym h ∙ k)) (λ k. y (sym h ∙ k)))
-          ∙ ap (λ (m : ℕ). Refused (refusal TableBad m)) (p z)
+          ∙ (λ i. Refused (refusalAt TableBad (p z i) (e i)))
           ∙ rw (ne-eqb (r .halted) 0 z, ne-eqb (r .halted) 12 y)
 
   abbrev R : Run

@@ -38,7 +38,7 @@ pieces-joined ps = ap (λ (l : Loader). fedAll l ps) (sym fresh-empty) ∙ with-
 pub open-while-fed : (ps : List (List ℕ)) → isOpen (fedAll freshOf ps) ≡ true
 open-while-fed ps = ap isOpen (pieces-joined ps) ∙ stays-open freshOf (together ps) fresh-open fresh-kept .0
 
--- "From a fresh state its answer, number and place included, equals the whole-file check on the pieces joined"
+-- "From a fresh state its answer, number and place included, equals the whole-file check on the pieces joined"; a refusal's glyph too (W7)
 pub answer-is-check : (ps : List (List ℕ)) → closeAnswer (fedAll freshOf ps) ≡ checkOf (together ps)
 answer-is-check ps = sym (answers (fedAll freshOf ps) (open-while-fed ps)) ∙ ap answerOf (pieces-joined ps) ∙ loaded (together ps)
 

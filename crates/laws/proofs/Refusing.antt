@@ -11,9 +11,9 @@ use borrow.Author.Tests.{lt-ltb, le-ltb, eq-eqb, ne-eqb}
 use Rattle.base.specs.Reading.{when}
 use Rattle.base.specs.Meaning.{Bytes}
 use Rattle.base.proofs.Tests.{below, same}
-use Rattle.refusal.specs.Meaning.{refusal}
+use Rattle.refusal.specs.Meaning.{refusal, refusalAt, noGlyph}
 use Rattle.refusal.specs.declared.Refusal.{Refusal}
-use Rattle.refusal.specs.declared.Reason.the-variants.{WrongKind, Glyphs, Value, Size, Room}
+use Rattle.refusal.specs.declared.Reason.the-variants.{WrongKind, Glyphs, Size, Room}
 use Rattle.coding.specs.declared.Coding.{Coding}
 use Rattle.coding.specs.declared.Coding.the-variants.{Utf8, Ucs2}
 use Rattle.token.specs.Meaning.{Noncharacter}
@@ -26,7 +26,7 @@ use Rattle.lookup.specs.Meaning.{Any}
 use Rattle.transcode.specs.declared.Measured.{Measured}
 use Rattle.transcode.specs.declared.Measured.the-variants.{Length, Uncarried}
 use Rattle.transcode.specs.Reading.{tableLen, FirstUncarried}
-use Rattle.transcode.proofs.Meaning.{length-exactly, uncarried-place}
+use Rattle.transcode.proofs.Meaning.{length-exactly, uncarried-exactly}
 use Rattle.header.specs.declared.Kind.{Kind}
 use Rattle.header.specs.declared.Kind.the-variants.{Psf1, Psf2, Vfont2}
 use Rattle.header.specs.declared.Font.{Font}
@@ -52,7 +52,7 @@ use Rattle.conversion.proofs.Cases.{kind-same, right-kind, wrong-kind, not-open
 use Rattle.conversion.proofs.Ready.{even-fields}
 use Rattle.convert.specs.declared.Converted.the-variants.{Wrote, Refused}
 use Rattle.convert.specs.Reading.{converted, convertedOf}
-use Rattle.laws.specs.Meaning.{Exact, convertedSays, GlyphsAt, Holds, FirstValue, ValueAt, needed, ConversionRows}
+use Rattle.laws.specs.Meaning.{Exact, refuses, convertedSays, GlyphsAt, Holds, FirstValue, ValueAt, needed, ConversionRows}
 use Rattle.laws.proofs.Exactly.{is, row, row-at, own-first, reading-of, less}
 use Rattle.laws.proofs.Asking.{described, read-as}
 
@@ -170,12 +170,14 @@ module _ (s : List ℕ) (f : Font) (y : Bytes s) (e : checkOf s ≡ Sound f) whe
   narrow-given p (inr (q, a, b)) = sym (width-other f (two-counts a) b) ∙ ap (λ (x : ℕ). Unsuited (refusal Glyphs x)) (sym q)
 
   -- a font that doesn't suit
-  glyphs-by : (c : Conversion) (p : ℕ) → GlyphsAt c s f p → suitsOf c s f ≡ Unsuited (refusal Glyphs p)
+  glyphs-by : (c : Conversion) (p : ℕ) → GlyphsAt c s f p → (g : ℕ) × (suitsOf c s f ≡ Unsuited (refusalAt Glyphs p g))
   glyphs-by Psf1ToPsf2 p g = absurd g
-  glyphs-by Psf2ToPsf1 p g = sym (suits-is Psf2ToPsf1 Psf2ToPsf1 s f refl) ∙ narrow-given p g
+  glyphs-by Psf2ToPsf1 p g = (noGlyph, sym (suits-is Psf2ToPsf1 Psf2ToPsf1 s f refl) ∙ narrow-given p g)
   glyphs-by Psf2ToVfont2 p g = absurd g
-  glyphs-by Vfont2ToPsf2 p (i, q, u) =
-      sym (suits-is Vfont2ToPsf2 Vfont2ToPsf2 s f refl) ∙ ap (evenSuits f) (sought i u) ∙ ap (λ (x : ℕ). Unsuited (refusal Glyphs x)) (sym q)
+  glyphs-by Vfont2ToPsf2 p (i, q, u) = (
+    i,
+    sym (suits-is Vfont2ToPsf2 Vfont2ToPsf2 s f refl) ∙ ap (evenSuits f) (sought i u) ∙ ap (λ (x : ℕ). Unsuited (refusalAt Glyphs x i)) (sym q),
+  )
 
   -- it suits, or it doesn't
   abbrev Suited : Conversion → Suits → Type 0
@@ -204,7 +206,7 @@ module _ (s : List ℕ) (f : Font) (y : Bytes s) (e : checkOf s ≡ Sound f) whe
   not-suited x r a b = let z : _≡_ {A = ℕ} 0 1 = cc in absurd (omega arith)
 
 -- 19: whether the target's coding carries the table
-measured-as : (c : Conversion) (tl : List ℕ) (ds : List Desc) → Readable (codingOf (sourceKind c)) ds → tl ≡ encode (codingOf (sourceKind c)) ds →
+pub measured-as : (c : Conversion) (tl : List ℕ) (ds : List Desc) → Readable (codingOf (sourceKind c)) ds → tl ≡ encode (codingOf (sourceKind c)) ds →
     measuredOf c tl ≡ tableLen (codingOf (sourceKind c)) (codingOf (targetKind c)) tl
 measured-as Psf1ToPsf2 tl ds o e = sym (measured-is Psf1ToPsf2 Psf1ToPsf2 tl refl)
 measured-as Psf2ToPsf1 tl ds o e = sym (measured-is Psf2ToPsf1 Psf2ToPsf1 tl refl)
@@ -219,8 +221,8 @@ module _ (c : Conversion) (tl : List ℕ) (ds : List Desc) (o : Readable (coding
   to = codingOf (targetKind c)
 
   -- a value that isn't carried
-  value-by : (k : ℕ) → FirstUncarried from to (items ds) 0 k → (g : ℕ) × (measuredOf c tl ≡ Uncarried k g)
-  value-by k u = let r = uncarried-place from to ds tl o e k .1 u in (r .0, measured-as c tl ds o e ∙ r .1)
+  value-by : (k : ℕ) → FirstUncarried from to (items ds) 0 k → measuredOf c tl ≡ Uncarried k
+  value-by k u = measured-as c tl ds o e ∙ uncarried-exactly from to ds tl o e k .1 u
 
   -- every value is, or one isn't
   carried-or : (measuredOf c tl ≡ Length (length (encode to ds))) ⊎ ((k : ℕ) × FirstUncarried from to (items ds) 0 k)
@@ -228,10 +230,10 @@ module _ (c : Conversion) (tl : List ℕ) (ds : List Desc) (o : Readable (coding
     where
       go : (x : Measured) → tableLen from to tl ≡ x → (measuredOf c tl ≡ Length (length (encode to ds))) ⊎ ((k : ℕ) × FirstUncarried from to (items ds) 0 k)
       go (Length n) q = inl (measured-as c tl ds o e ∙ q ∙ ap Length (length-exactly from to ds tl o e n .0 q .1))
-      go (Uncarried k g) q = inr (k, uncarried-place from to ds tl o e k .0 (g, q))
+      go (Uncarried k) q = inr (k, uncarried-exactly from to ds tl o e k .0 q)
 
-  not-carried : {A : Type 0} (x : Measured) (n k g : ℕ) → x ≡ Length n → x ≡ Uncarried k g → A
-  not-carried x n k g a b = let z : _≡_ {A = ℕ} 0 1 = cc in absurd (omega arith)
+  not-carried : {A : Type 0} (x : Measured) (n k : ℕ) → x ≡ Length n → x ≡ Uncarried k → A
+  not-carried x n k a b = let z : _≡_ {A = ℕ} 0 1 = cc in absurd (omega arith)
 
 -- an item that one coding has and another hasn't has a value that the other hasn't
 uncarried-value : (from to : Coding) (i : Item) → OfCoding from (i ∷ []) → (OfCoding to (i ∷ []) → ⊥) → (v : ℕ) × Holds v i × valueOf from v × (valueOf to v → ⊥)
@@ -409,8 +411,8 @@ module _ (c : Conversion) (s : List ℕ) (f : Font) (m : ℕ) (y : Bytes s) (e :
   from-font : (p : Prepared) → p ≡ preparedOn c s f → convertedOf c s m ≡ converted p m
   from-font p z = from-prepared c s m p (z ∙ on-kind c s m f e q)
 
-  pub glyphs-given : (p : ℕ) → GlyphsAt c s f p → convertedOf c s m ≡ Refused (refusal Glyphs p)
-  glyphs-given p g = from-font (Unprepared (refusal Glyphs p)) (unsuited c s f (refusal Glyphs p) (glyphs-by s f y e c p g))
+  glyphs-given : (p : ℕ) → GlyphsAt c s f p → convertedSays (convertedOf c s m) ≡ refuses 18 p
+  glyphs-given p g = let w = glyphs-by s f y e c p g in ap convertedSays (from-font (Unprepared (refusalAt Glyphs p (w .0))) (unsuited c s f (refusalAt Glyphs p (w .0)) (w .1)))
 
   suits : Never (GlyphsAt c s f) → suitsOf c s f ≡ Yes
   suits n = go (suits-or s f y e c)
@@ -419,17 +421,17 @@ module _ (c : Conversion) (s : List ℕ) (f : Font) (m : ℕ) (y : Bytes s) (e :
       go (inl z) = z
       go (inr (p, g)) = absurd (n p g)
 
-  pub value-given : Never (GlyphsAt c s f) → (k : ℕ) → ValueAt c ds k → convertedOf c s m ≡ Refused (refusal Value (f .end + k))
+  value-given : Never (GlyphsAt c s f) → (k : ℕ) → ValueAt c ds k → convertedSays (convertedOf c s m) ≡ refuses 19 (f .end + k)
   value-given n k v =
       let w = value-by c (tailOf s f) ds (of-source .0) (of-source .1) k (value-first c ds k (of-source .0) .0 v) in
-      from-font (measuredThen c f (measuredOf c (tailOf s f))) (suited c s f (suits n)) ∙ ap (λ (x : Measured). converted (measuredThen c f x) m) (w .1)
+      ap convertedSays (from-font (measuredThen c f (tailOf s f) (measuredOf c (tailOf s f))) (suited c s f (suits n)) ∙ ap (λ (x : Measured). converted (measuredThen c f (tailOf s f) x) m) w)
 
   fitted : Never (GlyphsAt c s f) → Never (ValueAt c ds) → convertedOf c s m ≡ converted (fitting f (needed c f ds)) m
   fitted n v = go (carried-or c (tailOf s f) ds (of-source .0) (of-source .1))
     where
       go : (measuredOf c (tailOf s f) ≡ Length (length (encode (codingOf (targetKind c)) ds))) ⊎ ((k : ℕ) × FirstUncarried (codingOf (sourceKind c)) (codingOf (targetKind c)) (items ds) 0 k) →
           convertedOf c s m ≡ converted (fitting f (needed c f ds)) m
-      go (inl z) = from-font (measuredThen c f (measuredOf c (tailOf s f))) (suited c s f (suits n)) ∙ ap (λ (x : Measured). converted (measuredThen c f x) m) z
+      go (inl z) = from-font (measuredThen c f (tailOf s f) (measuredOf c (tailOf s f))) (suited c s f (suits n)) ∙ ap (λ (x : Measured). converted (measuredThen c f (tailOf s f) x) m) z
       go (inr (k, u)) = absurd (v k (value-first c ds k (of-source .0) .1 u))
 
   pub size-given : Never (GlyphsAt c s f) → Never (ValueAt c ds) → limit < needed c f ds → convertedOf c s m ≡ Refused (refusal Size 0)
@@ -446,7 +448,7 @@ module _ (c : Conversion) (s : List ℕ) (f : Font) (m : ℕ) (y : Bytes s) (e :
   glyphs-or = go (suits-or s f y e c)
     where
       go : (suitsOf c s f ≡ Yes) ⊎ ((p : ℕ) × GlyphsAt c s f p) → ((p : ℕ) × GlyphsAt c s f p) ⊎ Never (GlyphsAt c s f)
-      go (inl z) = inr (λ p g. not-suited s f y e _ _ z (glyphs-by s f y e c p g))
+      go (inl z) = inr (λ p g. not-suited s f y e _ _ z (glyphs-by s f y e c p g .1))
       go (inr g) = inl g
 
   value-or : ((k : ℕ) × ValueAt c ds k) ⊎ Never (ValueAt c ds)
@@ -455,7 +457,7 @@ module _ (c : Conversion) (s : List ℕ) (f : Font) (m : ℕ) (y : Bytes s) (e :
       go : (measuredOf c (tailOf s f) ≡ Length (length (encode (codingOf (targetKind c)) ds))) ⊎ ((k : ℕ) × FirstUncarried (codingOf (sourceKind c)) (codingOf (targetKind c)) (items ds) 0 k) →
           ((k : ℕ) × ValueAt c ds k) ⊎ Never (ValueAt c ds)
       go (inl z) =
-          inr (λ k v. let w = value-by c (tailOf s f) ds (of-source .0) (of-source .1) k (value-first c ds k (of-source .0) .0 v) in not-carried c (tailOf s f) ds (of-source .0) (of-source .1) _ _ _ _ z (w .1))
+          inr (λ k v. let w = value-by c (tailOf s f) ds (of-source .0) (of-source .1) k (value-first c ds k (of-source .0) .0 v) in not-carried c (tailOf s f) ds (of-source .0) (of-source .1) _ _ _ z w)
       go (inr (k, u)) = inl (k, value-first c ds k (of-source .0) .1 u)
 
 -- two kinds are one or not
@@ -492,8 +494,8 @@ conversion-rows c s m y =
     let q = not-wrong (f .kind) (sourceKind c) n in
     reading-of s f (described s f y e) (λ ds d.
     let r = read-as s f y e ds d in
-    row-at (glyphs-or c s f m y e q ds r) (λ p g. ap convertedSays (glyphs-given c s f m y e q ds r p g)) (λ ng.
-    row-at (value-or c s f m y e q ds r) (λ k v. ap convertedSays (value-given c s f m y e q ds r ng k v)) (λ nv.
+    row-at (glyphs-or c s f m y e q ds r) (glyphs-given c s f m y e q ds r) (λ ng.
+    row-at (value-or c s f m y e q ds r) (value-given c s f m y e q ds r ng) (λ nv.
     row (less limit (needed c f ds)) (λ h. ap convertedSays (size-given c s f m y e q ds r ng nv h)) (λ h.
     let small : needed c f ds ≤ limit = omega arith in
     row (less m (needed c f ds)) (λ l. ap convertedSays (room-given c s f m y e q ds r ng nv small l)) (λ l.

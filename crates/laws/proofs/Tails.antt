@@ -9,8 +9,6 @@ use lib.ListN.{length, take, length-drop, drop-of-length-le}
 use lib.Seq.{take-all}
 use Rattle.base.specs.Meaning.{Bytes}
 use Rattle.base.proofs.Parts.{bytes-drop, byte-at}
-use Rattle.refusal.specs.Meaning.{refusal}
-use Rattle.refusal.specs.declared.Reason.the-variants.{TableCut, TableBad, Trailing}
 use Rattle.coding.specs.declared.Coding.{Coding}
 use Rattle.table.specs.declared.TableAnswer.{TableAnswer}
 use Rattle.table.specs.declared.TableAnswer.the-variants.{Complete, Cut, Bad, Trailing as Over}
@@ -18,7 +16,7 @@ use Rattle.table.specs.Reading.{tableOf}
 use Rattle.table.specs.Meaning.{IsTable, Completable, LongestStart, Unfinished, BadAt, TrailingAt}
 use Rattle.table.proofs.Meaning as meaning
 use Rattle.header.specs.declared.Font.{Font}
-use Rattle.header.specs.declared.Checked.the-variants.{Sound, Refused}
+use Rattle.header.specs.declared.Checked.the-variants.{Sound}
 use Rattle.stages.specs.Meaning.{codingOf, tailOf}
 use Rattle.stages.specs.Reading.{answered, throughEntries, checkOf}
 use Rattle.stages.proofs.Cases.{with-table, bare-trailing, bare-sound, tail-after, placed}
@@ -41,20 +39,21 @@ module _ (s : List ℕ) (y : Bytes s) (f : Font) (passed : throughEntries s ≡ 
   where-it-ends : f .end + length (tailOf s f) ≡ length s
   where-it-ends = let p = placed s f (byte-at s y 3) passed in omega (arith, p .7, length-drop (f .end) s)
 
-  -- the check's answer for each of the table's
+  -- the check's answer for each of the table's; a refusal by its number and place
   pub accepted : ofTail IsTable s f → checkOf s ≡ Sound f
   accepted h = checked ∙ ap (answered f) (meaning.complete-exactly c (f .count) (tailOf s f) t-bytes .1 h)
 
-  pub cut : ofTail Unfinished s f → checkOf s ≡ Refused (refusal TableCut (length s))
-  cut h =
-      let e = meaning.cut-place c (f .count) (tailOf s f) (length (tailOf s f)) t-bytes .1 (refl, h) in
-      checked ∙ ap (answered f) (e .1) ∙ ap (λ (x : ℕ). Refused (refusal TableCut x)) where-it-ends
+  answer-says : (a : TableAnswer) → tableOf c (f .count) (tailOf s f) ≡ a → checkSays (checkOf s) ≡ checkSays (answered f a)
+  answer-says a e = ap checkSays (checked ∙ ap (answered f) e)
 
-  pub bad : (k : ℕ) → ofTail BadAt s f k → checkOf s ≡ Refused (refusal TableBad (f .end + k))
-  bad k h = let e = meaning.bad-place c (f .count) (tailOf s f) k t-bytes .1 h in checked ∙ ap (answered f) (e .1)
+  cut : ofTail Unfinished s f → checkSays (checkOf s) ≡ refuses 10 (length s)
+  cut h = let e = meaning.cut-place c (f .count) (tailOf s f) (length (tailOf s f)) t-bytes .1 (refl, h) in answer-says _ (e .1) ∙ ap (refuses 10) where-it-ends
 
-  pub over : (k : ℕ) → ofTail TrailingAt s f k → checkOf s ≡ Refused (refusal Trailing (f .end + k))
-  over k h = checked ∙ ap (answered f) (meaning.trailing-exactly c (f .count) (tailOf s f) k t-bytes .1 h)
+  bad : (k : ℕ) → ofTail BadAt s f k → checkSays (checkOf s) ≡ refuses 11 (f .end + k)
+  bad k h = let e = meaning.bad-place c (f .count) (tailOf s f) k t-bytes .1 h in answer-says _ (e .1)
+
+  over : (k : ℕ) → ofTail TrailingAt s f k → checkSays (checkOf s) ≡ refuses 12 (f .end + k)
+  over k h = answer-says _ (meaning.trailing-exactly c (f .count) (tailOf s f) k t-bytes .1 h)
 
   -- and one of them holds
   abbrev Outcome : Type 0
@@ -76,20 +75,20 @@ module _ (s : List ℕ) (y : Bytes s) (f : Font) (passed : throughEntries s ≡ 
       by : Outcome → Exact (checkSays (checkOf s)) (TailRows s f true)
       by (inl h) =
           let q = ap checkSays (accepted h) in
-          row (inr (λ u. clash (sym (ap checkSays (cut u)) ∙ q) (λ z. omega arith))) (λ u. ap checkSays (cut u)) (λ a.
-          row-at (inr (λ k u. clash (sym (ap checkSays (bad k u)) ∙ q) (λ z. omega arith))) (λ k u. ap checkSays (bad k u)) (λ b.
-          row-at (inr (λ k u. clash (sym (ap checkSays (over k u)) ∙ q) (λ z. omega arith))) (λ k u. ap checkSays (over k u)) (λ d.
+          row (inr (λ u. clash (sym (cut u) ∙ q) (λ z. omega arith))) (λ u. cut u) (λ a.
+          row-at (inr (λ k u. clash (sym (bad k u) ∙ q) (λ z. omega arith))) (λ k u. bad k u) (λ b.
+          row-at (inr (λ k u. clash (sym (over k u) ∙ q) (λ z. omega arith))) (λ k u. over k u) (λ d.
           is _ (gives f) q)))
-      by (inr (inl h)) = row (inl h) (λ u. ap checkSays (cut u)) (λ n. absurd (n h))
+      by (inr (inl h)) = row (inl h) (λ u. cut u) (λ n. absurd (n h))
       by (inr (inr (inl (k, h)))) =
-          let q = ap checkSays (bad k h) in
-          row (inr (λ u. clash (sym (ap checkSays (cut u)) ∙ q) (λ z. omega arith))) (λ u. ap checkSays (cut u)) (λ a.
-          row-at (inl (k, h)) (λ j u. ap checkSays (bad j u)) (λ n. absurd (n k h)))
+          let q = bad k h in
+          row (inr (λ u. clash (sym (cut u) ∙ q) (λ z. omega arith))) (λ u. cut u) (λ a.
+          row-at (inl (k, h)) (λ j u. bad j u) (λ n. absurd (n k h)))
       by (inr (inr (inr (k, h)))) =
-          let q = ap checkSays (over k h) in
-          row (inr (λ u. clash (sym (ap checkSays (cut u)) ∙ q) (λ z. omega arith))) (λ u. ap checkSays (cut u)) (λ a.
-          row-at (inr (λ j u. clash (sym (ap checkSays (bad j u)) ∙ q) (λ z. omega arith))) (λ j u. ap checkSays (bad j u)) (λ b.
-          row-at (inl (k, h)) (λ j u. ap checkSays (over j u)) (λ n. absurd (n k h))))
+          let q = over k h in
+          row (inr (λ u. clash (sym (cut u) ∙ q) (λ z. omega arith))) (λ u. cut u) (λ a.
+          row-at (inr (λ j u. clash (sym (bad j u) ∙ q) (λ z. omega arith))) (λ j u. bad j u) (λ b.
+          row-at (inl (k, h)) (λ j u. over j u) (λ n. absurd (n k h))))
 
   -- what each answer says of the tail
   sound-only : TailRows s f true (gives f) → ofTail IsTable s f
@@ -97,15 +96,15 @@ module _ (s : List ℕ) (y : Bytes s) (f : Font) (passed : throughEntries s ≡ 
     where
       go : Outcome → ofTail IsTable s f
       go (inl h) = h
-      go (inr (inl h)) = clash (sym (ap checkSays (cut h)) ∙ table-rows (gives f) .1 r) (λ z. omega arith)
-      go (inr (inr (inl (k, h)))) = clash (sym (ap checkSays (bad k h)) ∙ table-rows (gives f) .1 r) (λ z. omega arith)
-      go (inr (inr (inr (k, h)))) = clash (sym (ap checkSays (over k h)) ∙ table-rows (gives f) .1 r) (λ z. omega arith)
+      go (inr (inl h)) = clash (sym (cut h) ∙ table-rows (gives f) .1 r) (λ z. omega arith)
+      go (inr (inr (inl (k, h)))) = clash (sym (bad k h) ∙ table-rows (gives f) .1 r) (λ z. omega arith)
+      go (inr (inr (inr (k, h)))) = clash (sym (over k h) ∙ table-rows (gives f) .1 r) (λ z. omega arith)
 
   pub accepted-exactly : (checkSays (checkOf s) ≡ gives f) ↔ ofTail IsTable s f
   accepted-exactly = (λ e. sound-only (table-rows (gives f) .0 e), λ h. ap checkSays (accepted h))
 
   pub cut-exactly : (p : ℕ) → (checkSays (checkOf s) ≡ refuses 10 p) ↔ ((p ≡ length s) × ofTail Unfinished s f)
-  cut-exactly p = (λ e. go (table-rows (refuses 10 p) .0 e), λ (z, h). ap checkSays (cut h) ∙ ap (refuses 10) (sym z))
+  cut-exactly p = (λ e. go (table-rows (refuses 10 p) .0 e), λ (z, h). cut h ∙ ap (refuses 10) (sym z))
     where
       go : TailRows s f true (refuses 10 p) → (p ≡ length s) × ofTail Unfinished s f
       go (given h q) = (ap saidPlace q, h)
@@ -114,7 +113,7 @@ module _ (s : List ℕ) (y : Bytes s) (f : Font) (passed : throughEntries s ≡ 
       go (skipped n (skipped-at m (skipped-at l q))) = clash q (λ z. omega arith)
 
   pub bad-exactly : (p : ℕ) → (checkSays (checkOf s) ≡ refuses 11 p) ↔ ((k : ℕ) × (p ≡ f .end + k) × ofTail BadAt s f k)
-  bad-exactly p = (λ e. go (table-rows (refuses 11 p) .0 e), λ (k, z, h). ap checkSays (bad k h) ∙ ap (refuses 11) (sym z))
+  bad-exactly p = (λ e. go (table-rows (refuses 11 p) .0 e), λ (k, z, h). bad k h ∙ ap (refuses 11) (sym z))
     where
       go : TailRows s f true (refuses 11 p) → (k : ℕ) × (p ≡ f .end + k) × ofTail BadAt s f k
       go (given h q) = clash q (λ z. omega arith)
@@ -123,7 +122,7 @@ module _ (s : List ℕ) (y : Bytes s) (f : Font) (passed : throughEntries s ≡ 
       go (skipped n (skipped-at m (skipped-at l q))) = clash q (λ z. omega arith)
 
   pub trailing-exactly : (p : ℕ) → (checkSays (checkOf s) ≡ refuses 12 p) ↔ ((k : ℕ) × (p ≡ f .end + k) × ofTail TrailingAt s f k)
-  trailing-exactly p = (λ e. go (table-rows (refuses 12 p) .0 e), λ (k, z, h). ap checkSays (over k h) ∙ ap (refuses 12) (sym z))
+  trailing-exactly p = (λ e. go (table-rows (refuses 12 p) .0 e), λ (k, z, h). over k h ∙ ap (refuses 12) (sym z))
     where
       go : TailRows s f true (refuses 12 p) → (k : ℕ) × (p ≡ f .end + k) × ofTail TrailingAt s f k
       go (given h q) = clash q (λ z. omega arith)
@@ -149,7 +148,7 @@ module _ (s : List ℕ) (y : Bytes s) (f : Font) (passed : throughEntries s ≡ 
 
       go : Outcome → checkSays (checkOf s) ≡ refuses 10 (length s)
       go (inl h) = absurd (no-table (subst (IsTable c (f .count)) none h))
-      go (inr (inl h)) = ap checkSays (cut h)
+      go (inr (inl h)) = cut h
       go (inr (inr (inl (k, h)))) = absurd (omega (arith, h .1, ap length none))
       go (inr (inr (inr (k, h)))) = absurd (omega (arith, h .0, ap length none))
 
@@ -174,9 +173,9 @@ module _ (s : List ℕ) (y : Bytes s) (f : Font) (passed : throughEntries s ≡ 
     where
       go : Outcome → (k : ℕ) × (p ≡ f .end + k) × ofTail LongestStart s f k
       go (inl h) = not-refused number p (sym e ∙ ap checkSays (accepted h))
-      go (inr (inl h)) = (length (tailOf s f), ap saidPlace (sym e ∙ ap checkSays (cut h)) ∙ sym where-it-ends, whole-start (h .0))
-      go (inr (inr (inl (k, h)))) = (k, ap saidPlace (sym e ∙ ap checkSays (bad k h)), h .0)
-      go (inr (inr (inr (k, h)))) = (k, ap saidPlace (sym e ∙ ap checkSays (over k h)), meaning.trailing-start c (f .count) (tailOf s f) k t-bytes h)
+      go (inr (inl h)) = (length (tailOf s f), ap saidPlace (sym e ∙ cut h) ∙ sym where-it-ends, whole-start (h .0))
+      go (inr (inr (inl (k, h)))) = (k, ap saidPlace (sym e ∙ bad k h), h .0)
+      go (inr (inr (inr (k, h)))) = (k, ap saidPlace (sym e ∙ over k h), meaning.trailing-start c (f .count) (tailOf s f) k t-bytes h)
 
 module _ (s : List ℕ) (y : Bytes s) (f : Font) (passed : throughEntries s ≡ Sound f) where
   bare-rows : f .table ≡ false → Exact (checkSays (checkOf s)) (TailRows s f false)

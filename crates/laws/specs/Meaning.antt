@@ -7,13 +7,13 @@ use mathlib.Core.List.{List, [], _∷_, _++_}
 use mathlib.Core.Option.{Option, none, some}
 use lib.ListN.{length, getD, take, drop, replicate}
 use Rattle.base.specs.Meaning.{le32, Begins, Bytes}
-use Rattle.refusal.specs.Meaning.{numberOf}
+use Rattle.refusal.specs.Meaning.{numberOf, noGlyph}
 use Rattle.refusal.specs.declared.Refusal.{Refusal}
 use Rattle.coding.specs.declared.Coding.{Coding}
 use Rattle.coding.specs.declared.Coding.the-variants.{Utf8, Ucs2}
 use Rattle.table.specs.declared.Item.{Item}
 use Rattle.table.specs.declared.Item.the-variants.{Single, Value}
-use Rattle.table.specs.Meaning.{Desc, itemsOf, items, bytes, encode, Unfinished, BadAt, TrailingAt}
+use Rattle.table.specs.Meaning.{Desc, itemsOf, items, bytes, encode, Unfinished, BadAt, TrailingAt, InGlyph}
 use Rattle.lookup.specs.Meaning.{Nth, Any, ListsValue, ListsSequence, Lowest, Nowhere, ItemIs}
 use Rattle.header.specs.declared.Kind as K
 use Rattle.header.specs.declared.Kind.the-variants.{Psf1, Psf2, Vfont2}
@@ -200,6 +200,44 @@ RowsTo9 s = RowsThen s (λ f a. a ≡ gives f)
 -- all rows of the check
 abbrev pub CheckRows : List ℕ → Said Font → Type 0
 CheckRows s = RowsThen s (λ f. TailRows s f (f .table))
+
+-- The glyph of a refusal (document 02, W7): "the entry for ENTRY at an entry and for GLYPHS from vfont2; for TABLE CUT, TABLE BAD and VALUE the number of
+-- descriptions complete before the place; 4,096 in all other cases".
+
+-- entry g of a file that begins 27 5B A4 68 starts at a place
+abbrev pub EntryStarts : List ℕ → ℕ → ℕ → Type 0
+EntryStarts s place g = Begins (magicOf Vfont2) s × (g < le32 s 16) × (place ≡ entryAt (le32 s 8) g)
+
+-- the entry that starts at a place; 4,096 where none does
+pub data OfEntry (s : List ℕ) (place g : ℕ) : Type 0 where
+  at-entry : EntryStarts s place g → OfEntry s place g
+  elsewhere : ((i : ℕ) → EntryStarts s place i → ⊥) → g ≡ noGlyph → OfEntry s place g
+
+-- the bytes from a font's table on, up to a place, begin with g descriptions and not with g + 1; and g is one of the font's glyphs
+pub record CompleteBefore (s : List ℕ) (place g : ℕ) : Type 0 where
+  pub font : Font
+  pub passes : RowsTo9 s (gives font)
+  pub offset : ℕ
+  pub here : place ≡ font .end + offset
+  pub complete : InGlyph (codingOf (font .kind)) (tailOf s font) offset g
+  pub below : g < font .count
+
+-- the numbers of ENTRY and GLYPHS; of TABLE CUT, TABLE BAD and VALUE
+abbrev pub ByEntry : ℕ → Type 0
+ByEntry number = (number ≡ 9) ⊎ (number ≡ 18)
+
+abbrev pub ByTable : ℕ → Type 0
+ByTable number = (number ≡ 10) ⊎ ((number ≡ 11) ⊎ (number ≡ 19))
+
+-- g is the glyph of a refusal with a number, at a place
+pub data GlyphOf (s : List ℕ) (number place g : ℕ) : Type 0 where
+  of-entry : ByEntry number → OfEntry s place g → GlyphOf s number place g
+  of-table : ByTable number → CompleteBefore s place g → GlyphOf s number place g
+  of-none : (ByEntry number → ⊥) → (ByTable number → ⊥) → g ≡ noGlyph → GlyphOf s number place g
+
+-- a refusal on a file tells that glyph and no other; a font has at most 4,096, so no glyph has the number that stands for none
+abbrev pub TellsGlyph : List ℕ → Refusal → Type 0
+TellsGlyph s r = ((g : ℕ) → (r .glyph ≡ g) ↔ GlyphOf s (numberOf (r .reason)) (r .place) g) × (r .glyph ≤ noGlyph)
 
 -- Unicode's Table 3-7, "Well-Formed UTF-8 Byte Sequences", row by row
 abbrev pub In : ℕ → ℕ → ℕ → Type 0

@@ -9,7 +9,7 @@ use lib.Seq.{take-all, take-append-add}
 use borrow.Author.Tests.{eq-eqb, ne-eqb, lt-ltb, le-ltb}
 use Rattle.base.specs.Reading.{when}
 use Rattle.base.proofs.Chain.{chain}
-use Rattle.refusal.specs.Meaning.{refusal}
+use Rattle.refusal.specs.Meaning.{refusal, refusalAt}
 use Rattle.refusal.specs.declared.Refusal.{Refusal}
 use Rattle.refusal.specs.declared.Reason.the-variants.{TooLong, Entry, TableCut, TableBad, Trailing, Late}
 use Rattle.header.specs.declared.Kind.{Kind}
@@ -32,7 +32,7 @@ use Rattle.tablefeed.specs.declared.Fed as tables
 use Rattle.tablefeed.specs.Reading.{tableFed}
 use Rattle.loader.specs.declared.Loader.{Loader}
 use Rattle.loader.specs.declared.Reply.the-variants.{Taken, Refused as Untaken}
-use Rattle.loader.specs.Reading.{partOf, entriesIn, tableIn, counted, fontFed, saidFed, bodyFed, headFed, pastLimit, isOpen, openFed, fedOf, feedAnswer, kindTold, entriesTold, tailTold, fontTold, answerOf, closeAnswer, closedOf}
+use Rattle.loader.specs.Reading.{partOf, entriesIn, tableIn, counted, fontFed, saidFed, bodyFed, headFed, pastLimit, isOpen, openFed, fedOf, feedAnswer, entryNumber, kindTold, entriesTold, tailTold, fontTold, answerOf, closeAnswer, closedOf}
 
 -- the entries in a piece, where s is their part of it
 module _ (f : Font) (total : ℕ) (h : Held) (x : Sums) (p s : List ℕ) (e : s ≡ partOf total (f .entries) (f .bitmaps) p) where
@@ -171,7 +171,7 @@ pub told-by : (f : Font) (x : Sums) (k : Kind) → f .kind ≡ k → (r : Checke
 unfolding entriesTold
 told-by f x k e r q = q ∙ rw e
 
-pub broke : (f : Font) (x : Sums) → (x .broken ≡ 0 → ⊥) → Refused (refusal Entry (x .broken)) ≡ kindTold f x Vfont2
+pub broke : (f : Font) (x : Sums) → (x .broken ≡ 0 → ⊥) → Refused (refusalAt Entry (x .broken) (entryNumber (f .entries) (x .broken))) ≡ kindTold f x Vfont2
 broke f x h = search chain depth 30
 
 pub whole : (f : Font) (x : Sums) → x .broken ≡ 0 → greatestOf f (x .height) (x .width) ≡ kindTold f x Vfont2
@@ -186,7 +186,7 @@ module _ (f : Font) (total : ℕ) (t : Standing) where
   unfolding tailTold when
   bare-sound b h = rw (b, le-ltb (f .end) total h)
 
-  pub table-cut : f .table ≡ true → t .halted ≡ 0 → t .ended < f .count → Refused (refusal TableCut total) ≡ tailTold f total t
+  pub table-cut : f .table ≡ true → t .halted ≡ 0 → t .ended < f .count → Refused (refusalAt TableCut total (t .ended)) ≡ tailTold f total t
   unfolding tailTold when
   table-cut b h k = rw (b, eq-eqb (t .halted) 0 h, lt-ltb (t .ended) (f .count) k)
 
@@ -198,6 +198,6 @@ module _ (f : Font) (total : ℕ) (t : Standing) where
   unfolding tailTold when
   table-over b h k = rw (b, ne-eqb (t .halted) 0 h, eq-eqb (t .halted) 12 k)
 
-  pub table-bad : f .table ≡ true → (t .halted ≡ 0 → ⊥) → (t .halted ≡ 12 → ⊥) → Refused (refusal TableBad (t .place)) ≡ tailTold f total t
+  pub table-bad : f .table ≡ true → (t .halted ≡ 0 → ⊥) → (t .halted ≡ 12 → ⊥) → Refused (refusalAt TableBad (t .place) (t .ended)) ≡ tailTold f total t
   unfolding tailTold when
   table-bad b h k = rw (b, ne-eqb (t .halted) 0 h, ne-eqb (t .halted) 12 k)

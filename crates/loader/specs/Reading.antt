@@ -1,19 +1,19 @@
 -- The loader (document 02, W2), for any record: what a piece makes of it, what a close answers, and when both are LATE.
-use Prim.Native.Nat.{ℕ, _+_, _-_}
+use Prim.Native.Nat.{ℕ, _+_, _-_, _/_}
 use mathlib.Core.Bool.{Bool, _&&_, not}
 use mathlib.Core.List.{List, [], _++_}
 use lib.Dec.{ltb, eqb}
 use lib.ListN.{length, take, drop, replicate}
 use Rattle.base.specs.Meaning.{pick}
 use Rattle.base.specs.Reading.{when}
-use Rattle.refusal.specs.Meaning.{refusal}
+use Rattle.refusal.specs.Meaning.{refusal, refusalAt}
 use Rattle.refusal.specs.declared.Reason.the-variants.{TooLong, Entry, TableCut, TableBad, Trailing, Late}
 use Rattle.header.specs.declared.Kind.{Kind}
 use Rattle.header.specs.declared.Kind.the-variants.{Psf1, Psf2, Vfont2}
 use Rattle.header.specs.declared.Font.{Font}
 use Rattle.header.specs.declared.Checked.{Checked}
 use Rattle.header.specs.declared.Checked.the-variants.{Sound, Refused}
-use Rattle.header.specs.Meaning.{limit}
+use Rattle.header.specs.Meaning.{limit, entryLen}
 use Rattle.header.specs.Reading.{saysOf}
 use Rattle.stages.specs.Meaning.{codingOf}
 use Rattle.stages.specs.Reading.{andThen, sized, greatestOf, checkOf}
@@ -117,11 +117,15 @@ fedOf l p = pick (isOpen l) (openFed l p) l
 unfoldable pub feedAnswer : Loader → Reply
 feedAnswer l = pick (isOpen l) Taken (Untaken (refusal Late 0))
 
+-- the number of the entry that stands at a place of the dispatch table, which begins at start
+abbrev pub entryNumber : ℕ → ℕ → ℕ
+entryNumber start place = (place - start) / entryLen Vfont2
+
 -- 9
 abbrev pub kindTold : Font → Sums → Kind → Checked
 kindTold f x Psf1 = Sound f
 kindTold f x Psf2 = Sound f
-kindTold f x Vfont2 = when (not (eqb (x .broken) 0)) (Refused (refusal Entry (x .broken))) (greatestOf f (x .height) (x .width))
+kindTold f x Vfont2 = when (not (eqb (x .broken) 0)) (Refused (refusalAt Entry (x .broken) (entryNumber (f .entries) (x .broken)))) (greatestOf f (x .height) (x .width))
 
 unfoldable pub entriesTold : Font → Sums → Checked
 entriesTold f x = kindTold f x (f .kind)
@@ -130,9 +134,9 @@ entriesTold f x = kindTold f x (f .kind)
 unfoldable pub tailTold : Font → ℕ → Standing → Checked
 tailTold f total t =
     when (not (f .table)) (when (ltb (f .end) total) (Refused (refusal Trailing (f .end))) (Sound f))
-    (when (eqb (t .halted) 0) (when (ltb (t .ended) (f .count)) (Refused (refusal TableCut total)) (Sound f))
+    (when (eqb (t .halted) 0) (when (ltb (t .ended) (f .count)) (Refused (refusalAt TableCut total (t .ended))) (Sound f))
     (when (eqb (t .halted) 12) (Refused (refusal Trailing (t .place)))
-    (Refused (refusal TableBad (t .place)))))
+    (Refused (refusalAt TableBad (t .place) (t .ended)))))
 
 -- 8 to 12
 unfoldable pub fontTold : Font → Loader → Checked

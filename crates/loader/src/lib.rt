@@ -9,12 +9,13 @@ use refusal::Reason;
 use refusal::Refusal;
 use tablefeed::Standing;
 use unfinished::Held;
+use vfont2::Vfont2;
 ghost use mathlib.Core.Path.{_≡_};
 ghost use Prim.Native.Nat.{_+_, _-_, _≤_, _<_};
 ghost use mathlib.Core.Bool.{true};
 ghost use lib.ListN.{length};
 ghost use Rattle.header.specs.Bounds.{Parts};
-ghost use Rattle.loader.specs.Reading.{partOf, entriesIn, tableIn, fontFed, bodyFed, headFed, freshOf, pastLimit, isOpen, openFed, fedOf, feedAnswer, entriesTold, tailTold, fontTold, answerOf, closedOf, closeAnswer};
+ghost use Rattle.loader.specs.Reading.{partOf, entriesIn, tableIn, fontFed, bodyFed, headFed, freshOf, pastLimit, isOpen, openFed, fedOf, feedAnswer, entryNumber, entriesTold, tailTold, fontTold, answerOf, closedOf, closeAnswer};
 ghost use Rattle.loader.specs.Bounds.{Fitting};
 
 // A file that is being read: how many bytes there were (none are counted past the limit), 0 while the record is open, the file's first 32
@@ -247,6 +248,16 @@ pub fn fed_answer(l: Loader) -> Reply
     Reply::Refused(refusal::refuse(Reason::Late, 0))
 }
 
+// The number of the entry that stands at a place of the dispatch table.
+fn entry_number(start: usize, place: usize) -> usize
+    ensures { λ r. ⌜ r ≡ entryNumber start place ⌝ }
+{
+    if place < start {
+        return 0;
+    }
+    (place - start) / Vfont2::ENTRY_LEN
+}
+
 // What the entries of a font said.
 fn told_entries(f: Font, x: Sums) -> Checked
     ensures { λ r. ⌜ r ≡ entriesTold f x ⌝ }
@@ -257,7 +268,11 @@ fn told_entries(f: Font, x: Sums) -> Checked
         Kind::Psf2 => Checked::Sound(f),
         Kind::Vfont2 => {
             if x.broken != 0 {
-                return Checked::Refused(refusal::refuse(Reason::Entry, x.broken));
+                return Checked::Refused(refusal::refuse_at(
+                    Reason::Entry,
+                    x.broken,
+                    entry_number(f.entries, x.broken),
+                ));
             }
             stages::check_greatest(f, x.height, x.width)
         }
@@ -276,14 +291,14 @@ fn told_tail(f: Font, total: usize, t: Standing) -> Checked
     }
     if t.halted == 0 {
         if t.ended < f.count {
-            return Checked::Refused(refusal::refuse(Reason::TableCut, total));
+            return Checked::Refused(refusal::refuse_at(Reason::TableCut, total, t.ended));
         }
         return Checked::Sound(f);
     }
     if t.halted == 12 {
         return Checked::Refused(refusal::refuse(Reason::Trailing, t.place));
     }
-    Checked::Refused(refusal::refuse(Reason::TableBad, t.place))
+    Checked::Refused(refusal::refuse_at(Reason::TableBad, t.place, t.ended))
 }
 
 // What a font said that the header describes: its length, its entries, its tail.

@@ -1,4 +1,5 @@
--- Document 01, "The numbers said back": a refusal is a reason, which has its number, and a place.
+-- Document 01, "The numbers said back": a refusal is a reason, which has its number, and a place; and document 02, W7: "Every refusal record gains a
+-- glyph number".
 use Prim.Native.Nat.{ℕ}
 use Rattle.refusal.specs.declared.Reason.{Reason}
 use Rattle.refusal.specs.declared.Reason.the-variants.{TooLong, Kind, HeaderCut, Version, HeaderSize, Count, Shape, BodyCut, Entry, TableCut, TableBad, Trailing, Ask, NoTable, Unmapped, NoGlyph, WrongKind, Glyphs, Value, Size, Room, Late, Line, Have, NotThere}
@@ -34,6 +35,13 @@ numberOf Line = 23
 numberOf Have = 24
 numberOf NotThere = 25
 
--- a reason and a place: the columns "Name" and "Place"
+-- a reason and a place, the columns "Name" and "Place", and a glyph number
+abbrev pub refusalAt : Reason → ℕ → ℕ → Refusal
+refusalAt why place glyph = record { reason = why; place = place; glyph = glyph }
+
+-- "4,096 in all other cases"
+abbrev pub noGlyph : ℕ
+noGlyph = 4096
+
 abbrev pub refusal : Reason → ℕ → Refusal
-refusal why place = record { reason = why; place = place }
+refusal why place = refusalAt why place noGlyph

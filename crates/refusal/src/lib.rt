@@ -1,6 +1,6 @@
-// Inner layer: every refusal of documents 01 and 02: why, and where. Definitions: specs/Meaning.antt.
+// Inner layer: every refusal of documents 01 and 02: why, where, and at which glyph. Definitions: specs/Meaning.antt.
 ghost use mathlib.Core.Path.{_≡_};
-ghost use Rattle.refusal.specs.Meaning.{numberOf, refusal};
+ghost use Rattle.refusal.specs.Meaning.{numberOf, refusal, refusalAt};
 
 // Why a call is refused: the rows of document 01's table, then those that document 02 adds.
 pub enum Reason {
@@ -31,20 +31,36 @@ pub enum Reason {
     NotThere,
 }
 
-// A refusal: the reason, and its place: an offset in the file, 0 where there is nothing to point at, the size needed (ROOM), a line's
-// number (LINE).
+// No glyph's number: a font has at most 4,096, from 0 on.
+pub const NO_GLYPH: usize = 4096;
+
+// A refusal: the reason; its place: an offset in the file, 0 where there is nothing to point at, the size needed (ROOM), a line's
+// number (LINE); and the glyph that the place belongs to, 4,096 where it belongs to none.
 pub struct Refusal {
     pub reason: Reason,
     pub place: usize,
+    pub glyph: usize,
 }
 
-// The refusal for a reason, at a place.
+// The refusal for a reason, at a place that belongs to no glyph.
 pub fn refuse(reason: Reason, place: usize) -> Refusal
     ensures { λ r. ⌜ r ≡ refusal reason place ⌝ }
 {
     Refusal {
         reason: reason,
         place: place,
+        glyph: NO_GLYPH,
+    }
+}
+
+// The refusal for a reason, at a place that belongs to a glyph.
+pub fn refuse_at(reason: Reason, place: usize, glyph: usize) -> Refusal
+    ensures { λ r. ⌜ r ≡ refusalAt reason place glyph ⌝ }
+{
+    Refusal {
+        reason: reason,
+        place: place,
+        glyph: glyph,
     }
 }
 

@@ -7,7 +7,7 @@ use lib.Dec.{ltb, eqb}
 use lib.ListN.{length}
 use Rattle.base.specs.Meaning.{pick}
 use Rattle.base.specs.Reading.{when}
-use Rattle.refusal.specs.Meaning.{refusal}
+use Rattle.refusal.specs.Meaning.{refusal, refusalAt}
 use Rattle.refusal.specs.declared.Reason.the-variants.{TooLong, BodyCut, Entry, TableCut, TableBad, Trailing}
 use Rattle.table.specs.declared.TableAnswer.{TableAnswer}
 use Rattle.table.specs.declared.TableAnswer.the-variants.{Complete, Cut, Bad, Trailing as Over}
@@ -41,9 +41,9 @@ greatestOf f h w =
     (when (not (eqb (f .width) w)) (Refused (refusal Entry 28))
     (Sound f))
 
--- 9: "a vfont2 entry breaks a rule", place "first such entry's start"
+-- 9: "a vfont2 entry breaks a rule", place "first such entry's start", and its number
 abbrev pub scanned : Font → Scan → Checked
-scanned f (BrokenAt i) = Refused (refusal Entry (entryAt (f .entries) i))
+scanned f (BrokenAt i) = Refused (refusalAt Entry (entryAt (f .entries) i) i)
 scanned f (Greatest h w) = greatestOf f h w
 
 abbrev pub kindEntries : List ℕ → Font → Kind → Checked
@@ -54,11 +54,11 @@ kindEntries s f Vfont2 = scanned f (scanOf s (f .size) (f .entries) (f .count) 0
 unfoldable pub entriesOf : List ℕ → Font → Checked
 entriesOf s f = kindEntries s f (f .kind)
 
--- a table's answer, its place an offset in the file
+-- a table's answer, its place an offset in the file; the glyph of CUT and BAD is "the number of descriptions complete before the place"
 abbrev pub answered : Font → TableAnswer → Checked
 answered f Complete = Sound f
-answered f (Cut k g) = Refused (refusal TableCut (f .end + k))
-answered f (Bad k g) = Refused (refusal TableBad (f .end + k))
+answered f (Cut k g) = Refused (refusalAt TableCut (f .end + k) g)
+answered f (Bad k g) = Refused (refusalAt TableBad (f .end + k) g)
 answered f (Over k) = Refused (refusal Trailing (f .end + k))
 
 -- "bytes after the bitmaps of a font without" a table

@@ -112,9 +112,10 @@ fn check_dispatch(file: &[u8], f: Font) -> Checked
 {
     let s = entries::scan_entries(file, f.size, f.count, f.entries);
     match s {
-        Scan::BrokenAt(i) => Checked::Refused(refusal::refuse(
+        Scan::BrokenAt(i) => Checked::Refused(refusal::refuse_at(
             Reason::Entry,
             f.entries + i * Vfont2::ENTRY_LEN,
+            i,
         )),
         Scan::Greatest(h, w) => check_greatest(f, h, w),
     }
@@ -144,8 +145,16 @@ fn check_font_table(file: &[u8], f: Font) -> Checked
     let a = table::check_table(c, &file[end..], f.count);
     match a {
         TableAnswer::Complete => Checked::Sound(f),
-        TableAnswer::Cut(k, _) => Checked::Refused(refusal::refuse(Reason::TableCut, end + k)),
-        TableAnswer::Bad(k, _) => Checked::Refused(refusal::refuse(Reason::TableBad, end + k)),
+        TableAnswer::Cut(k, g) => Checked::Refused(refusal::refuse_at(
+            Reason::TableCut,
+            end + k,
+            g,
+        )),
+        TableAnswer::Bad(k, g) => Checked::Refused(refusal::refuse_at(
+            Reason::TableBad,
+            end + k,
+            g,
+        )),
         TableAnswer::Trailing(k) => Checked::Refused(refusal::refuse(Reason::Trailing, end + k)),
     }
 }

@@ -15,6 +15,7 @@ use Rattle.table.proofs.EndToEnd.{described-append, encode-cons}
 use Rattle.table.proofs.EndToEnd as end-to-end
 use Rattle.table.proofs.Places.{complete-table, table-complete, cut-short, short-cut, bad-broken, broken-bad, trailing-over, over-trailing, within-tail}
 use Rattle.table.proofs.Numbers.{glyph-told, in-cut, in-bad, item-glyph}
+use Rattle.table.proofs.Numbers as numbers
 
 -- exactly the bytes of n descriptions, nothing over, are accepted
 pub complete-exactly : (c : Coding) (n : ℕ) (s : List ℕ) → Bytes s → (tableOf c n s ≡ Complete) ↔ IsTable c n s
@@ -74,6 +75,10 @@ bad-place c n s k y = (λ (g, e). bad-broken c n s k g y e, broken-bad c n s k y
 pub glyph-of-place : (c : Coding) (n : ℕ) (s : List ℕ) (k g : ℕ) → Bytes s →
     (tableOf c n s ≡ Cut k g) ⊎ (tableOf c n s ≡ Bad k g) → (g < n) × InGlyph c s k g
 glyph-of-place c n s k g y = glyph-told c s n k y g
+
+-- no place stands in the descriptions of two
+pub one-glyph : (c : Coding) (s : List ℕ) (k g h : ℕ) → InGlyph c s k g → InGlyph c s k h → g ≡ h
+one-glyph = numbers.one-glyph
 
 -- the place of a table's item stands in the description of the glyph that has it: as many as end before it
 pub glyph-of-item : (c : Coding) (ds : List Desc) (is : List Item) (i : Item) (js : List Item) → Readable c ds → items ds ≡ is ++ (i ∷ js) →

@@ -128,8 +128,8 @@ module _ (c : Coding) where
 
   module _ (s : List ℕ) where
     -- the first descriptions of a table are a table
-    fewer-table : (m n j : ℕ) → m ≤ n → j ≤ length s → IsTable c n (take j s) → (i : ℕ) × (i ≤ j) × IsTable c m (take i s)
-    fewer-table m n j l h t =
+    fewer-within : (m n j : ℕ) → m ≤ n → j ≤ length s → IsTable c n (take j s) → (i : ℕ) × (i ≤ j) × IsTable c m (take i s)
+    fewer-within m n j l h t =
         let d = t .reading in
         let b = start-before c d m in
         let w : length (take (startOf c d m) (take j s)) ≡ startOf c d m = ap length (ap (take (startOf c d m)) (t .same) ∙ b) in
@@ -144,13 +144,22 @@ module _ (c : Coding) where
           },
         )
 
+    fewer-table : (m n j : ℕ) → m ≤ n → IsTable c n (take j s) → (i : ℕ) × (i ≤ j) × IsTable c m (take i s)
+    fewer-table m n j l t = go (below (length s) j)
+      where
+        go : (length s < j) ⊎ (j ≤ length s) → (i : ℕ) × (i ≤ j) × IsTable c m (take i s)
+        go (inl h) =
+            let r = fewer-within m n (length s) l (omega arith) (subst (IsTable c n) (take-all j s (omega arith) ∙ sym (take-length s)) t) in
+            (r .0, omega (arith, r .1), r .2)
+        go (inr h) = fewer-within m n j l h t
+
     -- a place stands in one description only
-    one-glyph : (k g h : ℕ) → k ≤ length s → InGlyph c s k g → InGlyph c s k h → g ≡ h
-    one-glyph k g h l a b = go (below g h) (below h g)
+    pub one-glyph : (k g h : ℕ) → InGlyph c s k g → InGlyph c s k h → g ≡ h
+    one-glyph k g h a b = go (below g h) (below h g)
       where
         go : (g < h) ⊎ (h ≤ g) → (h < g) ⊎ (g ≤ h) → g ≡ h
-        go (inl x) y = let r = fewer-table (suc g) h (b .start) x (omega (arith, b .before)) (b .complete) in absurd (a .unended (r .0) (omega (arith, r .1, b .before)) (r .2))
-        go (inr x) (inl y) = let r = fewer-table (suc h) g (a .start) y (omega (arith, a .before)) (a .complete) in absurd (b .unended (r .0) (omega (arith, r .1, a .before)) (r .2))
+        go (inl x) y = let r = fewer-table (suc g) h (b .start) x (b .complete) in absurd (a .unended (r .0) (omega (arith, r .1, b .before)) (r .2))
+        go (inr x) (inl y) = let r = fewer-table (suc h) g (a .start) y (a .complete) in absurd (b .unended (r .0) (omega (arith, r .1, a .before)) (r .2))
         go (inr x) (inr y) = omega arith
 
     -- where glyph h is told, no start is a table
@@ -210,13 +219,12 @@ module _ (c : Coding) where
       pub in-cut : (g : ℕ) → (k ≡ length s) × Unfinished c n s → InGlyph c s k g → tableOf c n s ≡ TableCut k g
       in-cut g f i =
           let r = short-cut c n s k y f in
-          let q : k ≡ length s = f .0 in
-          r .1 ∙ ap (TableCut k) (one-glyph k (r .0) g (omega arith) (cut-glyph (r .0) (r .1) .1) i)
+          r .1 ∙ ap (TableCut k) (one-glyph k (r .0) g (cut-glyph (r .0) (r .1) .1) i)
 
       pub in-bad : (g : ℕ) → BadAt c n s k → InGlyph c s k g → tableOf c n s ≡ TableBad k g
       in-bad g f i =
           let r = broken-bad c n s k y f in
-          r .1 ∙ ap (TableBad k) (one-glyph k (r .0) g (f .0 .within) (bad-glyph (r .0) (r .1) .1) i)
+          r .1 ∙ ap (TableBad k) (one-glyph k (r .0) g (bad-glyph (r .0) (r .1) .1) i)
 
   -- what stands in a start of some bytes, stands in the bytes
   in-start : (s : List ℕ) (k g : ℕ) → InGlyph c (take k s) k g → InGlyph c s k g

@@ -2,7 +2,7 @@
 use mathlib.Core.Path.{_≡_, refl, sym, _∙_, ap}
 use mathlib.Core.Bool.{Bool, true, false}
 use mathlib.Core.List.{List, [], _∷_, _++_}
-use Prim.Native.Nat.{ℕ, suc, _+_, _≤_}
+use Prim.Native.Nat.{ℕ, _+_, _≤_}
 use native.Mathlib.Omega.{arith}
 use lib.ListN.{length}
 use Rattle.base.specs.Reading.{when}
@@ -18,57 +18,42 @@ use Rattle.transcode.specs.declared.Measured.the-variants.{Length, Uncar
 use Rattle.transcode.specs.Reading.{measure, tableLen, recoded}
 
 -- the length, by the first step
-module _ (to : Coding) (g at n : ℕ) (xs ys : List Step) where
-  pub value-more : (v next l : ℕ) → xs ≡ StepValue v next ∷ ys → carriesOf to v ≡ true → l ≡ length (valueBytes to v) → measure to g at n xs ≡ measure to g next (n + l) ys
+module _ (to : Coding) (at n : ℕ) (xs ys : List Step) where
+  pub value-more : (v next l : ℕ) → xs ≡ StepValue v next ∷ ys → carriesOf to v ≡ true → l ≡ length (valueBytes to v) → measure to at n xs ≡ measure to next (n + l) ys
   unfolding measure when
   value-more v next l e c z = rw (e, c, z)
 
-  pub value-not : (v next : ℕ) → xs ≡ StepValue v next ∷ ys → carriesOf to v ≡ false → measure to g at n xs ≡ Uncarried at g
+  pub value-not : (v next : ℕ) → xs ≡ StepValue v next ∷ ys → carriesOf to v ≡ false → measure to at n xs ≡ Uncarried at
   unfolding measure when
   value-not v next e c = rw (e, c)
 
-  pub start-more : (next l : ℕ) → xs ≡ StepStart next ∷ ys → l ≡ markLen to → measure to g at n xs ≡ measure to g next (n + l) ys
+  pub start-more : (next l : ℕ) → xs ≡ StepStart next ∷ ys → l ≡ markLen to → measure to at n xs ≡ measure to next (n + l) ys
   unfolding measure
   start-more next l e z = rw (e, z)
 
-  pub end-more : (next l : ℕ) → xs ≡ StepEnd next ∷ ys → l ≡ markLen to → measure to g at n xs ≡ measure to (g + 1) next (n + l) ys
+  pub end-more : (next l : ℕ) → xs ≡ StepEnd next ∷ ys → l ≡ markLen to → measure to at n xs ≡ measure to next (n + l) ys
   unfolding measure
-  end-more next l e z = let q : g + 1 ≡ suc g = omega arith in rw (e, z, q)
+  end-more next l e z = rw (e, z)
 
-  pub cut-no-more : xs ≡ StepCut ∷ ys → measure to g at n xs ≡ Length n
+  pub cut-no-more : xs ≡ StepCut ∷ ys → measure to at n xs ≡ Length n
   unfolding measure
   cut-no-more e = rw e
 
-  pub bad-no-more : (k : ℕ) → xs ≡ StepBad k ∷ ys → measure to g at n xs ≡ Length n
+  pub bad-no-more : (k : ℕ) → xs ≡ StepBad k ∷ ys → measure to at n xs ≡ Length n
   unfolding measure
   bad-no-more k e = rw e
 
   -- a value in front, where a length is stepItems: the coding carries it
-  pub value-carried : (v next m : ℕ) → xs ≡ StepValue v next ∷ ys → measure to g at n xs ≡ Length m → carriesOf to v ≡ true
+  pub value-carried : (v next m : ℕ) → xs ≡ StepValue v next ∷ ys → measure to at n xs ≡ Length m → carriesOf to v ≡ true
   value-carried v next m e q = go (carriesOf to v) refl
     where
       go : (t : Bool) → carriesOf to v ≡ t → carriesOf to v ≡ true
       go true c = c
-      go false c = let u : Uncarried at g ≡ Length m = sym (value-not v next e c) ∙ q in let z : _≡_ {A = ℕ} 0 1 = cc in absurd (omega arith)
+      go false c = let u : Uncarried at ≡ Length m = sym (value-not v next e c) ∙ q in let z : _≡_ {A = ℕ} 0 1 = cc in absurd (omega arith)
 
--- a length that is stepItems does not depend on how many descriptions are complete
-pub any-glyph : (to : Coding) (g h at n m : ℕ) (xs : List Step) → measure to g at n xs ≡ Length m → measure to h at n xs ≡ Length m
-unfolding measure when
-any-glyph to g h at n m [] e = e
-any-glyph to g h at n m (StepValue v next ∷ xs) e = go (carriesOf to v) (any-glyph to g h next (n + length (valueBytes to v)) m xs) e
-  where
-    go : (t : Bool) → (measure to g next (n + length (valueBytes to v)) xs ≡ Length m → measure to h next (n + length (valueBytes to v)) xs ≡ Length m) →
-        when t (measure to g next (n + length (valueBytes to v)) xs) (Uncarried at g) ≡ Length m → when t (measure to h next (n + length (valueBytes to v)) xs) (Uncarried at h) ≡ Length m
-    go true f q = f q
-    go false f q = let z : _≡_ {A = ℕ} 0 1 = cc in absurd (omega arith)
-any-glyph to g h at n m (StepStart next ∷ xs) e = any-glyph to g h next (n + markLen to) m xs e
-any-glyph to g h at n m (StepEnd next ∷ xs) e = any-glyph to (suc g) (suc h) next (n + markLen to) m xs e
-any-glyph to g h at n m (StepCut ∷ xs) e = e
-any-glyph to g h at n m (StepBad k ∷ xs) e = e
-
-pub past-no-more : (from to : Coding) (s : List ℕ) (g at n : ℕ) → length s ≤ at → measure to g at n (stepsAt from s at) ≡ Length n
+pub past-no-more : (from to : Coding) (s : List ℕ) (at n : ℕ) → length s ≤ at → measure to at n (stepsAt from s at) ≡ Length n
 unfolding measure stepsFrom
-past-no-more from to s g at n h = rw (lib.ListN.drop-of-length-le s h)
+past-no-more from to s at n h = rw (lib.ListN.drop-of-length-le s h)
 
 -- the bytes don't tell a single from a value in a sequence
 module _ (to : Coding) where
@@ -113,6 +98,6 @@ pub recoded-from : (from to : Coding) (s : List ℕ) → recoded from to s ≡ b
 unfolding recoded
 recoded-from from to s = refl
 
-pub length-from : (from to : Coding) (s : List ℕ) → measure to 0 0 0 (stepsAt from s 0) ≡ tableLen from to s
+pub length-from : (from to : Coding) (s : List ℕ) → measure to 0 0 (stepsAt from s 0) ≡ tableLen from to s
 unfolding tableLen
 length-from from to s = refl

@@ -6,4 +6,4 @@ use Rattle.transcode.specs.declared.Measured.the-variants.{Length, Uncar
 -- the bounds of the answer on a tail of so many bytes
 abbrev pub MeasuredWithin : ℕ → Measured → Type 0
 MeasuredWithin m (Length n) = n ≤ 4 * m
-MeasuredWithin m (Uncarried k g) = k < m
+MeasuredWithin m (Uncarried k) = k < m

@@ -1,5 +1,5 @@
 -- A table's items in another coding: their bytes, how many those are, and the first value that the coding can't carry.
-use Prim.Native.Nat.{ℕ, _+_, suc}
+use Prim.Native.Nat.{ℕ, _+_}
 use mathlib.Core.Path.{_≡_}
 use mathlib.Core.List.{List, [], _∷_, _++_}
 use lib.ListN.{length}
@@ -19,20 +19,19 @@ use Rattle.transcode.specs.declared.Measured.the-variants.{Length, Uncar
 unfoldable pub recoded : Coding → Coding → List ℕ → List ℕ
 recoded from to s = bytes to (itemsIn from s)
 
--- steps from a place on, with g descriptions complete and n bytes before them: how many bytes in all, or the place of the first value
--- that is none of the coding's, and the descriptions complete before it
-unfoldable pub measure : Coding → ℕ → ℕ → ℕ → List Step → Measured
-measure to g at n [] = Length n
-measure to g at n (StepValue v next ∷ xs) = when (carriesOf to v) (measure to g next (n + length (valueBytes to v)) xs) (Uncarried at g)
-measure to g at n (StepStart next ∷ xs) = measure to g next (n + markLen to) xs
-measure to g at n (StepEnd next ∷ xs) = measure to (suc g) next (n + markLen to) xs
-measure to g at n (StepCut ∷ xs) = Length n
-measure to g at n (StepBad k ∷ xs) = Length n
+-- steps from a place on, with n bytes before them: how many bytes in all, or the place of the first value that is none of the coding's
+unfoldable pub measure : Coding → ℕ → ℕ → List Step → Measured
+measure to at n [] = Length n
+measure to at n (StepValue v next ∷ xs) = when (carriesOf to v) (measure to next (n + length (valueBytes to v)) xs) (Uncarried at)
+measure to at n (StepStart next ∷ xs) = measure to next (n + markLen to) xs
+measure to at n (StepEnd next ∷ xs) = measure to next (n + markLen to) xs
+measure to at n (StepCut ∷ xs) = Length n
+measure to at n (StepBad k ∷ xs) = Length n
 
 -- how many bytes a tail's items are in another coding; or the place in the tail of the first value, singles and sequences alike, that
--- the coding can't carry, and its glyph
+-- the coding can't carry
 unfoldable pub tableLen : Coding → Coding → List ℕ → Measured
-tableLen from to s = measure to 0 0 0 (stepsFrom from 0 0 s)
+tableLen from to s = measure to 0 0 (stepsFrom from 0 0 s)
 
 -- items, written in one coding from a place on, of which the first whose value another coding can't carry stands at a place:
 -- everything before it is carried, and it isn't

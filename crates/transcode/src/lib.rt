@@ -13,10 +13,10 @@ use table::Step;
 // descriptions are complete before it, which is the glyph whose description has it.
 pub enum Measured {
     Length(usize),
-    Uncarried(usize, usize),
+    Uncarried(usize),
 }
 
-// The bytes that a tail's items are in another coding, or the place in the tail of the first value that it can't carry and its glyph: one pass.
+// The bytes that a tail's items are in another coding, or the place in the tail of the first value that it can't carry: one pass.
 // Asks for a tail no longer than a file, so that the sum can't wrap: the font's check gives it.
 pub fn table_len(from: Coding, to: Coding, tail: &[u8]) -> Measured
     requires { ⌜ length (now tail) ≤ 1048576 ⌝ }
@@ -24,7 +24,6 @@ pub fn table_len(from: Coding, to: Coding, tail: &[u8]) -> Measured
     ensures bounded { λ r. ⌜ MeasuredWithin (length (now (tail .entry))) r ⌝ }
 {
     let mark = coding::mark_len(to);
-    let mut g: usize = 0;
     let mut n: usize = 0;
     let mut at: usize = 0;
     while at < tail.len() {
@@ -35,7 +34,7 @@ pub fn table_len(from: Coding, to: Coding, tail: &[u8]) -> Measured
                     n += coding::value_len(to, v);
                     at = next;
                 } else {
-                    return Measured::Uncarried(at, g);
+                    return Measured::Uncarried(at);
                 }
             }
             Step::Start(next) => {
@@ -43,7 +42,6 @@ pub fn table_len(from: Coding, to: Coding, tail: &[u8]) -> Measured
                 at = next;
             }
             Step::End(next) => {
-                g += 1;
                 n += mark;
                 at = next;
             }

@@ -179,6 +179,8 @@ fn refused(r: Refusal) {
     decimal(base::size(refusal::number(reason)));
     say(b" ");
     decimal(r.place);
+    say(b" ");
+    decimal(r.glyph);
 }
 
 fn kind_name(k: Kind) {

@@ -1,2 +1,3 @@
 -- The line of a refusal.
 pub mod Words
+pub mod Vectors

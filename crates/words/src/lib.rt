@@ -14,5 +14,6 @@ pub fn put_refused(r: Refusal, out: &mut [u8]) -> usize
     let reason = r.reason;
     let a = text::put_text(b"refused ", out);
     let b = a + text::put_number(base::size(refusal::number(reason)), 32, &mut out[a..]);
-    b + text::put_number(r.place, 10, &mut out[b..])
+    let d = b + text::put_number(r.place, 32, &mut out[b..]);
+    d + text::put_number(r.glyph, 10, &mut out[d..])
 }

@@ -21,15 +21,16 @@ impl Tally {
     }
 }
 
-/// A refusal's number and place, or the answer.
-pub type Answer<T> = Result<T, (u32, usize)>;
+/// A refusal's number, place and glyph, or the answer.
+pub type Answer<T> = Result<T, Told>;
+pub type Told = (u32, usize, usize);
 
 pub fn ours<T>(r: Result<T, lavandol::Refusal>) -> Answer<T> {
-    r.map_err(|r| (r.number(), r.place))
+    r.map_err(|r| (r.number(), r.place, r.glyph_number()))
 }
 
 pub fn theirs<T>(r: Result<T, second::Refusal>) -> Answer<T> {
-    r.map_err(|r| (r.number, r.place))
+    r.map_err(|r| (r.number, r.place, r.glyph))
 }
 
 /// Prints the file whole, so that the difference can be tried again from the text.

@@ -9,8 +9,8 @@ use crate::{jobs_of, run_part, seed, Part, BATCH};
 use lavandol::Which;
 use second::{Item, Kind};
 
-/// The pairs, or which font a refusal is of, its number and its place.
-type Told = Result<usize, (u32, u32, usize)>;
+/// The pairs, or which font a refusal is of, its number, its place and its glyph.
+type Told = Result<usize, (u32, u32, usize, usize)>;
 
 /// What stands in a buffer of so many numbers before a call.
 fn lent(room: usize) -> Vec<u32> {
@@ -25,13 +25,13 @@ fn ours(first: &[u8], second: &[u8], buffer: &mut [u32]) -> Told {
             Some(Which::Second) => 2,
             None => 0,
         };
-        (font, e.refusal.number(), e.refusal.place)
+        (font, e.refusal.number(), e.refusal.place, e.refusal.glyph_number())
     })
 }
 
 fn theirs(first: &[u8], second: &[u8], buffer: &mut [u32]) -> Told {
     let told = second::differences(first, second, buffer);
-    told.map_err(|e| (e.font, e.refusal.number, e.refusal.place))
+    told.map_err(|e| (e.font, e.refusal.number, e.refusal.place, e.refusal.glyph))
 }
 
 /// The library's answer in a buffer of a length, held against one, and the whole buffer.
@@ -73,11 +73,10 @@ fn one_way(first: &[u8], second: &[u8], more: usize, tally: &mut Tally) -> bool 
     // asked with no room, the second implementation tells how much is needed
     let told = both(first, second, 0, tally);
     match told {
-        Err((0, second::ROOM, need)) => {
+        Err((0, second::ROOM, need, _)) => {
             each(first, second, [need, need + more], tally);
             // shorter buffers stay as they are, whatever their length
             for room in [need - 1, need / 2] {
-                let told = Err((0, second::ROOM, need));
                 held(first, second, room, (told, lent(room)), tally);
             }
         }

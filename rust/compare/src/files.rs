@@ -38,7 +38,7 @@ pub fn run(fontlist: &str, paths: &[String]) -> Tally {
                 kinds[font.kind as usize] += 1;
                 tables += font.has_table as u32;
             }
-            Err(r) => println!("refused {} {}: {path}", r.number, r.place),
+            Err(r) => println!("{r}: {path}"),
         }
     }
     println!("sound: {} PSF1, {} PSF2, {} vfont2; {tables} with a table; {long} too long to list", kinds[0], kinds[1], kinds[2]);

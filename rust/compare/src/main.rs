@@ -1,6 +1,6 @@
 //! Compares the proved library, through its Rust wrapper, with the independent
-//! second implementation: every call on many fonts, equal in number, place, content
-//! and buffer. All fonts come from fixed seeds, so every run asks the same.
+//! second implementation: every call on many fonts, equal in number, place, glyph,
+//! content and buffer. All fonts come from fixed seeds, so every run asks the same.
 //!
 //! A difference prints the question, both answers and the file in hexadecimal, and
 //! the run ends with status 1. `compare THREADS` sets how many threads share the work,
@@ -13,6 +13,7 @@ mod differences;
 mod edits;
 mod files;
 mod fonts;
+mod glyphs;
 mod lines;
 #[allow(dead_code)]
 #[path = "../../vectors/src/make.rs"]
@@ -89,7 +90,7 @@ fn run_part(parts: &[Part], job: usize, tally: &mut Tally) {
     }
 }
 
-const SERIES: [Series; 15] = [
+const SERIES: [Series; 16] = [
     Series { name: "fonts", jobs: FONT_JOBS, run: |j, t| random(1, j, t, fonts::random_font) },
     Series { name: "tails", jobs: TAIL_JOBS, run: |j, t| random(2, j, t, fonts::random_tail) },
     Series { name: "junk", jobs: JUNK_JOBS, run: |j, t| random(3, j, t, fonts::junk) },
@@ -110,6 +111,7 @@ const SERIES: [Series; 15] = [
     Series { name: "records", jobs: records::JOBS, run: records::run },
     Series { name: "edits", jobs: edits::JOBS, run: edits::run },
     Series { name: "differences", jobs: differences::JOBS, run: differences::run },
+    Series { name: "glyphs", jobs: glyphs::JOBS, run: glyphs::run },
     Series { name: "noncharacters", jobs: noncharacters::JOBS, run: noncharacters::run },
     Series { name: "tables of 4 boundary bytes", jobs: tables::EDGE_JOBS, run: tables::run_edges },
     Series { name: "tables of up to 3 bytes", jobs: tables::JOBS, run: tables::run },

@@ -173,10 +173,11 @@ fn small(job: usize, tally: &mut Tally) {
 
 const VALUE_JOBS: usize = 17;
 
-/// What document 02 says of a font whose table, at `at`, is v and an end mark.
-fn by_words(none: &[u32], v: u32, at: usize, length: usize) -> Answer<()> {
+/// What document 02 says of a font whose last description, glyph g's at `at`, is v and an end
+/// mark.
+fn by_words(none: &[u32], v: u32, g: usize, at: usize, length: usize) -> Answer<()> {
     if none.contains(&v) {
-        Err((11, at + length - 1))
+        Err((11, at + length - 1, g))
     } else {
         Ok(())
     }
@@ -196,7 +197,7 @@ fn every_value(job: usize, tally: &mut Tally) {
         file.truncate(at);
         file.extend_from_slice(&word);
         file.push(0xFF);
-        let told = by_words(&none, v, at, word.len());
+        let told = by_words(&none, v, 0, at, word.len());
         only(&file, v, told, 0, tally);
         if random.below(512) == 0 {
             Asking { file: &file, tally }.all(&mut random);
@@ -211,7 +212,7 @@ fn every_value(job: usize, tally: &mut Tally) {
         file.truncate(at);
         file.extend_from_slice(&(v as u16).to_le_bytes());
         file.extend_from_slice(&[0xFF, 0xFF]);
-        only(&file, v, by_words(&none, v, at, 2), 255, tally);
+        only(&file, v, by_words(&none, v, 255, at, 2), 255, tally);
         if random.below(512) == 0 {
             Asking { file: &file, tally }.all(&mut random);
         }

@@ -7,7 +7,7 @@ use crate::make::Random;
 use crate::{fonts, jobs_of, run_part, seed, Part, BATCH, FONT_JOBS, JUNK_JOBS, TAIL_JOBS};
 use lavandol::Loader;
 
-const LATE: Answer<()> = Err((22, 0));
+const LATE: Answer<()> = Err((22, 0, 4096));
 
 /// The longest font that is cut into three pieces in every way.
 const SMALL: usize = 300;
@@ -75,6 +75,11 @@ impl Asking<'_> {
     /// As a wire may bring it: byte by byte, in frames of 64, in random pieces.
     pub fn arriving(&mut self, random: &mut Random) {
         let whole = self.whole();
+        self.in_pieces(random, whole);
+    }
+
+    /// The same, where it is known what the whole file's check says.
+    pub fn in_pieces(&mut self, random: &mut Random, whole: Answer<Shape>) {
         self.chunks(1, whole);
         self.chunks(64, whole);
         self.random_pieces(random, whole);

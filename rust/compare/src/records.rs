@@ -28,6 +28,7 @@ const _: () = assert!(size_of::<Record>() == 144);
 #[repr(C)]
 struct Refusal {
     number: u32,
+    glyph: u32,
     place: u64,
 }
 
@@ -127,7 +128,7 @@ fn call(lent: &mut Lent, piece: Option<&[u8]>, tally: &mut Tally) {
             (font.refusal, Some((font.kind, font.numbers)))
         }
     };
-    let answer = (refusal.number, refusal.place);
+    let answer = (refusal.number, refusal.place, refusal.glyph);
     let bytes = before.bytes();
     let mut asking = Asking { file: &bytes, tally };
     let question = || match piece {
@@ -137,19 +138,24 @@ fn call(lent: &mut Lent, piece: Option<&[u8]>, tally: &mut Tally) {
     let around: Answer<_> = Ok((lent.before, lent.after));
     asking.same(around, Ok(([0xA5; 64], [0x5A; 64])), question);
     if before.is_closed() {
-        asking.same(Ok((answer, lent.record)), Ok(((22, 0), before)), question);
+        asking.same(Ok((answer, lent.record)), Ok(((22, 0, 4096), before)), question);
         if let Some(members) = members {
             asking.same(Ok(members), Ok((0, [0; 8])), question);
         }
     } else if let Some((kind, numbers)) = members {
         asking.same(Ok(lent.record.is_closed()), Ok(true), question);
         if before.tells_a_refusal() {
-            let sound = answer == (0, 0) && (1..=3).contains(&kind) && numbers[0] != 0;
+            let sound = answer == (0, 0, 4096) && (1..=3).contains(&kind) && numbers[0] != 0;
+            // no glyph but of ENTRY, TABLE CUT and TABLE BAD, and no number above all others
+            let glyph = match answer.0 {
+                9..=11 => answer.2 <= 4096,
+                _ => answer.2 == 4096,
+            };
             let refused = (1..=12).contains(&answer.0) && (kind, numbers) == (0, [0; 8]);
-            asking.same(Ok((answer, sound || refused)), Ok((answer, true)), question);
+            asking.same(Ok((answer, sound || refused && glyph)), Ok((answer, true)), question);
         }
     } else {
-        asking.same(Ok(answer), Ok((0, 0)), question);
+        asking.same(Ok(answer), Ok((0, 0, 4096)), question);
     }
 }
 

@@ -7,7 +7,7 @@ use crate::ask::{checked, ours, Answer, Asking, Tally};
 use crate::fonts::{UNIT_EDGES, UTF8_EDGES};
 use crate::make::{psf1, psf2, Random};
 use lavandol::Loader;
-use second::table::{judge, Coding, Verdict};
+use second::table::{ended, judge, Coding, Verdict};
 
 /// Boundary bytes and the end mark of each coding.
 const EDGE_PARTS: [(Coding, &[u8], &[u8]); 2] =
@@ -16,20 +16,21 @@ const EDGE_PARTS: [(Coding, &[u8], &[u8]); 2] =
 /// Jobs of `run_pieces` and of `run_edges`: one for each boundary byte of UTF-8.
 pub const EDGE_JOBS: usize = UTF8_EDGES.len();
 
-/// A font up to its last `left` descriptions.
+/// A font up to its last `left` descriptions, behind `before` complete ones.
 struct Front {
     coding: Coding,
+    before: usize,
     left: usize,
     bytes: Vec<u8>,
 }
 
 fn front(coding: Coding, left: usize) -> Front {
-    let bytes = match coding {
-        Coding::Utf8 => psf2(left, 1, 1, &vec![0x80; left], Some(&[])),
+    let (before, bytes) = match coding {
+        Coding::Utf8 => (0, psf2(left, 1, 1, &vec![0x80; left], Some(&[]))),
         // bare end marks of the glyphs before
-        Coding::Units => psf1(2, 1, 0x80, &vec![0xFF; 2 * (256 - left)]),
+        Coding::Units => (256 - left, psf1(2, 1, 0x80, &vec![0xFF; 2 * (256 - left)])),
     };
-    Front { coding, left, bytes }
+    Front { coding, before, left, bytes }
 }
 
 impl Front {
@@ -37,11 +38,12 @@ impl Front {
     /// implementation's verdict on the tail alone.
     fn verdict(&self, tail: &[u8]) -> Answer<()> {
         let at = self.bytes.len();
+        let glyph = |start: &[u8]| self.before + ended(self.coding, start);
         match judge(self.coding, self.left, tail) {
             Verdict::Complete => Ok(()),
-            Verdict::Cut => Err((10, at + tail.len())),
-            Verdict::Bad(k) => Err((11, at + k)),
-            Verdict::Trailing(k) => Err((12, at + k)),
+            Verdict::Cut => Err((10, at + tail.len(), glyph(tail))),
+            Verdict::Bad(k) => Err((11, at + k, glyph(&tail[..k]))),
+            Verdict::Trailing(k) => Err((12, at + k, 4096)),
         }
     }
 
@@ -141,7 +143,7 @@ impl Arriving {
             }
             let a = ours(loader.close()).map(|_| ());
             asking.same(a, verdict, || {
-                let Front { coding, left, bytes } = &self.front;
+                let Front { coding, left, bytes, .. } = &self.front;
                 format!("loader, {coding:?} {left}, after {} bytes, cut {way:b}", bytes.len())
             });
         }

@@ -6,7 +6,7 @@ use lavandol::Difference;
 use std::error::Error;
 use std::process::ExitCode;
 
-/// A refusal is told as `first font: refused 2 0 (kind)`: which font, number, place, name.
+/// A refusal is told as a sentence, with the font that it is of.
 fn main() -> ExitCode {
     let words: Vec<String> = std::env::args().skip(1).collect();
     match run(&words) {

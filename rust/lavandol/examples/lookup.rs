@@ -6,7 +6,7 @@ use std::error::Error;
 use std::ffi::OsString;
 use std::process::ExitCode;
 
-/// A refusal is told as `refused 15 0 (unmapped)`: number, place, name.
+/// A refusal is told as a sentence.
 fn main() -> ExitCode {
     let words: Vec<OsString> = std::env::args_os().skip(1).collect();
     match run(&words) {

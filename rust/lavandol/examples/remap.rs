@@ -6,7 +6,7 @@
 use std::error::Error;
 use std::process::ExitCode;
 
-/// A refusal is told as `refused 24 0 (have)`: number, place, name.
+/// A refusal is told as a sentence.
 fn main() -> ExitCode {
     let words: Vec<String> = std::env::args().skip(1).collect();
     match run(&words) {

@@ -2,11 +2,13 @@
 
 use core::mem::{offset_of, size_of};
 
-/// A refusal, the first field of every answer; number 0 where the call is answered.
+/// A refusal, the first field of every answer; number 0 where the call is answered. The glyph
+/// is `Refusal::GLYPH_NONE` where there is none to name.
 #[repr(C)]
 #[derive(Clone, Copy)]
 pub struct LavRefusal {
     pub number: u32,
+    pub glyph: u32,
     pub place: u64,
 }
 
@@ -110,7 +112,7 @@ macro_rules! laid_out {
 
 // What the header asserts too.
 laid_out! {
-    LavRefusal: 16 bytes, number 0, place 8;
+    LavRefusal: 16 bytes, number 0, glyph 4, place 8;
     LavFont: 88 bytes, refusal 0, kind 16, count 24, height 32, width 40, table 48, entries 56,
         bitmaps 64, size 72, end 80;
     LavPart: 32 bytes, refusal 0, offset 16, length 24;

@@ -1,7 +1,7 @@
 //! What differs between two fonts.
 
 use crate::boundary::lav_differences;
-use crate::{unless_refused, Refusal};
+use crate::{unless_refused, Reason, Refusal};
 use core::fmt;
 use core::slice::ChunksExact;
 
@@ -76,13 +76,14 @@ pub struct NotCompared {
     pub refusal: Refusal,
 }
 
-/// `first font: refused 2 0 (kind)`, `second font: ..`; ROOM as a refusal alone.
+/// `first font: ` or `second font: ` and the refusal; ROOM counts numbers, not bytes.
 impl fmt::Display for NotCompared {
     fn fmt(&self, f: &mut fmt::Formatter) -> fmt::Result {
-        match self.font {
-            Some(Which::First) => write!(f, "first font: {}", self.refusal),
-            Some(Which::Second) => write!(f, "second font: {}", self.refusal),
-            None => write!(f, "{}", self.refusal),
+        match (self.font, self.refusal.reason) {
+            (Some(Which::First), _) => write!(f, "first font: {}", self.refusal),
+            (Some(Which::Second), _) => write!(f, "second font: {}", self.refusal),
+            (None, Reason::Room) => self.refusal.tell_room(f, "numbers"),
+            (None, _) => write!(f, "{}", self.refusal),
         }
     }
 }
@@ -110,7 +111,9 @@ impl core::error::Error for NotCompared {}
 /// assert_eq!(differences(old, old, &mut buffer)?.len(), 0);
 /// let error = differences(old, &new[..44], &mut buffer).unwrap_err();
 /// assert_eq!(error.font, Some(Which::Second));
-/// assert_eq!(error.to_string(), "second font: refused 10 44 (table cut)");
+/// let told = "second font: Unicode table: the file ends before it does, at byte 44, \
+///             in the description of glyph 1 (refusal 10)";
+/// assert_eq!(error.to_string(), told);
 /// # Ok::<(), lavandol::NotCompared>(())
 /// ```
 pub fn differences<'a>(

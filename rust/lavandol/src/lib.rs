@@ -1,6 +1,7 @@
 //! Bitmap fonts in the formats PSF1, PSF2 and vfont2, read from a slice: a safe
 //! wrapper over the proved library `lavandol`. A call answers, or gives one
-//! refusal with its place. Nothing is allocated, and `std` is not needed.
+//! refusal with its place and, where it is one glyph's, that glyph. Nothing is
+//! allocated, and `std` is not needed.
 //!
 //! ```
 //! # let file = lavandol::SMALL;
@@ -11,7 +12,9 @@
 //! assert_eq!(lavandol::metrics(file, g)?.logical, 3);
 //! let refusal = lavandol::find_value(file, 0x42).unwrap_err();
 //! assert_eq!(refusal.reason, lavandol::Reason::Unmapped);
-//! assert_eq!(refusal.to_string(), "refused 15 0 (unmapped)");
+//! assert_eq!(refusal.to_string(), "question: no glyph lists it (refusal 15)");
+//! let cut = lavandol::check(&file[..44]).unwrap_err();
+//! assert_eq!((cut.reason, cut.place, cut.glyph), (lavandol::Reason::TableCut, 44, Some(1)));
 //! # Ok::<(), lavandol::Refusal>(())
 //! ```
 #![no_std]
@@ -80,7 +83,11 @@ pub enum Item {
 fn unless_refused<T>(r: LavRefusal, answer: T) -> Result<T, Refusal> {
     match r.number {
         0 => Ok(answer),
-        number => Err(Refusal { reason: Reason::of(number), place: r.place as usize }),
+        number => Err(Refusal {
+            reason: Reason::of(number),
+            place: r.place as usize,
+            glyph: Refusal::glyph_of(r.glyph as usize),
+        }),
     }
 }
 

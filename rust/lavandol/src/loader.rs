@@ -16,7 +16,7 @@ use crate::{font, unless_refused, Font, Refusal};
 /// let font = loader.close()?;
 /// assert_eq!(Ok(font), lavandol::check(lavandol::SMALL));
 /// let refusal = loader.feed(&[0xFF]).unwrap_err();
-/// assert_eq!(refusal.to_string(), "refused 22 0 (late)");
+/// assert_eq!(refusal.to_string(), "loader: it is closed (refusal 22)");
 /// # Ok::<(), lavandol::Refusal>(())
 /// ```
 ///
@@ -40,8 +40,8 @@ impl Loader {
     }
 
     /// What `check` answers on all pieces joined; the loader is closed then, whatever the
-    /// answer. Refusals: 1 to 12, as the whole file's; LATE, the loader was closed before and
-    /// stays as it was.
+    /// answer. Refusals: 1 to 12, as the whole file's, with its place and its glyph; LATE, the
+    /// loader was closed before and stays as it was.
     pub fn close(&mut self) -> Result<Font, Refusal> {
         font(unsafe { lav_loader_close(&mut self.0) })
     }

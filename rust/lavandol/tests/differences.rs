@@ -39,19 +39,23 @@ fn found(first: &[u8], second: &[u8]) -> Vec<Difference> {
     assert_eq!(differences(first, second, &mut exact).unwrap().len(), count);
     assert_eq!(exact, written);
     if count > 0 {
-        let room = (None, Reason::Room, 2 * count);
+        let room = (None, of(Reason::Room, 2 * count, None));
         assert_eq!(refused(first, second, 2 * count - 1), room);
         assert_eq!(refused(first, second, 0), room);
     }
     all
 }
 
+fn of(reason: Reason, place: usize, glyph: Option<usize>) -> Refusal {
+    Refusal { reason, place, glyph }
+}
+
 /// A refused call, with a buffer of so many numbers, which stays.
-fn refused(first: &[u8], second: &[u8], room: usize) -> (Option<Which>, Reason, usize) {
+fn refused(first: &[u8], second: &[u8], room: usize) -> (Option<Which>, Refusal) {
     let mut buffer = vec![FRESH; room];
     let e = differences(first, second, &mut buffer).expect_err("an answer where a refusal is due");
     assert!(buffer.iter().all(|&n| n == FRESH));
-    (e.font, e.refusal.reason, e.refusal.place)
+    (e.font, e.refusal)
 }
 
 fn converted(call: fn(&[u8], &mut [u8]) -> Result<usize, Refusal>, file: &[u8]) -> Vec<u8> {
@@ -106,8 +110,8 @@ fn every_byte() {
                 }
                 let other = with(file, at, byte);
                 if let Err(r) = check(&other) {
-                    assert_eq!(refused(file, &other, 3), (Some(Which::Second), r.reason, r.place));
-                    assert_eq!(refused(&other, file, 3), (Some(Which::First), r.reason, r.place));
+                    assert_eq!(refused(file, &other, 3), (Some(Which::Second), r));
+                    assert_eq!(refused(&other, file, 3), (Some(Which::First), r));
                     continue;
                 }
                 let mut due = Vec::new();
@@ -253,14 +257,23 @@ fn refusals_in_their_order() {
     use Which::*;
     let long = vec![0; 1_048_577];
     for room in [0, 1, 9] {
-        assert_eq!(refused(BAD, PSF2, room), (Some(First), Reason::TableBad, 39));
-        assert_eq!(refused(PSF2, BAD, room), (Some(Second), Reason::TableBad, 39));
-        assert_eq!(refused(&bare(), BAD, room), (Some(Second), Reason::TableBad, 39));
-        assert_eq!(refused(BAD, &[], room), (Some(First), Reason::TableBad, 39));
-        assert_eq!(refused(&[], BAD, room), (Some(First), Reason::Kind, 0));
-        assert_eq!(refused(LETTERS, &long, room), (Some(Second), Reason::TooLong, 1_048_576));
-        assert_eq!(refused(&long, &long, room), (Some(First), Reason::TooLong, 1_048_576));
-        assert_eq!(refused(&PSF2[..31], PSF2, room), (Some(First), Reason::HeaderCut, 31));
+        assert_eq!(refused(BAD, PSF2, room), (Some(First), of(Reason::TableBad, 39, Some(1))));
+        assert_eq!(refused(PSF2, BAD, room), (Some(Second), of(Reason::TableBad, 39, Some(1))));
+        assert_eq!(refused(&bare(), BAD, room), (Some(Second), of(Reason::TableBad, 39, Some(1))));
+        assert_eq!(refused(BAD, &[], room), (Some(First), of(Reason::TableBad, 39, Some(1))));
+        assert_eq!(refused(&[], BAD, room), (Some(First), of(Reason::Kind, 0, None)));
+        assert_eq!(
+            refused(LETTERS, &long, room),
+            (Some(Second), of(Reason::TooLong, 1_048_576, None))
+        );
+        assert_eq!(
+            refused(&long, &long, room),
+            (Some(First), of(Reason::TooLong, 1_048_576, None))
+        );
+        assert_eq!(
+            refused(&PSF2[..31], PSF2, room),
+            (Some(First), of(Reason::HeaderCut, 31, None))
+        );
     }
 }
 
@@ -268,11 +281,14 @@ fn refusals_in_their_order() {
 fn told_with_the_font() {
     let told =
         |first: &[u8], second: &[u8]| differences(first, second, &mut []).unwrap_err().to_string();
-    assert_eq!(told(BAD, PSF2), "first font: refused 11 39 (table bad)");
-    assert_eq!(told(PSF2, &PSF2[..44]), "second font: refused 10 44 (table cut)");
-    assert_eq!(told(PSF2, &bare()), "refused 21 2 (room)");
+    let bad = "Unicode table: no table begins so, at byte 39, in the description of glyph 1";
+    assert_eq!(told(BAD, PSF2), format!("first font: {bad} (refusal 11)"));
+    assert_eq!(told(PSF2, BAD), format!("second font: {bad} (refusal 11)"));
+    let room = "buffer: it is too short, 2 numbers are needed (refusal 21)";
+    assert_eq!(told(PSF2, &bare()), room);
     let e: Box<dyn std::error::Error> = differences(&[], PSF2, &mut []).unwrap_err().into();
-    assert_eq!(e.to_string(), "first font: refused 2 0 (kind)");
+    let kind = "file: it begins as no PSF1, PSF2 or vfont2 font does, at byte 0";
+    assert_eq!(e.to_string(), format!("first font: {kind} (refusal 2)"));
 }
 
 /// An iterator that is used up in part counts what is left.

@@ -35,12 +35,19 @@ fn buffer(file: &[u8], room: usize) -> Vec<u8> {
 }
 
 /// An edit that is refused, in a buffer of `room` bytes, which stays.
-fn refused(edit: Edit, file: &[u8], room: usize, len: usize, g: usize, v: u32) -> (Reason, usize) {
+fn refused(
+    edit: Edit,
+    file: &[u8],
+    room: usize,
+    len: usize,
+    g: usize,
+    v: u32,
+) -> (Reason, usize, Option<usize>) {
     let before = buffer(file, room);
     let mut after = before.clone();
     let r = edit(&mut after, len, g, v).expect_err("an answer where a refusal is due");
     assert_eq!(after, before);
-    (r.reason, r.place)
+    (r.reason, r.place, r.glyph)
 }
 
 /// small.psf2 with another table.
@@ -101,7 +108,7 @@ fn the_first_listing_is_dropped() {
     assert_eq!(b[36..], *b"BA\xFEA\xFFA\xFF\0");
     assert_eq!(drop_mapping(&mut b, 43, 0, 0x41), Ok(42));
     assert_eq!(b[36..], *b"B\xFEA\xFFA\xFF\0\0");
-    assert_eq!(refused(drop_mapping, &b, 44, 42, 0, 0x41), (Reason::NotThere, 0));
+    assert_eq!(refused(drop_mapping, &b, 44, 42, 0, 0x41), (Reason::NotThere, 0, None));
     assert_eq!(drop_mapping(&mut b, 42, 1, 0x41), Ok(41));
     assert_eq!(b[36..], *b"B\xFEA\xFF\xFF\0\0\0");
 }
@@ -143,11 +150,11 @@ fn every_glyph_of_many() {
 fn a_font_shorter_than_its_buffer() {
     for room in 46..60 {
         let mut b = buffer(PSF2, room);
-        assert_eq!(refused(add_mapping, PSF2, room, room, 0, 0x42), (Reason::Trailing, 45));
+        assert_eq!(refused(add_mapping, PSF2, room, room, 0, 0x42), (Reason::Trailing, 45, None));
         assert_eq!(add_mapping(&mut b, 45, 0, 0x42), Ok(46));
         assert_eq!(b[46..], vec![BEHIND; room - 46]);
     }
-    assert_eq!(refused(add_mapping, PSF2, 45, 44, 0, 0x42), (Reason::TableCut, 44));
+    assert_eq!(refused(add_mapping, PSF2, 45, 44, 0, 0x42), (Reason::TableCut, 44, Some(1)));
 }
 
 #[test]
@@ -156,7 +163,7 @@ fn length_above_the_buffer_comes_first() {
         for file in [PSF2, BAD, LETTERS, &[]] {
             let room = file.len();
             for len in [room + 1, 1 << 20, usize::MAX] {
-                assert_eq!(refused(edit, file, room, len, 9, u32::MAX), (Reason::Ask, 0));
+                assert_eq!(refused(edit, file, room, len, 9, u32::MAX), (Reason::Ask, 0, None));
             }
         }
     }
@@ -168,14 +175,14 @@ fn the_fonts_own_then_kind_then_table() {
     (bare[12], bare_vfont2[12]) = (0, 0);
     for edit in EDITS {
         for (g, v) in [(0, 0x41), (2, 0x41), (0, 0xD800), (9, u32::MAX)] {
-            assert_eq!(refused(edit, BAD, 45, 45, g, v), (Reason::TableBad, 39));
-            assert_eq!(refused(edit, &[], 0, 0, g, v), (Reason::Kind, 0));
-            assert_eq!(refused(edit, PSF2, 45, 31, g, v), (Reason::HeaderCut, 31));
+            assert_eq!(refused(edit, BAD, 45, 45, g, v), (Reason::TableBad, 39, Some(1)));
+            assert_eq!(refused(edit, &[], 0, 0, g, v), (Reason::Kind, 0, None));
+            assert_eq!(refused(edit, PSF2, 45, 31, g, v), (Reason::HeaderCut, 31, None));
             for file in [LETTERS, VFONT2, &bare_vfont2] {
                 let len = file.len();
-                assert_eq!(refused(edit, file, len, len, g, v), (Reason::WrongKind, 0));
+                assert_eq!(refused(edit, file, len, len, g, v), (Reason::WrongKind, 0, None));
             }
-            assert_eq!(refused(edit, &bare, 36, 36, g, v), (Reason::NoTable, 0));
+            assert_eq!(refused(edit, &bare, 36, 36, g, v), (Reason::NoTable, 0, None));
         }
     }
 }
@@ -184,10 +191,10 @@ fn the_fonts_own_then_kind_then_table() {
 fn glyph_and_value_are_asked_for() {
     for edit in EDITS {
         for g in [2, 256, 1 << 32, usize::MAX] {
-            assert_eq!(refused(edit, PSF2, 45, 45, g, 0x41), (Reason::Ask, 0));
+            assert_eq!(refused(edit, PSF2, 45, 45, g, 0x41), (Reason::Ask, 0, None));
         }
         for v in [0xD800, 0xDBFF, 0xDC00, 0xDFFF, 0x110000, 0x1000041, u32::MAX] {
-            assert_eq!(refused(edit, PSF2, 45, 45, 0, v), (Reason::Ask, 0));
+            assert_eq!(refused(edit, PSF2, 45, 45, 0, v), (Reason::Ask, 0, None));
         }
     }
 }
@@ -198,10 +205,13 @@ fn noncharacters() {
     for v in [0xFDD0, 0xFDEF, 0xFFFE, 0xFFFF, 0x1FFFE, 0x1FFFF, 0x10FFFE, 0x10FFFF] {
         for room in [45, 60] {
             for g in [0, 1] {
-                assert_eq!(refused(add_mapping, PSF2, room, 45, g, v), (Reason::Ask, 0));
-                assert_eq!(refused(drop_mapping, PSF2, room, 45, g, v), (Reason::NotThere, 0));
+                assert_eq!(refused(add_mapping, PSF2, room, 45, g, v), (Reason::Ask, 0, None));
+                assert_eq!(
+                    refused(drop_mapping, PSF2, room, 45, g, v),
+                    (Reason::NotThere, 0, None)
+                );
             }
-            assert_eq!(refused(drop_mapping, PSF2, room, 45, 2, v), (Reason::Ask, 0));
+            assert_eq!(refused(drop_mapping, PSF2, room, 45, 2, v), (Reason::Ask, 0, None));
         }
     }
     for v in [0xFDCF, 0xFDF0, 0xFFFD, 0x1FFFD, 0x20000, 0x10FFFD] {
@@ -215,10 +225,10 @@ fn noncharacters() {
 /// HAVE comes before ROOM.
 #[test]
 fn listed_already_or_not_there() {
-    assert_eq!(refused(add_mapping, PSF2, 45, 45, 0, 0x41), (Reason::Have, 0));
-    assert_eq!(refused(add_mapping, PSF2, 60, 45, 1, 0xC5), (Reason::Have, 0));
+    assert_eq!(refused(add_mapping, PSF2, 45, 45, 0, 0x41), (Reason::Have, 0, None));
+    assert_eq!(refused(add_mapping, PSF2, 60, 45, 1, 0xC5), (Reason::Have, 0, None));
     for (g, v) in [(0, 0x42), (0, 0xC5), (1, 0x41), (1, 0x30A), (0, 0x10FFFD)] {
-        assert_eq!(refused(drop_mapping, PSF2, 45, 45, g, v), (Reason::NotThere, 0));
+        assert_eq!(refused(drop_mapping, PSF2, 45, 45, g, v), (Reason::NotThere, 0, None));
     }
 }
 
@@ -226,7 +236,10 @@ fn listed_already_or_not_there() {
 fn room_tells_the_size_needed() {
     for (v, bytes) in VALUES {
         for room in 45..45 + bytes {
-            assert_eq!(refused(add_mapping, PSF2, room, 45, 1, v), (Reason::Room, 45 + bytes));
+            assert_eq!(
+                refused(add_mapping, PSF2, room, 45, 1, v),
+                (Reason::Room, 45 + bytes, None)
+            );
         }
         let mut b = buffer(PSF2, 45 + bytes);
         assert_eq!(add_mapping(&mut b, 45, 1, v), Ok(45 + bytes));
@@ -247,13 +260,19 @@ fn a_font_at_the_limit() {
     file.extend([0xFF; 128]);
     assert_eq!(file.len(), limit - 1);
     for (room, v) in [(limit - 1, 0xC5), (limit + 4, 0xC5), (limit + 4, 0x10000)] {
-        assert_eq!(refused(add_mapping, &file, room, limit - 1, 127, v), (Reason::Size, 0));
+        assert_eq!(refused(add_mapping, &file, room, limit - 1, 127, v), (Reason::Size, 0, None));
     }
-    assert_eq!(refused(add_mapping, &file, limit - 1, limit - 1, 0, 0x42), (Reason::Room, limit));
+    assert_eq!(
+        refused(add_mapping, &file, limit - 1, limit - 1, 0, 0x42),
+        (Reason::Room, limit, None)
+    );
     let mut b = buffer(&file, limit + 4);
     assert_eq!(add_mapping(&mut b, limit - 1, 127, 0x42), Ok(limit));
-    assert_eq!(refused(add_mapping, &b, limit + 4, limit, 0, 0x42), (Reason::Size, 0));
-    assert_eq!(refused(add_mapping, &b, limit + 4, limit + 1, 0, 0x42), (Reason::TooLong, limit));
+    assert_eq!(refused(add_mapping, &b, limit + 4, limit, 0, 0x42), (Reason::Size, 0, None));
+    assert_eq!(
+        refused(add_mapping, &b, limit + 4, limit + 1, 0, 0x42),
+        (Reason::TooLong, limit, None)
+    );
     assert_eq!(drop_mapping(&mut b, limit, 127, 0x42), Ok(limit - 1));
     assert_eq!(b[..limit], [&file[..], &[0]].concat());
 }

@@ -9,7 +9,7 @@ const VFONT2: &[u8] = include_bytes!("../../../examples/fonts/small.vfont2");
 const BAD: &[u8] = include_bytes!("../../../examples/fonts/bad-table.psf2");
 const SAMPLES: [&[u8]; 4] = [LETTERS, PSF2, VFONT2, BAD];
 
-const LATE: Refusal = Refusal { reason: Reason::Late, place: 0 };
+const LATE: Refusal = Refusal { reason: Reason::Late, place: 0, glyph: None };
 
 /// The close of a loader that has been fed these pieces, all of them taken.
 fn loaded<'a>(pieces: impl IntoIterator<Item = &'a [u8]>) -> Result<Font, Refusal> {
@@ -29,7 +29,7 @@ fn samples_in_pieces() {
     }
     assert_eq!(loaded(LETTERS.chunks(64)).map(|f| (f.kind, f.count)), Ok((Kind::Psf1, 256)));
     assert_eq!(loaded(VFONT2.chunks(5)).map(|f| (f.kind, f.end)), Ok((Kind::Vfont2, 72)));
-    let bad = Refusal { reason: Reason::TableBad, place: 39 };
+    let bad = Refusal { reason: Reason::TableBad, place: 39, glyph: Some(1) };
     assert_eq!(loaded(BAD.chunks(38)), Err(bad));
 }
 
@@ -76,7 +76,7 @@ fn damage_is_told_as_of_the_whole_file() {
 }
 
 /// A start mark behind a start mark in PSF1: bad at its second byte. The vfont2 font with two
-/// broken entries: the first of them; with a wrong greatest width: 28.
+/// broken entries: the first of them; with a wrong greatest width: 28, no glyph's.
 #[test]
 fn places_that_a_cut_could_move() {
     let mut marks = LETTERS.to_vec();
@@ -85,18 +85,27 @@ fn places_that_a_cut_could_move() {
     (entries[36], entries[54]) = (9, 9); // the sizes of both
     let mut width = VFONT2.to_vec();
     width[28] = 4;
-    for (file, reason, place) in
-        [(marks, Reason::TableBad, 2055), (entries, Reason::Entry, 32), (width, Reason::Entry, 28)]
-    {
+    let mut last = LETTERS[..2052 + 2 * 0x20].to_vec(); // glyph 20, behind 20 end marks (hexadecimal)
+    last.extend([0xFE, 0xFF, 0xFF, 0xFF]);
+    let mut second = VFONT2.to_vec();
+    second[54] = 9;
+    for (file, reason, place, glyph) in [
+        (marks, Reason::TableBad, 2055, Some(0)),
+        (last, Reason::TableBad, 2055 + 2 * 0x20, Some(0x20)),
+        (entries, Reason::Entry, 32, Some(0)),
+        (second, Reason::Entry, 50, Some(1)),
+        (width, Reason::Entry, 28, None),
+    ] {
         for length in 1..=64 {
-            assert_eq!(loaded(file.chunks(length)), Err(Refusal { reason, place }));
+            let refusal = Refusal { reason, place, glyph };
+            assert_eq!(loaded(file.chunks(length)), Err(refusal));
         }
     }
 }
 
 #[test]
 fn nothing_fed_is_the_empty_file() {
-    let kind = Refusal { reason: Reason::Kind, place: 0 };
+    let kind = Refusal { reason: Reason::Kind, place: 0, glyph: None };
     assert_eq!(Loader::new().close(), Err(kind));
     assert_eq!(Loader::default().close(), Err(kind));
     assert_eq!(loaded([&[][..], &[], &[]]), Err(kind));
@@ -104,7 +113,7 @@ fn nothing_fed_is_the_empty_file() {
 
 #[test]
 fn too_many_bytes() {
-    let long = Refusal { reason: Reason::TooLong, place: 1_048_576 };
+    let long = Refusal { reason: Reason::TooLong, place: 1_048_576, glyph: None };
     assert_eq!(loaded(vec![0; 1_048_577].chunks(64)), Err(long));
     assert_eq!(loaded(vec![0; 1_048_576].chunks(64)).unwrap_err().reason, Reason::Kind);
 }
@@ -146,5 +155,6 @@ fn loaders_side_by_side() {
     longer.feed(&[0xFF]).unwrap();
     assert_eq!(a.close(), check(PSF2));
     assert_eq!(b.close(), check(VFONT2));
-    assert_eq!(longer.close(), Err(Refusal { reason: Reason::Trailing, place: PSF2.len() }));
+    let trailing = Refusal { reason: Reason::Trailing, place: PSF2.len(), glyph: None };
+    assert_eq!(longer.close(), Err(trailing));
 }

@@ -14,12 +14,15 @@ pub(crate) fn source(file: &[u8], kind: Kind) -> Result<Font, Refusal> {
     Ok(font)
 }
 
-/// VALUE at the first value, single or in a sequence, that the target can't hold.
+/// VALUE at the first value, single or in a sequence, that the target can't hold, and the
+/// glyph that lists it.
 fn values_fit(font: &Font, fits: impl Fn(u32) -> bool) -> Result<(), Refusal> {
-    for placed in font.reading.iter().flatten() {
-        if let Item::Single(v) | Item::Value(v) = placed.item {
-            if !fits(v) {
-                return refuse(VALUE, font.table_at + placed.at);
+    for (g, description) in font.reading.iter().enumerate() {
+        for placed in description {
+            if let Item::Single(v) | Item::Value(v) = placed.item {
+                if !fits(v) {
+                    return refuse_glyph(VALUE, font.table_at + placed.at, g);
+                }
             }
         }
     }
@@ -155,7 +158,7 @@ pub fn vfont2_to_psf2(file: &[u8], out: &mut [u8]) -> Result<usize, Refusal> {
     for (i, e) in font.entries.iter().enumerate() {
         let metrics = (e.up, e.down, e.left, e.right, e.logical_width);
         if !e.has_glyph() || metrics != (height, 0, 0, width, width) {
-            return refuse(GLYPHS, font.header_end + 18 * i);
+            return refuse_glyph(GLYPHS, font.header_end + 18 * i, i);
         }
     }
     let c = glyph_bytes(&font);

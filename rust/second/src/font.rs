@@ -1,6 +1,6 @@
 //! The checks on a font, in their order.
 
-use crate::table::{judge, read, Coding, Description, Verdict};
+use crate::table::{ended, judge, read, Coding, Description, Verdict};
 use crate::*;
 
 #[derive(Debug, Clone, Copy, PartialEq, Eq)]
@@ -149,8 +149,10 @@ pub fn check(file: &[u8]) -> Result<Font, Refusal> {
         return if tail.is_empty() { Ok(font) } else { refuse(TRAILING, font.table_at) };
     }
     match judge(kind.coding(), font.count, tail) {
-        Verdict::Cut => refuse(TABLE_CUT, file.len()),
-        Verdict::Bad(at) => refuse(TABLE_BAD, font.table_at + at),
+        Verdict::Cut => refuse_glyph(TABLE_CUT, file.len(), ended(kind.coding(), tail)),
+        Verdict::Bad(at) => {
+            refuse_glyph(TABLE_BAD, font.table_at + at, ended(kind.coding(), &tail[..at]))
+        }
         Verdict::Trailing(at) => refuse(TRAILING, font.table_at + at),
         Verdict::Complete => {
             let reading = read(kind.coding(), font.count, tail);
@@ -259,7 +261,7 @@ fn vfont2(file: &[u8]) -> Result<Font, Refusal> {
     let start = |i: usize| header as usize + i * ENTRY_LENGTH;
     let entries: Vec<Entry> = (0..n as usize).map(|i| Entry::at(file, start(i))).collect();
     if let Some(i) = entries.iter().position(|e| !e.keeps_rules(total)) {
-        return refuse(ENTRY, start(i));
+        return refuse_glyph(ENTRY, start(i), i);
     }
     let drawn = || entries.iter().filter(|e| e.has_glyph());
     if height != drawn().map(Entry::height).max().unwrap_or(0) {

@@ -33,6 +33,8 @@ pub use lister::{first_line, list};
 pub use loader::{fontload, Loader};
 pub use table::Item;
 
+use std::fmt;
+
 /// The longest file read or written.
 pub const LIMIT: usize = 1_048_576;
 
@@ -42,12 +44,36 @@ pub const LISTER_LIMIT: usize = 65_536;
 /// The longest input of the loading program that is read whole.
 pub const LOADER_LIMIT: usize = 4_194_304;
 
-/// The number said back and its place.
+/// The number said back, its place, and which glyph it was: `GLYPH_NONE` where there is none
+/// to name.
 #[derive(Debug, Clone, Copy, PartialEq, Eq)]
 pub struct Refusal {
     pub number: u32,
     pub place: usize,
+    pub glyph: usize,
 }
+
+impl Refusal {
+    /// One that is of no one glyph.
+    pub fn new(number: u32, place: usize) -> Refusal {
+        Refusal { number, place, glyph: GLYPH_NONE }
+    }
+
+    /// The same as this glyph's.
+    pub fn of_glyph(self, glyph: usize) -> Refusal {
+        Refusal { glyph, ..self }
+    }
+}
+
+/// Three numbers, as both programs write them.
+impl fmt::Display for Refusal {
+    fn fmt(&self, f: &mut fmt::Formatter) -> fmt::Result {
+        write!(f, "refused {} {} {}", self.number, self.place, self.glyph)
+    }
+}
+
+/// No glyph's number: a font has 4,096 at most.
+pub const GLYPH_NONE: usize = 4_096;
 
 pub const TOO_LONG: u32 = 1;
 pub const KIND: u32 = 2;
@@ -75,7 +101,12 @@ pub const LINE: u32 = 23;
 pub const HAVE: u32 = 24;
 pub const NOT_THERE: u32 = 25;
 
-/// A refusal as the error of a call.
+/// A refusal that is of no one glyph, as the error of a call.
 pub(crate) fn refuse<T>(number: u32, place: usize) -> Result<T, Refusal> {
-    Err(Refusal { number, place })
+    Err(Refusal::new(number, place))
+}
+
+/// A refusal that is a glyph's.
+pub(crate) fn refuse_glyph<T>(number: u32, place: usize, glyph: usize) -> Result<T, Refusal> {
+    Err(Refusal::new(number, place).of_glyph(glyph))
 }

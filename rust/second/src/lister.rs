@@ -17,7 +17,7 @@ pub fn list(input: &[u8]) -> String {
     }
     let font = match check(input) {
         Ok(font) => font,
-        Err(r) => return format!("refused {} {}\n", r.number, r.place),
+        Err(r) => return format!("{r}\n"),
     };
     let mut text = first_line(&font) + "\n";
     for (g, description) in font.reading.iter().enumerate() {

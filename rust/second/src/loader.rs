@@ -64,12 +64,12 @@ fn lines(input: &[u8]) -> Vec<&[u8]> {
 
 /// What the program writes for this input.
 pub fn fontload(input: &[u8]) -> Vec<u8> {
-    let refused = |r: Refusal| format!("refused {} {}\n", r.number, r.place).into_bytes();
+    let refused = |r: Refusal| format!("{r}\n").into_bytes();
     let mut loader = Loader::new();
     for (i, line) in lines(input).into_iter().enumerate() {
         match piece(line) {
             Some(bytes) => loader.feed(&bytes).expect("the loader is open"),
-            None => return refused(Refusal { number: LINE, place: i + 1 }),
+            None => return refused(Refusal::new(LINE, i + 1)),
         }
     }
     if input.len() > LOADER_LIMIT {

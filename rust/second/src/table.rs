@@ -220,6 +220,15 @@ pub fn judge(coding: Coding, n: usize, tail: &[u8]) -> Verdict {
     }
 }
 
+/// The descriptions that are complete in a start that could still be completed: its end
+/// marks. FF is in no value, and units stand at even offsets.
+pub fn ended(coding: Coding, start: &[u8]) -> usize {
+    match coding {
+        Coding::Units => start.chunks_exact(2).filter(|unit| *unit == [0xFF, 0xFF]).count(),
+        Coding::Utf8 => start.iter().filter(|byte| **byte == 0xFF).count(),
+    }
+}
+
 /// The reading of a complete table, or nothing if the tail isn't one.
 pub fn read(coding: Coding, n: usize, tail: &[u8]) -> Option<Vec<Description>> {
     let descriptions = match coding {

@@ -19,7 +19,7 @@ fn compared(first: &[u8], second: &[u8]) -> Vec<(u32, u32)> {
     assert_eq!(exact, out[..2 * count]);
     if count > 0 {
         let mut short = vec![FRESH; 2 * count - 1];
-        let refusal = Refusal { number: ROOM, place: 2 * count };
+        let refusal = Refusal::new(ROOM, 2 * count);
         let answer = differences(first, second, &mut short);
         assert_eq!(answer, Err(NotCompared { font: 0, refusal }));
         assert!(short.iter().all(|&n| n == FRESH), "a refused call wrote");
@@ -28,10 +28,9 @@ fn compared(first: &[u8], second: &[u8]) -> Vec<(u32, u32)> {
 }
 
 /// The call is refused so, whatever the room, and the buffer stays.
-fn refused(first: &[u8], second: &[u8], font: u32, number: u32, place: usize) {
+fn refused(first: &[u8], second: &[u8], font: u32, refusal: Refusal) {
     for room in [0, 1, 2, 9] {
         let mut out = vec![FRESH; room];
-        let refusal = Refusal { number, place };
         assert_eq!(differences(first, second, &mut out), Err(NotCompared { font, refusal }));
         assert!(out.iter().all(|&n| n == FRESH), "a refused call wrote");
     }
@@ -327,18 +326,18 @@ fn the_most_pairs() {
 fn refusals() {
     let (file, bare) = (worked(), psf2(32, 8, &[1, 2], None));
     let (junk, cut, bad) = (vec![0; 40], &file[..44], with(&file, 36, 0x80));
-    refused(&junk, &file, 1, KIND, 0);
-    refused(&file, &junk, 2, KIND, 0);
-    refused(&junk, cut, 1, KIND, 0);
-    refused(cut, &junk, 1, TABLE_CUT, 44);
-    refused(&bad, cut, 1, TABLE_BAD, 36);
-    refused(&bare, &bad, 2, TABLE_BAD, 36);
-    refused(&bad, &bare, 1, TABLE_BAD, 36);
-    refused(&[], &[], 1, KIND, 0);
-    refused(&file, &[], 2, KIND, 0);
-    refused(&vec![0; LIMIT + 1], &junk, 1, TOO_LONG, LIMIT);
-    refused(&file, &vec![0; LIMIT + 1], 2, TOO_LONG, LIMIT);
-    refused(&[&bare[..], &[0]].concat(), &file, 1, TRAILING, 34);
+    refused(&junk, &file, 1, Refusal::new(KIND, 0));
+    refused(&file, &junk, 2, Refusal::new(KIND, 0));
+    refused(&junk, cut, 1, Refusal::new(KIND, 0));
+    refused(cut, &junk, 1, Refusal::new(TABLE_CUT, 44).of_glyph(1));
+    refused(&bad, cut, 1, Refusal::new(TABLE_BAD, 36).of_glyph(0));
+    refused(&bare, &bad, 2, Refusal::new(TABLE_BAD, 36).of_glyph(0));
+    refused(&bad, &bare, 1, Refusal::new(TABLE_BAD, 36).of_glyph(0));
+    refused(&[], &[], 1, Refusal::new(KIND, 0));
+    refused(&file, &[], 2, Refusal::new(KIND, 0));
+    refused(&vec![0; LIMIT + 1], &junk, 1, Refusal::new(TOO_LONG, LIMIT));
+    refused(&file, &vec![0; LIMIT + 1], 2, Refusal::new(TOO_LONG, LIMIT));
+    refused(&[&bare[..], &[0]].concat(), &file, 1, Refusal::new(TRAILING, 34));
 }
 
 /// Any room will do where nothing differs.

@@ -29,10 +29,15 @@ fn edited(call: Edit, file: &[u8], g: usize, v: u32) -> Vec<u8> {
 }
 
 /// The call is refused so, and the buffer stays.
-fn refused(call: Edit, buf: &[u8], len: usize, g: usize, v: u32, number: u32, place: usize) {
+fn refused_so(call: Edit, buf: &[u8], len: usize, g: usize, v: u32, refusal: Refusal) {
     let mut after = buf.to_vec();
-    assert_eq!(call(&mut after, len, g, v), Err(Refusal { number, place }), "{len} {g} {v:X}");
+    assert_eq!(call(&mut after, len, g, v), Err(refusal), "{len} {g} {v:X}");
     assert!(after == buf, "a refused call wrote");
+}
+
+/// The call is refused by a refusal that is of no one glyph, and the buffer stays.
+fn refused(call: Edit, buf: &[u8], len: usize, g: usize, v: u32, number: u32, place: usize) {
+    refused_so(call, buf, len, g, v, Refusal::new(number, place));
 }
 
 /// A PSF2 font of height 1 and width 8 with this header size, bitmap byte and table.
@@ -151,7 +156,7 @@ fn the_font_is_the_first_len_bytes() {
     for call in BOTH {
         refused(call, &buf, 90, 0, 0x41, TRAILING, 45);
         refused(call, &buf, 46, 0, 0x41, TRAILING, 45);
-        refused(call, &buf, 44, 0, 0x41, TABLE_CUT, 44);
+        refused_so(call, &buf, 44, 0, 0x41, Refusal::new(TABLE_CUT, 44).of_glyph(1));
         refused(call, &buf, 0, 0, 0x41, KIND, 0);
         refused(call, &buf, 91, 0, 0x41, ASK, 0);
         refused(call, &[], 0, 0, 0x41, KIND, 0);
@@ -212,7 +217,7 @@ fn orders() {
         refused(call, &bare, 35, usize::MAX, u32::MAX, BODY_CUT, 35);
         refused(call, &vfont2, 31, usize::MAX, u32::MAX, HEADER_CUT, 31);
         let bad = [&file[..36], &[0xFE, 0xFF, 0xFF]].concat();
-        refused(call, &bad, 39, 2, 0xD800, TABLE_BAD, 37);
+        refused_so(call, &bad, 39, 2, 0xD800, Refusal::new(TABLE_BAD, 37).of_glyph(0));
         refused(call, &vec![0; LIMIT + 1], LIMIT + 1, 0, 0x41, TOO_LONG, LIMIT);
         // ASK for the glyph and the value
         for g in [2, 3, 256, 1 << 32, (1 << 32) + 1, usize::MAX] {

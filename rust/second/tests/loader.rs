@@ -23,7 +23,7 @@ fn zeros(count: usize) -> String {
     ("0".repeat(128) + "\n").repeat(count)
 }
 
-const NO_KIND: &str = "refused 2 0\n";
+const NO_KIND: &str = "refused 2 0 4096\n";
 
 #[test]
 fn every_close_is_the_check() {
@@ -43,7 +43,7 @@ fn every_close_is_the_check() {
 
 #[test]
 fn a_closed_loader_is_late() {
-    let late = Refusal { number: 22, place: 0 };
+    let late = Refusal::new(22, 0);
     for file in [worked(), vec![]] {
         let mut loader = Loader::new();
         loader.feed(&file).unwrap();
@@ -64,8 +64,8 @@ fn frames() {
         assert_eq!(text(&lines(&worked(), each)), "sound\n");
         assert_eq!(text(lines(&worked(), each).trim_end()), "sound\n");
     }
-    assert_eq!(text(&lines(&worked()[..44], 8)), "refused 10 44\n");
-    assert_eq!(text(&(lines(&worked(), 8) + "41\n")), "refused 12 45\n");
+    assert_eq!(text(&lines(&worked()[..44], 8)), "refused 10 44 1\n");
+    assert_eq!(text(&(lines(&worked(), 8) + "41\n")), "refused 12 45 4096\n");
     // empty lines are empty pieces
     assert_eq!(text(&format!("\n\n{}\n\n", lines(&worked(), 9).replace('\n', "\n\n"))), "sound\n");
     for nothing in ["", "\n", "\n\n\n"] {
@@ -76,7 +76,7 @@ fn frames() {
 #[test]
 fn bad_lines() {
     let bad = |line: &str, number: usize| {
-        assert_eq!(text(line), format!("refused 23 {number}\n"), "{line:?}");
+        assert_eq!(text(line), format!("refused 23 {number} 4096\n"), "{line:?}");
     };
     for line in ["0", "000", "0g", "0G", "a0", "A0 ", " A0", "A0\r", "\r", "A0\t", "-1", "0x", "é"]
     {
@@ -97,7 +97,7 @@ fn bad_lines() {
     bad(&"0".repeat(130), 1);
     // TOO LONG is a refusal of the bytes before it
     let long = zeros(16_385);
-    assert_eq!(text(&long), "refused 1 1048576\n");
+    assert_eq!(text(&long), "refused 1 1048576 4096\n");
     bad(&(long.clone() + "0"), 16_386);
     assert_eq!(text(&zeros(16_384)), NO_KIND);
 }
@@ -108,20 +108,20 @@ fn the_limit() {
     let front = zeros(32_513);
     let rest = LOADER_LIMIT - front.len();
     assert_eq!(rest, 127);
-    let long = "refused 1 1048576\n";
+    let long = "refused 1 1048576 4096\n";
     // at the limit all is read: an unended last line too
     assert_eq!(text(&(front.clone() + &"0".repeat(126) + "\n")), long);
     assert_eq!(text(&(front.clone() + "\n" + &"0".repeat(126))), long);
-    assert_eq!(text(&(front.clone() + &"0".repeat(127))), "refused 23 32514\n");
+    assert_eq!(text(&(front.clone() + &"0".repeat(127))), "refused 23 32514 4096\n");
     // one byte more
     assert_eq!(text(&(front.clone() + &"0".repeat(126) + "\n\n")), "too big\n");
     assert_eq!(text(&(front.clone() + &"0".repeat(128))), "too big\n");
     // a line whose newline is the last byte within the limit is judged, the next isn't
-    assert_eq!(text(&(front.clone() + &"x".repeat(126) + "\n\n")), "refused 23 32514\n");
+    assert_eq!(text(&(front.clone() + &"x".repeat(126) + "\n\n")), "refused 23 32514 4096\n");
     assert_eq!(text(&(front.clone() + &"x".repeat(127) + "\n")), "too big\n");
     assert_eq!(text(&(front.clone() + &"0".repeat(126) + "\nx")), "too big\n");
     // bad lines within the limit count, however long the input
-    assert_eq!(text(&("0\n".to_string() + &zeros(40_000))), "refused 23 1\n");
+    assert_eq!(text(&("0\n".to_string() + &zeros(40_000))), "refused 23 1 4096\n");
     // a font that is whole within the limit
     let empty = "\n".repeat(LOADER_LIMIT - WORKED.len());
     assert_eq!(text(&(empty.clone() + WORKED)), "sound\n");
@@ -129,6 +129,6 @@ fn the_limit() {
     assert_eq!(text(&(WORKED.to_string() + &empty + "\n")), "too big\n");
     assert_eq!(text(&(empty + "\n" + WORKED)), "too big\n");
     // one line alone, never ended
-    assert_eq!(text(&"x".repeat(LOADER_LIMIT)), "refused 23 1\n");
+    assert_eq!(text(&"x".repeat(LOADER_LIMIT)), "refused 23 1 4096\n");
     assert_eq!(text(&"x".repeat(LOADER_LIMIT + 1)), "too big\n");
 }

@@ -4,7 +4,7 @@
 use second::*;
 
 fn no(number: u32, place: usize) -> Result<[i32; 5], Refusal> {
-    Err(Refusal { number, place })
+    Err(Refusal::new(number, place))
 }
 
 fn numbers(magic: [u8; 4], numbers: [u32; 7]) -> Vec<u8> {
@@ -107,6 +107,6 @@ fn the_font_s_own_refusal_first() {
         assert_eq!(metrics(&[], g), no(KIND, 0));
         assert_eq!(metrics(&shapeless, g), no(SHAPE, 3));
         assert_eq!(metrics(&trailing, g), no(TRAILING, trailing.len() - 1));
-        assert_eq!(metrics(&wrapped, g), no(ENTRY, 50));
+        assert_eq!(metrics(&wrapped, g), Err(Refusal::new(ENTRY, 50).of_glyph(1)));
     }
 }

@@ -13,7 +13,7 @@ fn all() -> Vec<u32> {
 }
 
 fn no(number: u32, place: usize) -> Refusal {
-    Refusal { number, place }
+    Refusal::new(number, place)
 }
 
 /// A value's UTF-8, a noncharacter's too.
@@ -90,14 +90,16 @@ fn places() {
             }
         }
         let file = psf2(&word);
-        assert_eq!(check(&file).map(|_| ()), Err(no(TABLE_BAD, 288 + 255 + word.len() - 1)));
-        assert_eq!(find_value(&file, v), Err(no(TABLE_BAD, 288 + 255 + word.len() - 1)));
+        let bad = no(TABLE_BAD, 288 + 255 + word.len() - 1).of_glyph(255);
+        assert_eq!(check(&file).map(|_| ()), Err(bad));
+        assert_eq!(find_value(&file, v), Err(bad));
     }
     for v in 0xFDD0..=0xFDEF {
         for (units, place) in [(&[v][..], 1), (&[0x41, v], 3), (&[0xFFFE, 0x41, v, 0x42], 5)] {
             let file = psf1(units);
-            assert_eq!(check(&file).map(|_| ()), Err(no(TABLE_BAD, 770 + place)));
-            assert_eq!(check(&file[..770 + place]).map(|_| ()), Err(no(TABLE_CUT, 770 + place)));
+            let (bad, cut) = (no(TABLE_BAD, 770 + place), no(TABLE_CUT, 770 + place));
+            assert_eq!(check(&file).map(|_| ()), Err(bad.of_glyph(255)));
+            assert_eq!(check(&file[..770 + place]).map(|_| ()), Err(cut.of_glyph(255)));
         }
     }
     // FFFE and FFFF are the marks that they were
@@ -140,6 +142,7 @@ fn conversions() {
     for v in [0x10000, 0x1FFFD, 0x20000, 0x10FFFD] {
         let mut out = vec![0; 2000];
         let wide = psf2(&[&utf8(0xFFFD)[..], &utf8(v)].concat());
-        assert_eq!(psf2_to_psf1(&wide, &mut out), Err(no(VALUE, 288 + 255 + 3)));
+        let value = no(VALUE, 288 + 255 + 3).of_glyph(255);
+        assert_eq!(psf2_to_psf1(&wide, &mut out), Err(value));
     }
 }

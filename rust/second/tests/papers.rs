@@ -8,7 +8,7 @@ use second::table::{judge, read, sequences, singles, Coding, Verdict};
 use second::*;
 
 fn no(number: u32, place: usize) -> Refusal {
-    Refusal { number, place }
+    Refusal::new(number, place)
 }
 
 /// A xorshift generator for repeatable random bytes.
@@ -121,8 +121,8 @@ fn worked_font() {
 
 #[test]
 fn lister() {
-    assert_eq!(list(&[]), "refused 2 0\n");
-    assert_eq!(list(&vec![0; 65_536]), "refused 2 0\n");
+    assert_eq!(list(&[]), "refused 2 0 4096\n");
+    assert_eq!(list(&vec![0; 65_536]), "refused 2 0 4096\n");
     assert_eq!(list(&vec![0; 65_537]), "too big\n");
     let mut bare = worked();
     bare[12] = 0;
@@ -132,7 +132,7 @@ fn lister() {
     file.truncate(36);
     file.extend_from_slice(&[0xFF, 0x00, 0xFE, 0x00, 0xFE, 0x41, 0x42, 0xFF]);
     assert_eq!(list(&file), "psf2 2 2 3 table\n0\n1 0 +0 +41+42\n");
-    assert_eq!(list(&file[..file.len() - 1]), format!("refused 10 {}\n", file.len() - 1));
+    assert_eq!(list(&file[..file.len() - 1]), format!("refused 10 {} 1\n", file.len() - 1));
 }
 
 #[test]
@@ -161,7 +161,13 @@ fn header_orders() {
             _ => TABLE_CUT,
         };
         let place = if number == KIND { 0 } else { length };
-        assert_eq!(check(&file[..length]).map(|_| ()), Err(no(number, place)));
+        // 41 FF are the first description
+        let glyph = match length {
+            0..=35 => GLYPH_NONE,
+            36..=37 => 0,
+            _ => 1,
+        };
+        assert_eq!(check(&file[..length]).map(|_| ()), Err(no(number, place).of_glyph(glyph)));
     }
     assert_eq!(check(&vec![0; LIMIT + 1]).map(|_| ()), Err(no(TOO_LONG, LIMIT)));
 }
@@ -172,7 +178,7 @@ fn sixteen_bit_sums() {
     let mut file = convert(psf2_to_vfont2, &worked()).unwrap();
     file[40..42].copy_from_slice(&(-32768i16).to_le_bytes());
     file[42..44].copy_from_slice(&(-32767i16).to_le_bytes());
-    assert_eq!(check(&file).map(|_| ()), Err(no(ENTRY, 32)));
+    assert_eq!(check(&file).map(|_| ()), Err(no(ENTRY, 32).of_glyph(0)));
 }
 
 /// Where `std` finds the first byte that no well-formed text can have there, or the last
@@ -381,7 +387,7 @@ fn psf1_values() {
     assert_eq!(find_value(&file, 0xFFFE), Err(no(UNMAPPED, 0)));
     assert_eq!(find_value(&file, 0xDEAD), Err(no(UNMAPPED, 0)));
     assert_eq!(find_sequence(&file, &[0x41, 0xDEAD]), Ok(0));
-    assert_eq!(convert(psf1_to_psf2, &file), Err(no(VALUE, table_at + 6)));
+    assert_eq!(convert(psf1_to_psf2, &file), Err(no(VALUE, table_at + 6).of_glyph(0)));
     file[2] = 6;
     assert_eq!(check(&file).map(|_| ()), Err(no(VERSION, 2)));
     file.truncate(table_at);
@@ -407,15 +413,13 @@ fn psf1_modes() {
         let marked = mode > 1;
         let bare = file.clone();
         if marked {
-            assert_eq!(judged(&file), Err(no(TABLE_CUT, table_at)));
+            assert_eq!(judged(&file), Err(no(TABLE_CUT, table_at).of_glyph(0)));
         } else {
             assert_eq!(judged(&file), Ok(false));
         }
         file.extend([0xFE, 0xFF, 0xFF, 0xFF]);
-        assert_eq!(
-            judged(&file),
-            Err(if marked { no(TABLE_BAD, table_at + 3) } else { no(TRAILING, table_at) })
-        );
+        let bad = no(TABLE_BAD, table_at + 3).of_glyph(0);
+        assert_eq!(judged(&file), Err(if marked { bad } else { no(TRAILING, table_at) }));
         file.truncate(table_at);
         // the last glyph: C5 and sequence 41 30A
         file.resize(table_at + 2 * (n - 1), 0xFF);

@@ -67,7 +67,7 @@ pub fn checksum<T: Copy + Into<u64>>(buffer: &[T]) -> u64 {
 }
 
 fn refused(r: Refusal) -> String {
-    format!("refused {} {}", r.number, r.place)
+    r.to_string()
 }
 
 /// A part's offset, length and bytes, or its refusal.

@@ -1,6 +1,6 @@
-//! Writes six corpora of questions and expected answers: OUTDIR/fonts/{stdin,stdout},
-//! and likewise OUTDIR/conversions, OUTDIR/metrics, OUTDIR/loads, OUTDIR/edits and
-//! OUTDIR/differences.
+//! Writes seven corpora of questions and expected answers: OUTDIR/fonts/{stdin,stdout},
+//! and likewise OUTDIR/conversions, OUTDIR/metrics, OUTDIR/loads, OUTDIR/edits,
+//! OUTDIR/differences and OUTDIR/glyphs.
 //! With the word `answer` alone: answers a script from standard input.
 
 mod answer;
@@ -8,6 +8,7 @@ mod conversions;
 mod differences;
 mod edits;
 mod fonts;
+mod glyphs;
 mod loads;
 mod make;
 mod metrics;
@@ -42,4 +43,5 @@ fn main() {
     write(&out.join("loads"), &loads::script());
     write(&out.join("edits"), &edits::script());
     write(&out.join("differences"), &differences::script());
+    write(&out.join("glyphs"), &glyphs::script());
 }

@@ -23,8 +23,8 @@ get32-requires c κs = search needs
 size-requires : tie.Need-size-requires
 size-requires c κs = search needs
 
-add-t12 : tie.Need-add-t12
-add-t12 c = search needs
+add-t13 : tie.Need-add-t13
+add-t13 c = search needs
 
 add-get32 : tie.Need-add-get32
 add-get32 c = search needs
@@ -38,8 +38,8 @@ size-requires-2 c κs = search needs
 enum-told-2 : tie.Need-enum-told-2
 enum-told-2 c = search needs
 
-refuse-requires-2 : tie.Need-refuse-requires-2
-refuse-requires-2 c κs = search needs
+refuse-at-requires : tie.Need-refuse-at-requires
+refuse-at-requires c κs = search needs
 
 returns : tie.Need-returns
 returns c = ap NotLocated (c .refuse .ensures) ∙ rw (sym (c .before .before .before .entry-at .ensures) ∙ c .before .enum-told .given .1)
@@ -48,7 +48,7 @@ returns-2 : tie.Need-returns-2
 returns-2 c = rw (sym (c .before .before .before .before .before .before .before .before .entry-at .ensures) ∙ c .before .before .before .before .before .before .e .given .1, c .before .before .before .size .ensures, c .size2 .ensures, c .before .before .before .before .get32 .ensures, c .before .get322 .ensures)
 
 returns-3 : tie.Need-returns-3
-returns-3 c = ap NotLocated (c .refuse2 .ensures) ∙ rw (sym (c .before .before .before .entry-at .ensures) ∙ c .before .enum-told2 .given .1)
+returns-3 c = ap NotLocated (c .refuse-at .ensures) ∙ rw (sym (c .before .before .before .entry-at .ensures) ∙ c .before .enum-told2 .given .1)
 
 pub entry-located-spec : {M : Type 1} → statement M
 entry-located-spec =
@@ -60,12 +60,12 @@ entry-located-spec =
     enum-known-e
     get32-requires
     size-requires
-    add-t12
+    add-t13
     add-get32
     get32-requires-2
     size-requires-2
     enum-told-2
-    refuse-requires-2
+    refuse-at-requires
     returns
     returns-2
     returns-3)

@@ -20,20 +20,20 @@ enum-told c = search needs
 enum-known-e : tie.Need-enum-known-e
 enum-known-e c = search needs
 
-mul-refuse : tie.Need-mul-refuse
-mul-refuse c = let w = cases.uneven-within (c .before .before .before .before .before .args .file .now) (c .before .before .before .before .before .args .f .height) (c .before .before .before .before .before .args .f .width) (c .before .before .before .before .before .args .f .entries) (c .before .before .before .before .before .args .f .count) 0 (c .before .e .given .0 .0) (sym (c .before .before .before .first-uneven .ensures) ∙ c .before .e .given .1) in let n : c .before .before .before .before .before .args .f .count ≤ 4096 = c .before .before .before .before .before .pre .0 .2 in omega (arith, w)
+mul-refuse-at : tie.Need-mul-refuse-at
+mul-refuse-at c = let w = cases.uneven-within (c .before .before .before .before .before .args .file .now) (c .before .before .before .before .before .args .f .height) (c .before .before .before .before .before .args .f .width) (c .before .before .before .before .before .args .f .entries) (c .before .before .before .before .before .args .f .count) 0 (c .before .e .given .0 .0) (sym (c .before .before .before .first-uneven .ensures) ∙ c .before .e .given .1) in let n : c .before .before .before .before .before .args .f .count ≤ 4096 = c .before .before .before .before .before .pre .0 .2 in omega (arith, w)
 
-add-refuse : tie.Need-add-refuse
-add-refuse c = let w = cases.uneven-within (c .before .before .before .before .before .before .args .file .now) (c .before .before .before .before .before .before .args .f .height) (c .before .before .before .before .before .before .args .f .width) (c .before .before .before .before .before .before .args .f .entries) (c .before .before .before .before .before .before .args .f .count) 0 (c .before .before .e .given .0 .0) (sym (c .before .before .before .before .first-uneven .ensures) ∙ c .before .before .e .given .1) in let n : c .before .before .before .before .before .before .args .f .count ≤ 4096 = c .before .before .before .before .before .before .pre .0 .2 in omega (arith, w, c .before .before .before .before .before .before .pre .0 .0, c .before .before .before .before .before .before .pre .0 .5, c .before .before .before .before .before .before .pre .0 .6, c .before .before .before .before .before .before .pre .0 .7)
+add-refuse-at : tie.Need-add-refuse-at
+add-refuse-at c = let w = cases.uneven-within (c .before .before .before .before .before .before .args .file .now) (c .before .before .before .before .before .before .args .f .height) (c .before .before .before .before .before .before .args .f .width) (c .before .before .before .before .before .before .args .f .entries) (c .before .before .before .before .before .before .args .f .count) 0 (c .before .before .e .given .0 .0) (sym (c .before .before .before .before .first-uneven .ensures) ∙ c .before .before .e .given .1) in let n : c .before .before .before .before .before .before .args .f .count ≤ 4096 = c .before .before .before .before .before .before .pre .0 .2 in omega (arith, w, c .before .before .before .before .before .before .pre .0 .0, c .before .before .before .before .before .before .pre .0 .5, c .before .before .before .before .before .before .pre .0 .6, c .before .before .before .before .before .before .pre .0 .7)
 
-refuse-requires : tie.Need-refuse-requires
-refuse-requires c κs = search needs
+refuse-at-requires : tie.Need-refuse-at-requires
+refuse-at-requires c κs = search needs
 
 returns : tie.Need-returns
 returns c = ap (evenSuits (c .before .before .before .before .args .f)) (sym (c .enum-told .given .1) ∙ c .before .before .first-uneven .ensures)
 
 returns-2 : tie.Need-returns-2
-returns-2 c = ap Unsuited (c .refuse .ensures) ∙ ap (evenSuits (c .before .before .before .before .before .before .before .args .f)) (sym (c .before .before .before .e .given .1) ∙ c .before .before .before .before .before .first-uneven .ensures)
+returns-2 c = ap Unsuited (c .refuse-at .ensures) ∙ ap (evenSuits (c .before .before .before .before .before .before .before .args .f)) (sym (c .before .before .before .e .given .1) ∙ c .before .before .before .before .before .first-uneven .ensures)
 
 pub suits-psf2-spec : {M : Type 1} → statement M
 suits-psf2-spec =
@@ -42,8 +42,8 @@ suits-psf2-spec =
     first-uneven-requires
     enum-told
     enum-known-e
-    mul-refuse
-    add-refuse
-    refuse-requires
+    mul-refuse-at
+    add-refuse-at
+    refuse-at-requires
     returns
     returns-2)

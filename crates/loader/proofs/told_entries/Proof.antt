@@ -16,11 +16,14 @@ enum-told-2 c = search needs
 enum-told-3 : tie.Need-enum-told-3
 enum-told-3 c = search needs
 
-refuse-requires : tie.Need-refuse-requires
-refuse-requires c κs = search needs
+entry-number-requires : tie.Need-entry-number-requires
+entry-number-requires c κs = search needs
+
+refuse-at-requires : tie.Need-refuse-at-requires
+refuse-at-requires c κs = search needs
 
 returns : tie.Need-returns
-returns c = told-by _ _ Vfont2 (c .before .before .before .enum-told3 .given .1) _ (ap Refused (c .refuse .ensures) ∙ broke _ _ (c .before .if1 .taken))
+returns c = told-by _ _ Vfont2 (c .before .before .before .before .enum-told3 .given .1) _ (ap Refused (c .refuse-at .ensures) ∙ rw (c .before .entry-number .ensures) (broke _ _ (c .before .before .if1 .taken)))
 
 check-greatest-requires : tie.Need-check-greatest-requires
 check-greatest-requires c κs = search needs
@@ -41,7 +44,8 @@ told-entries-spec =
     enum-told
     enum-told-2
     enum-told-3
-    refuse-requires
+    entry-number-requires
+    refuse-at-requires
     returns
     check-greatest-requires
     returns-2

@@ -17,14 +17,14 @@ scan-entries-requires c κs = let p = c .before .pre .0 in let d = subst (λ (k 
 enum-known-s : tie.Need-enum-known-s
 enum-known-s c = search needs
 
-mul-refuse : tie.Need-mul-refuse
-mul-refuse c = let w = scan-broken (c .before .before .before .before .before .args .file .now) (c .before .before .before .before .before .args .f .size) (c .before .before .before .before .before .args .f .count) (c .before .before .before .before .before .args .f .entries) (c .before .s .given .0 .0) (sym (c .before .before .before .scan-entries .ensures) ∙ c .before .s .given .1) .within in let n : c .before .before .before .before .before .args .f .count ≤ 4096 = c .before .before .before .before .before .pre .0 .2 in omega (arith, w)
+mul-refuse-at : tie.Need-mul-refuse-at
+mul-refuse-at c = let w = scan-broken (c .before .before .before .before .before .args .file .now) (c .before .before .before .before .before .args .f .size) (c .before .before .before .before .before .args .f .count) (c .before .before .before .before .before .args .f .entries) (c .before .s .given .0 .0) (sym (c .before .before .before .scan-entries .ensures) ∙ c .before .s .given .1) .within in let n : c .before .before .before .before .before .args .f .count ≤ 4096 = c .before .before .before .before .before .pre .0 .2 in omega (arith, w)
 
-add-refuse : tie.Need-add-refuse
-add-refuse c = let w = scan-broken (c .before .before .before .before .before .before .args .file .now) (c .before .before .before .before .before .before .args .f .size) (c .before .before .before .before .before .before .args .f .count) (c .before .before .before .before .before .before .args .f .entries) (c .before .before .s .given .0 .0) (sym (c .before .before .before .before .scan-entries .ensures) ∙ c .before .before .s .given .1) .within in let n : c .before .before .before .before .before .before .args .f .count ≤ 4096 = c .before .before .before .before .before .before .pre .0 .2 in omega (arith, w, c .before .before .before .before .before .before .pre .0 .0, c .before .before .before .before .before .before .pre .0 .5, c .before .before .before .before .before .before .pre .0 .6, c .before .before .before .before .before .before .pre .0 .7)
+add-refuse-at : tie.Need-add-refuse-at
+add-refuse-at c = let w = scan-broken (c .before .before .before .before .before .before .args .file .now) (c .before .before .before .before .before .before .args .f .size) (c .before .before .before .before .before .before .args .f .count) (c .before .before .before .before .before .before .args .f .entries) (c .before .before .s .given .0 .0) (sym (c .before .before .before .before .scan-entries .ensures) ∙ c .before .before .s .given .1) .within in let n : c .before .before .before .before .before .before .args .f .count ≤ 4096 = c .before .before .before .before .before .before .pre .0 .2 in omega (arith, w, c .before .before .before .before .before .before .pre .0 .0, c .before .before .before .before .before .before .pre .0 .5, c .before .before .before .before .before .before .pre .0 .6, c .before .before .before .before .before .before .pre .0 .7)
 
-refuse-requires : tie.Need-refuse-requires
-refuse-requires c κs = search needs
+refuse-at-requires : tie.Need-refuse-at-requires
+refuse-at-requires c κs = search needs
 
 enum-known-s-2 : tie.Need-enum-known-s-2
 enum-known-s-2 c = search needs
@@ -33,7 +33,7 @@ check-greatest-requires : tie.Need-check-greatest-requires
 check-greatest-requires c κs = search needs
 
 returns : tie.Need-returns
-returns c = ap Refused (c .refuse .ensures) ∙ ap (scanned (c .before .before .before .before .before .before .before .args .f)) (sym (c .before .before .before .s .given .1) ∙ c .before .before .before .before .before .scan-entries .ensures)
+returns c = ap Refused (c .refuse-at .ensures) ∙ ap (scanned (c .before .before .before .before .before .before .before .args .f)) (sym (c .before .before .before .s .given .1) ∙ c .before .before .before .before .before .scan-entries .ensures)
 
 returns-2 : tie.Need-returns-2
 returns-2 c = c .check-greatest .ensures ∙ ap (scanned (c .before .before .before .before .before .before .args .f)) (sym (c .before .before .s2 .given .1) ∙ c .before .before .before .before .scan-entries .ensures)
@@ -44,9 +44,9 @@ check-dispatch-spec =
     (tie.spec
     scan-entries-requires
     enum-known-s
-    mul-refuse
-    add-refuse
-    refuse-requires
+    mul-refuse-at
+    add-refuse-at
+    refuse-at-requires
     enum-known-s-2
     check-greatest-requires
     returns

@@ -44,41 +44,41 @@ enum-told c = search needs
 enum-known-a : tie.Need-enum-known-a
 enum-known-a c = search needs
 
-add-refuse : tie.Need-add-refuse
-add-refuse c = omega (arith, rw (c .before .a .given .1) at (fits (c .before .before .before)))
+add-refuse-at : tie.Need-add-refuse-at
+add-refuse-at c = omega (arith, rw (c .before .a .given .1) at (fits (c .before .before .before)))
 
-refuse-requires : tie.Need-refuse-requires
-refuse-requires c κs = search needs
+refuse-at-requires : tie.Need-refuse-at-requires
+refuse-at-requires c κs = search needs
 
 enum-known-a-2 : tie.Need-enum-known-a-2
 enum-known-a-2 c = search needs
 
-add-refuse-2 : tie.Need-add-refuse-2
-add-refuse-2 c = omega (arith, rw (c .before .a2 .given .1) at (fits (c .before .before .before)))
+add-refuse-at-2 : tie.Need-add-refuse-at-2
+add-refuse-at-2 c = omega (arith, rw (c .before .a2 .given .1) at (fits (c .before .before .before)))
 
-refuse-requires-2 : tie.Need-refuse-requires-2
-refuse-requires-2 c κs = search needs
+refuse-at-requires-2 : tie.Need-refuse-at-requires-2
+refuse-at-requires-2 c κs = search needs
 
 enum-known-a-3 : tie.Need-enum-known-a-3
 enum-known-a-3 c = search needs
 
-add-refuse-3 : tie.Need-add-refuse-3
-add-refuse-3 c = omega (arith, rw (c .before .a3 .given .1) at (fits (c .before .before .before)))
+add-refuse : tie.Need-add-refuse
+add-refuse c = omega (arith, rw (c .before .a3 .given .1) at (fits (c .before .before .before)))
 
-refuse-requires-3 : tie.Need-refuse-requires-3
-refuse-requires-3 c κs = search needs
+refuse-requires : tie.Need-refuse-requires
+refuse-requires c κs = search needs
 
 returns : tie.Need-returns
 returns c = rw (c .enum-told .given .1) at (ap (answered (c .before .before .before .before .before .before .args .f)) (told (c .before .before)))
 
 returns-2 : tie.Need-returns-2
-returns-2 c = ap Refused (c .refuse .ensures) ∙ (rw (c .before .before .a .given .1) at (ap (answered (c .before .before .before .before .before .before .before .before .args .f)) (told (c .before .before .before .before))))
+returns-2 c = ap Refused (c .refuse-at .ensures) ∙ (rw (c .before .before .a .given .1) at (ap (answered (c .before .before .before .before .before .before .before .before .args .f)) (told (c .before .before .before .before))))
 
 returns-3 : tie.Need-returns-3
-returns-3 c = ap Refused (c .refuse2 .ensures) ∙ (rw (c .before .before .a2 .given .1) at (ap (answered (c .before .before .before .before .before .before .before .before .args .f)) (told (c .before .before .before .before))))
+returns-3 c = ap Refused (c .refuse-at2 .ensures) ∙ (rw (c .before .before .a2 .given .1) at (ap (answered (c .before .before .before .before .before .before .before .before .args .f)) (told (c .before .before .before .before))))
 
 returns-4 : tie.Need-returns-4
-returns-4 c = ap Refused (c .refuse3 .ensures) ∙ (rw (c .before .before .a3 .given .1) at (ap (answered (c .before .before .before .before .before .before .before .before .args .f)) (told (c .before .before .before .before))))
+returns-4 c = ap Refused (c .refuse .ensures) ∙ (rw (c .before .before .a3 .given .1) at (ap (answered (c .before .before .before .before .before .before .before .before .args .f)) (told (c .before .before .before .before))))
 
 pub check-font-table-spec : {M : Type 1} → statement M
 check-font-table-spec =
@@ -91,14 +91,14 @@ check-font-table-spec =
     check-table-requires
     enum-told
     enum-known-a
+    add-refuse-at
+    refuse-at-requires
+    enum-known-a-2
+    add-refuse-at-2
+    refuse-at-requires-2
+    enum-known-a-3
     add-refuse
     refuse-requires
-    enum-known-a-2
-    add-refuse-2
-    refuse-requires-2
-    enum-known-a-3
-    add-refuse-3
-    refuse-requires-3
     returns
     returns-2
     returns-3

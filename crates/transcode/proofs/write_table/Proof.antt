@@ -1,5 +1,5 @@
 -- `transcode::write_table` meets its contract: at each turn the items written so far stand in front, and those from the place on are left. Assumes nothing.
-use Rattle.transcode.proofs.Turns.{value-more, value-carried, start-more, end-more, any-glyph, value-bytes, start-bytes, end-bytes, cut-bytes, bad-bytes, past-bytes, recoded-from, length-from}
+use Rattle.transcode.proofs.Turns.{value-more, value-carried, start-more, end-more, value-bytes, start-bytes, end-bytes, cut-bytes, bad-bytes, past-bytes, recoded-from, length-from}
 use Rattle.transcode.specs.declared.Measured.the-variants.{Length}
 use Rattle.transcode.specs.Reading.{recoded, measure}
 use Rattle.coding.proofs.Written.{carries-exactly, start-len, end-len}
@@ -18,7 +18,7 @@ use Rattle.transcode.proofs.write_table.Statement.{statement}
 use Rattle.transcode.proofs.write_table.Tie as tie
 
 abbrev Inv-loop : tie.InvT-loop
-Inv-loop from to tail out₀ n₀ at₀ out n at = (at ≤ length tail) × (n ≤ length (recoded from to tail)) × (length (recoded from to tail) ≤ length out₀) × (length out ≡ length out₀) × (out ≡ over (take n (recoded from to tail)) out₀) × (drop n (recoded from to tail) ≡ bytes to (stepItems false (stepsAt from tail at))) × (measure to 0 at n (stepsAt from tail at) ≡ Length (length (recoded from to tail)))
+Inv-loop from to tail out₀ n₀ at₀ out n at = (at ≤ length tail) × (n ≤ length (recoded from to tail)) × (length (recoded from to tail) ≤ length out₀) × (length out ≡ length out₀) × (out ≡ over (take n (recoded from to tail)) out₀) × (drop n (recoded from to tail) ≡ bytes to (stepItems false (stepsAt from tail at))) × (measure to at n (stepsAt from tail at) ≡ Length (length (recoded from to tail)))
 
 abbrev μ-loop : tie.MeasureT-loop
 μ-loop from to tail out₀ n₀ at₀ out n at = length tail - at
@@ -42,7 +42,7 @@ part-put-value-end : tie.Need-part-put-value-end Inv-loop μ-loop
 part-put-value-end c = search needs
 
 put-value-requires : tie.Need-put-value-requires Inv-loop μ-loop
-put-value-requires c κs = let w = rw (c .before .before .t .given .1) at (c .before .before .before .before .step-at .ensures .1) in let d = c .before .before .before .before .before .before .loop .inv .5 ∙ value-bytes _ _ _ _ _ (w .2) in let r = turn-room (recoded (c .before .before .before .before .before .before .before .before .before .args .from) (c .before .before .before .before .before .before .before .before .before .args .to) (c .before .before .before .before .before .before .before .before .before .args .tail .now)) (valueBytes (c .before .before .before .before .before .before .before .before .before .args .to) (c .before .before .t .given .0 .0)) (bytes (c .before .before .before .before .before .before .before .before .before .args .to) (stepItems false (stepsAt (c .before .before .before .before .before .before .before .before .before .args .from) (c .before .before .before .before .before .before .before .before .before .args .tail .now) (c .before .before .t .given .0 .1 .0)))) (c .before .before .before .before .before .before .loop .n) (c .before .before .before .before .before .before .loop .inv .1) d in (carries-exactly _ _ .0 (value-carried _ _ _ _ _ _ _ _ _ (w .2) (c .before .before .before .before .before .before .loop .inv .6)), omega arith)
+put-value-requires c κs = let w = rw (c .before .before .t .given .1) at (c .before .before .before .before .step-at .ensures .1) in let d = c .before .before .before .before .before .before .loop .inv .5 ∙ value-bytes _ _ _ _ _ (w .2) in let r = turn-room (recoded (c .before .before .before .before .before .before .before .before .before .args .from) (c .before .before .before .before .before .before .before .before .before .args .to) (c .before .before .before .before .before .before .before .before .before .args .tail .now)) (valueBytes (c .before .before .before .before .before .before .before .before .before .args .to) (c .before .before .t .given .0 .0)) (bytes (c .before .before .before .before .before .before .before .before .before .args .to) (stepItems false (stepsAt (c .before .before .before .before .before .before .before .before .before .args .from) (c .before .before .before .before .before .before .before .before .before .args .tail .now) (c .before .before .t .given .0 .1 .0)))) (c .before .before .before .before .before .before .loop .n) (c .before .before .before .before .before .before .loop .inv .1) d in (carries-exactly _ _ .0 (value-carried _ _ _ _ _ _ _ _ (w .2) (c .before .before .before .before .before .before .loop .inv .6)), omega arith)
 
 add-n : tie.Need-add-n Inv-loop μ-loop
 add-n c = let w = rw (c .before .before .before .before .before .t .given .1) at (c .before .before .before .before .before .before .before .step-at .ensures .1) in let d = c .before .before .before .before .before .before .before .before .before .loop .inv .5 ∙ value-bytes _ _ _ _ _ (w .2) in let r = turn-room (recoded (c .before .before .before .before .before .before .before .before .before .before .before .before .args .from) (c .before .before .before .before .before .before .before .before .before .before .before .before .args .to) (c .before .before .before .before .before .before .before .before .before .before .before .before .args .tail .now)) (valueBytes (c .before .before .before .before .before .before .before .before .before .before .before .before .args .to) (c .before .before .before .before .before .t .given .0 .0)) (bytes (c .before .before .before .before .before .before .before .before .before .before .before .before .args .to) (stepItems false (stepsAt (c .before .before .before .before .before .before .before .before .before .before .before .before .args .from) (c .before .before .before .before .before .before .before .before .before .before .before .before .args .tail .now) (c .before .before .before .before .before .t .given .0 .1 .0)))) (c .before .before .before .before .before .before .before .before .before .loop .n) (c .before .before .before .before .before .before .before .before .before .loop .inv .1) d in omega (arith, c .before .before .put-value .ensures .0)
@@ -58,7 +58,7 @@ loop-again c = let w = rw (c .before .before .before .before .before .t .given .
   turn-length (recoded (c .before .before .before .before .before .before .before .before .before .before .before .before .args .from) (c .before .before .before .before .before .before .before .before .before .before .before .before .args .to) (c .before .before .before .before .before .before .before .before .before .before .before .before .args .tail .now)) (valueBytes (c .before .before .before .before .before .before .before .before .before .before .before .before .args .to) (c .before .before .before .before .before .t .given .0 .0)) (bytes (c .before .before .before .before .before .before .before .before .before .before .before .before .args .to) (stepItems false (stepsAt (c .before .before .before .before .before .before .before .before .before .before .before .before .args .from) (c .before .before .before .before .before .before .before .before .before .before .before .before .args .tail .now) (c .before .before .before .before .before .t .given .0 .1 .0)))) (c .before .before .before .before .before .before .before .before .before .before .before .before .args .out .now) (c .before .before .before .before .before .before .before .before .before .loop .out) _ (c .before .before .before .before .before .before .before .before .before .loop .n) _ (c .before .before .before .before .before .before .before .before .before .loop .inv .1) d (c .before .before .put-value .ensures .0) (c .before .before .before .before .before .before .before .before .before .loop .inv .2) (c .before .before .before .before .before .before .before .before .before .loop .inv .4) (c .before .before .put-value .ensures .1),
   turn-over (recoded (c .before .before .before .before .before .before .before .before .before .before .before .before .args .from) (c .before .before .before .before .before .before .before .before .before .before .before .before .args .to) (c .before .before .before .before .before .before .before .before .before .before .before .before .args .tail .now)) (valueBytes (c .before .before .before .before .before .before .before .before .before .before .before .before .args .to) (c .before .before .before .before .before .t .given .0 .0)) (bytes (c .before .before .before .before .before .before .before .before .before .before .before .before .args .to) (stepItems false (stepsAt (c .before .before .before .before .before .before .before .before .before .before .before .before .args .from) (c .before .before .before .before .before .before .before .before .before .before .before .before .args .tail .now) (c .before .before .before .before .before .t .given .0 .1 .0)))) (c .before .before .before .before .before .before .before .before .before .before .before .before .args .out .now) (c .before .before .before .before .before .before .before .before .before .loop .out) _ (c .before .before .before .before .before .before .before .before .before .loop .n) _ (c .before .before .before .before .before .before .before .before .before .loop .inv .1) d (c .before .before .put-value .ensures .0) (c .before .before .before .before .before .before .before .before .before .loop .inv .4) (c .before .before .put-value .ensures .1),
   turn-left (recoded (c .before .before .before .before .before .before .before .before .before .before .before .before .args .from) (c .before .before .before .before .before .before .before .before .before .before .before .before .args .to) (c .before .before .before .before .before .before .before .before .before .before .before .before .args .tail .now)) (valueBytes (c .before .before .before .before .before .before .before .before .before .before .before .before .args .to) (c .before .before .before .before .before .t .given .0 .0)) (bytes (c .before .before .before .before .before .before .before .before .before .before .before .before .args .to) (stepItems false (stepsAt (c .before .before .before .before .before .before .before .before .before .before .before .before .args .from) (c .before .before .before .before .before .before .before .before .before .before .before .before .args .tail .now) (c .before .before .before .before .before .t .given .0 .1 .0)))) (c .before .before .before .before .before .before .before .before .before .before .before .before .args .out .now) (c .before .before .before .before .before .before .before .before .before .loop .out) (c .before .before .before .before .before .before .before .before .before .before .before .before .args .out .now) (c .before .before .before .before .before .before .before .before .before .loop .n) _ (c .before .before .before .before .before .before .before .before .before .loop .inv .1) d (c .before .before .put-value .ensures .0),
-  sym (value-more _ _ _ _ _ _ _ _ _ (w .2) (value-carried _ _ _ _ _ _ _ _ _ (w .2) (c .before .before .before .before .before .before .before .before .before .loop .inv .6)) (c .before .before .put-value .ensures .0)) ∙ c .before .before .before .before .before .before .before .before .before .loop .inv .6,
+  sym (value-more _ _ _ _ _ _ _ _ (w .2) (value-carried _ _ _ _ _ _ _ _ (w .2) (c .before .before .before .before .before .before .before .before .before .loop .inv .6)) (c .before .before .put-value .ensures .0)) ∙ c .before .before .before .before .before .before .before .before .before .loop .inv .6,
 )
 
 enum-known-t-2 : tie.Need-enum-known-t-2 Inv-loop μ-loop
@@ -90,7 +90,7 @@ loop-again-2 c = let w = rw (c .before .before .before .before .before .t2 .give
   turn-length (recoded (c .before .before .before .before .before .before .before .before .before .before .before .before .args .from) (c .before .before .before .before .before .before .before .before .before .before .before .before .args .to) (c .before .before .before .before .before .before .before .before .before .before .before .before .args .tail .now)) (startBytes (c .before .before .before .before .before .before .before .before .before .before .before .before .args .to)) (bytes (c .before .before .before .before .before .before .before .before .before .before .before .before .args .to) (stepItems false (stepsAt (c .before .before .before .before .before .before .before .before .before .before .before .before .args .from) (c .before .before .before .before .before .before .before .before .before .before .before .before .args .tail .now) (c .before .before .before .before .before .t2 .given .0 .0)))) (c .before .before .before .before .before .before .before .before .before .before .before .before .args .out .now) (c .before .before .before .before .before .before .before .before .before .loop .out) _ (c .before .before .before .before .before .before .before .before .before .loop .n) _ (c .before .before .before .before .before .before .before .before .before .loop .inv .1) d (c .before .before .put-start .ensures .0) (c .before .before .before .before .before .before .before .before .before .loop .inv .2) (c .before .before .before .before .before .before .before .before .before .loop .inv .4) (c .before .before .put-start .ensures .1),
   turn-over (recoded (c .before .before .before .before .before .before .before .before .before .before .before .before .args .from) (c .before .before .before .before .before .before .before .before .before .before .before .before .args .to) (c .before .before .before .before .before .before .before .before .before .before .before .before .args .tail .now)) (startBytes (c .before .before .before .before .before .before .before .before .before .before .before .before .args .to)) (bytes (c .before .before .before .before .before .before .before .before .before .before .before .before .args .to) (stepItems false (stepsAt (c .before .before .before .before .before .before .before .before .before .before .before .before .args .from) (c .before .before .before .before .before .before .before .before .before .before .before .before .args .tail .now) (c .before .before .before .before .before .t2 .given .0 .0)))) (c .before .before .before .before .before .before .before .before .before .before .before .before .args .out .now) (c .before .before .before .before .before .before .before .before .before .loop .out) _ (c .before .before .before .before .before .before .before .before .before .loop .n) _ (c .before .before .before .before .before .before .before .before .before .loop .inv .1) d (c .before .before .put-start .ensures .0) (c .before .before .before .before .before .before .before .before .before .loop .inv .4) (c .before .before .put-start .ensures .1),
   turn-left (recoded (c .before .before .before .before .before .before .before .before .before .before .before .before .args .from) (c .before .before .before .before .before .before .before .before .before .before .before .before .args .to) (c .before .before .before .before .before .before .before .before .before .before .before .before .args .tail .now)) (startBytes (c .before .before .before .before .before .before .before .before .before .before .before .before .args .to)) (bytes (c .before .before .before .before .before .before .before .before .before .before .before .before .args .to) (stepItems false (stepsAt (c .before .before .before .before .before .before .before .before .before .before .before .before .args .from) (c .before .before .before .before .before .before .before .before .before .before .before .before .args .tail .now) (c .before .before .before .before .before .t2 .given .0 .0)))) (c .before .before .before .before .before .before .before .before .before .before .before .before .args .out .now) (c .before .before .before .before .before .before .before .before .before .loop .out) (c .before .before .before .before .before .before .before .before .before .before .before .before .args .out .now) (c .before .before .before .before .before .before .before .before .before .loop .n) _ (c .before .before .before .before .before .before .before .before .before .loop .inv .1) d (c .before .before .put-start .ensures .0),
-  sym (start-more _ _ _ _ _ _ _ _ (w .2) ((c .before .before .put-start .ensures .0) ∙ sym (start-len _))) ∙ c .before .before .before .before .before .before .before .before .before .loop .inv .6,
+  sym (start-more _ _ _ _ _ _ _ (w .2) ((c .before .before .put-start .ensures .0) ∙ sym (start-len _))) ∙ c .before .before .before .before .before .before .before .before .before .loop .inv .6,
 )
 
 enum-known-t-3 : tie.Need-enum-known-t-3 Inv-loop μ-loop
@@ -122,7 +122,7 @@ loop-again-3 c = let w = rw (c .before .before .before .before .before .t3 .give
   turn-length (recoded (c .before .before .before .before .before .before .before .before .before .before .before .before .args .from) (c .before .before .before .before .before .before .before .before .before .before .before .before .args .to) (c .before .before .before .before .before .before .before .before .before .before .before .before .args .tail .now)) (endBytes (c .before .before .before .before .before .before .before .before .before .before .before .before .args .to)) (bytes (c .before .before .before .before .before .before .before .before .before .before .before .before .args .to) (stepItems false (stepsAt (c .before .before .before .before .before .before .before .before .before .before .before .before .args .from) (c .before .before .before .before .before .before .before .before .before .before .before .before .args .tail .now) (c .before .before .before .before .before .t3 .given .0 .0)))) (c .before .before .before .before .before .before .before .before .before .before .before .before .args .out .now) (c .before .before .before .before .before .before .before .before .before .loop .out) _ (c .before .before .before .before .before .before .before .before .before .loop .n) _ (c .before .before .before .before .before .before .before .before .before .loop .inv .1) d (c .before .before .put-end .ensures .0) (c .before .before .before .before .before .before .before .before .before .loop .inv .2) (c .before .before .before .before .before .before .before .before .before .loop .inv .4) (c .before .before .put-end .ensures .1),
   turn-over (recoded (c .before .before .before .before .before .before .before .before .before .before .before .before .args .from) (c .before .before .before .before .before .before .before .before .before .before .before .before .args .to) (c .before .before .before .before .before .before .before .before .before .before .before .before .args .tail .now)) (endBytes (c .before .before .before .before .before .before .before .before .before .before .before .before .args .to)) (bytes (c .before .before .before .before .before .before .before .before .before .before .before .before .args .to) (stepItems false (stepsAt (c .before .before .before .before .before .before .before .before .before .before .before .before .args .from) (c .before .before .before .before .before .before .before .before .before .before .before .before .args .tail .now) (c .before .before .before .before .before .t3 .given .0 .0)))) (c .before .before .before .before .before .before .before .before .before .before .before .before .args .out .now) (c .before .before .before .before .before .before .before .before .before .loop .out) _ (c .before .before .before .before .before .before .before .before .before .loop .n) _ (c .before .before .before .before .before .before .before .before .before .loop .inv .1) d (c .before .before .put-end .ensures .0) (c .before .before .before .before .before .before .before .before .before .loop .inv .4) (c .before .before .put-end .ensures .1),
   turn-left (recoded (c .before .before .before .before .before .before .before .before .before .before .before .before .args .from) (c .before .before .before .before .before .before .before .before .before .before .before .before .args .to) (c .before .before .before .before .before .before .before .before .before .before .before .before .args .tail .now)) (endBytes (c .before .before .before .before .before .before .before .before .before .before .before .before .args .to)) (bytes (c .before .before .before .before .before .before .before .before .before .before .before .before .args .to) (stepItems false (stepsAt (c .before .before .before .before .before .before .before .before .before .before .before .before .args .from) (c .before .before .before .before .before .before .before .before .before .before .before .before .args .tail .now) (c .before .before .before .before .before .t3 .given .0 .0)))) (c .before .before .before .before .before .before .before .before .before .before .before .before .args .out .now) (c .before .before .before .before .before .before .before .before .before .loop .out) (c .before .before .before .before .before .before .before .before .before .before .before .before .args .out .now) (c .before .before .before .before .before .before .before .before .before .loop .n) _ (c .before .before .before .before .before .before .before .before .before .loop .inv .1) d (c .before .before .put-end .ensures .0),
-  any-glyph _ _ 0 _ _ _ _ (sym (end-more _ _ _ _ _ _ _ _ (w .2) ((c .before .before .put-end .ensures .0) ∙ sym (end-len _))) ∙ c .before .before .before .before .before .before .before .before .before .loop .inv .6),
+  sym (end-more _ _ _ _ _ _ _ (w .2) ((c .before .before .put-end .ensures .0) ∙ sym (end-len _))) ∙ c .before .before .before .before .before .before .before .before .before .loop .inv .6,
 )
 
 enum-told : tie.Need-enum-told Inv-loop μ-loop
