@@ -9,8 +9,8 @@ ghost use Rattle.transcode.specs.declared.Measured.the-variants.{Length}
 use coding::Coding;
 use table::Step;
 
-// How many bytes a table's items are in another coding, or the place of the first value that the coding can't carry, and how many
-// descriptions are complete before it, which is the glyph whose description has it.
+// How many bytes a table's items are in another coding, or the place of the first value that the coding can't carry. Which glyph lists that
+// value is left to the caller.
 pub enum Measured {
     Length(usize),
     Uncarried(usize),
