@@ -54,6 +54,7 @@ FIGURE(pixel, lav_pixel(file, length, 0, 0, 0).number)
 FIGURE(metrics, lav_metrics ? (size_t)lav_metrics(file, length, 0).right : 0)
 FIGURE(item, lav_item(file, length, 0, 0).value)
 FIGURE(sequence, lav_find_sequence(file, length, &last, 1).number)
+FIGURE(alike, lav_find_sequence(file, length, (const uint32_t[]){0x41, 0x10FFF0}, 2).number)
 __attribute__((noinline)) void bench_copy(void) { memcpy(out, file, length); kept += out[length - 1]; }
 __attribute__((noinline)) void bench_bitmaps(void) { memcpy(out, file + bitmaps, bitmap_bytes); kept += out[0]; }
 __attribute__((noinline)) void bench_table(void) { memcpy(out, file + table, length - table); kept += out[0]; }
@@ -127,7 +128,7 @@ static const struct { const char *name; void (*call)(void); } FIGURES[] = {
     {"psf1_to_psf2", bench_psf1_to_psf2}, {"psf2_to_psf1", bench_psf2_to_psf1},
     {"psf2_to_vfont2", bench_psf2_to_vfont2}, {"vfont2_to_psf2", bench_vfont2_to_psf2},
     {"glyph", bench_glyph}, {"row", bench_row}, {"pixel", bench_pixel}, {"metrics", bench_metrics},
-    {"item", bench_item}, {"find_sequence", bench_sequence}, {"find_value, glyph 0", bench_first},
+    {"item", bench_item}, {"find_sequence", bench_sequence}, {"find_sequence, alike", bench_alike}, {"find_value, glyph 0", bench_first},
     {"add_mapping, glyph 0", bench_add_first}, {"drop_mapping, glyph 0", bench_drop_first},
     {"add_mapping, one byte", bench_add_short}, {"drop_mapping, one byte", bench_drop_short},
     {"add_mapping, last glyph", bench_add_last}, {"drop_mapping, last glyph", bench_drop_last},

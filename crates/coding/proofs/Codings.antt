@@ -1,4 +1,5 @@
 -- Both codings keep the laws of a coding; so whatever is proved from those laws holds in both.
+use mathlib.Core.Path.{_≡_}
 use mathlib.Core.List.{List}
 use Prim.Native.Nat.{ℕ, _≤_}
 use native.Mathlib.Omega.{arith}
@@ -11,13 +12,14 @@ use Rattle.utf8.proofs.Sizes as utf8-sizes
 use Rattle.utf8.proofs.Coding.{coded-utf8}
 use Rattle.utf8.proofs.Stops.{stopping-utf8}
 use Rattle.utf8.proofs.Growing.{growing-utf8}
+use Rattle.utf8.proofs.Plain.{key-byte}
 use Rattle.ucs2.proofs.Sizes as ucs2-sizes
 use Rattle.ucs2.proofs.Coding.{coded-ucs2}
 use Rattle.ucs2.proofs.Stops.{stopping-ucs2}
 use Rattle.ucs2.proofs.Growing.{growing-ucs2}
 use Rattle.coding.specs.declared.Coding.{Coding}
 use Rattle.coding.specs.declared.Coding.the-variants.{Utf8, Ucs2}
-use Rattle.coding.specs.Reading.{readToken, markLen}
+use Rattle.coding.specs.Reading.{readToken, markLen, keyOf}
 use Rattle.coding.specs.Meaning.{valueOf, valueBytes, startBytes, endBytes}
 
 -- what is written is read, and what is read was written
@@ -48,3 +50,9 @@ pub mark-small : (c : Coding) → (1 ≤ markLen c) × (markLen c ≤ 2)
 unfolding markLen
 mark-small Utf8 = omega arith
 mark-small Ucs2 = omega arith
+
+-- 10000 is no value's key
+pub no-key : (c : Coding) (v : ℕ) → keyOf c v ≡ 0x10000 → ⊥
+unfolding keyOf
+no-key Utf8 v e = omega (arith, key-byte v)
+no-key Ucs2 v e = omega arith

@@ -3,19 +3,19 @@ use mathlib.Core.Path.{_≡_, refl, sym, _∙_}
 use mathlib.Core.Bool.{true, false}
 use mathlib.Core.Logic.{_↔_}
 use mathlib.Core.List.{List, [], _∷_}
-use Prim.Native.Nat.{ℕ, _≤_}
+use Prim.Native.Nat.{ℕ, _%_, _≤_}
 use native.Mathlib.Omega.{arith}
 use lib.ListN.{length}
 use lib.Seq.{sets}
 use Rattle.base.specs.Reading.{over}
 use Rattle.base.proofs.Over.{stores}
 use Rattle.utf8.specs.Meaning.{Scalar, utf8Bytes}
-use Rattle.utf8.specs.Reading.{isUtf8Value}
+use Rattle.utf8.specs.Reading.{isUtf8Value, utf8Key}
 use Rattle.ucs2.specs.Meaning.{Word, wordBytes}
 use Rattle.ucs2.specs.Reading.{isWord}
 use Rattle.utf8.proofs.Written.{utf8-value-exactly}
 use Rattle.ucs2.proofs.Words.{word-exactly}
-use Rattle.coding.specs.Reading.{markLen, carriesOf}
+use Rattle.coding.specs.Reading.{markLen, carriesOf, keyOf}
 use Rattle.coding.specs.Meaning.{valueOf, valueBytes, startBytes, endBytes}
 use Rattle.coding.specs.declared.Coding.{Coding}
 use Rattle.coding.specs.declared.Coding.the-variants.{Utf8, Ucs2}
@@ -53,6 +53,14 @@ module _ (c : Coding) where
   pub ucs2-carries : (v : ℕ) → c ≡ Ucs2 → isWord v ≡ carriesOf c v
   unfolding carriesOf
   ucs2-carries v e = rw e
+
+  pub utf8-key : (v : ℕ) → c ≡ Utf8 → utf8Key v ≡ keyOf c v
+  unfolding keyOf
+  utf8-key v e = rw e
+
+  pub ucs2-key : (v : ℕ) → c ≡ Ucs2 → v % 0x10000 ≡ keyOf c v
+  unfolding keyOf
+  ucs2-key v e = rw e
 
   pub utf8-value : (v : ℕ) → c ≡ Utf8 → utf8Bytes v ≡ valueBytes c v
   unfolding valueBytes

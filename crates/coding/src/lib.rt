@@ -3,7 +3,7 @@ ghost use mathlib.Core.Path.{_≡_};
 ghost use Prim.Native.Nat.{_≤_};
 ghost use lib.ListN.{length};
 ghost use Rattle.base.specs.Reading.{over};
-ghost use Rattle.coding.specs.Reading.{markLen, carriesOf};
+ghost use Rattle.coding.specs.Reading.{markLen, carriesOf, keyOf};
 ghost use Rattle.coding.specs.Meaning.{valueOf, valueBytes, startBytes, endBytes};
 
 // PSF2 and vfont2 write values in UTF-8, PSF1 in two bytes.
@@ -19,6 +19,20 @@ pub fn mark_len(c: Coding) -> usize
     match c {
         Coding::Utf8 => 1,
         Coding::Ucs2 => 2,
+    }
+}
+
+// No value's key.
+pub const NO_KEY: u32 = 0x10000;
+
+// A value's key, by which a loop over a table tells most values from one that is looked for without working them out: in UTF-8 the last byte, in
+// two bytes the number itself.
+pub fn key_of(c: Coding, v: u32) -> u32
+    ensures { λ r. ⌜ r ≡ keyOf c v ⌝ }
+{
+    match c {
+        Coding::Utf8 => utf8::key_of(v),
+        Coding::Ucs2 => v % 0x10000,
     }
 }
 

@@ -123,7 +123,7 @@ pub fn opened(file: &[u8], k: Kind) -> Checked
     ensures equal { λ r. ⌜ r ≡ openedOf k (now (file .entry)) ⌝ }
     ensures bounded { λ r. ⌜ OpenedPlaced k (now (file .entry)) r ⌝ }
 {
-    let a = stages::check(file);
+    let a = stages::check(file, true);
     match a {
         Checked::Sound(f) => {
             let kind = f.kind;

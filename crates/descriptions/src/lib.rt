@@ -47,7 +47,7 @@ fn description_end(c: Coding, tail: &[u8], start: usize) -> usize
 {
     let mut at = start;
     while at < tail.len() {
-        let t = table::next_step(c, tail, at);
+        let t = table::step_at(c, tail, at);
         let next = next_of(at, t);
         if code_of(t) == 0 {
             return next;
@@ -74,8 +74,8 @@ pub fn compare(c: Coding, s: &[u8], from: usize, d: Coding, t: &[u8], start: usi
                 second: b,
             };
         }
-        let x = table::next_step(c, s, a);
-        let y = table::next_step(d, t, b);
+        let x = table::step_at(c, s, a);
+        let y = table::step_at(d, t, b);
         let k = code_of(x);
         if k != code_of(y) {
             return Ends {

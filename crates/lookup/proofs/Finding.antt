@@ -124,7 +124,7 @@ whole-exactly (w ∷ ws) (u ∷ us) = go (eqb w u) (whole-exactly ws us)
 
 module _ (vs : List ℕ) where
   -- where nothing is alike, what is still to come does not matter
-  no-matter : (g : ℕ) (ws xs : List ℕ) (is : List Item) → findSequenceFrom vs g false ws is ≡ findSequenceFrom vs g false xs is
+  pub no-matter : (g : ℕ) (ws xs : List ℕ) (is : List Item) → findSequenceFrom vs g false ws is ≡ findSequenceFrom vs g false xs is
   unfolding findSequenceFrom goesOn isWhole
   no-matter g ws xs [] = refl
   no-matter g ws xs (Single v ∷ is) = no-matter g ws xs is

@@ -5,3 +5,5 @@ pub mod Turns
 pub mod Searching
 pub mod Walking
 pub mod Finding
+pub mod Looking
+pub mod Passing

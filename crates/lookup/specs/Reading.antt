@@ -6,10 +6,19 @@ use mathlib.Core.Bool.{Bool, true, false}
 use lib.Dec.{eqb}
 use Rattle.base.specs.Meaning.{pick}
 use Rattle.table.specs.declared.Item.the-variants.{Single, Start, Value, End}
+use lib.ListN.{getD}
+use Rattle.table.specs.declared.Step.{Step}
+use Rattle.table.specs.declared.Step.the-variants.{Value as StepValue, Start as StepStart, End as StepEnd, Cut as StepCut, Bad as StepBad}
+use Rattle.table.specs.declared.TableAnswer.{TableAnswer}
+use Rattle.table.specs.declared.TableAnswer.the-variants.{Complete, Cut as TableCut, Bad as TableBad, Trailing}
+use Rattle.table.specs.Reading.{stepItems}
+use Rattle.table.specs.Skipping.{Phase, singles, opened, filled, isOpened, isInside}
 use Rattle.lookup.specs.declared.Walked.{Walked}
 use Rattle.lookup.specs.declared.Walked.the-variants.{Found as Got, Nothing as NoItem}
 use Rattle.lookup.specs.declared.Found.{Found}
 use Rattle.lookup.specs.declared.Found.the-variants.{At, Nothing}
+use Rattle.lookup.specs.declared.Sought.{Sought}
+use Rattle.lookup.specs.declared.Sought.the-variants.{At as SoughtAt, Nothing as SoughtNothing, Cut as SoughtCut, Bad as SoughtBad, Trailing as SoughtTrailing}
 
 -- item k of description g
 unfoldable pub itemAt : ℕ → ℕ → List Item → Walked
@@ -61,3 +70,55 @@ findSequenceFrom vs g alike ws (End ∷ is) = pick (isWhole alike ws) (At g) (fi
 -- the first description that lists the sequence vs
 abbrev pub findSequence : List ℕ → List Item → Found
 findSequence vs is = findSequenceFrom vs 0 false vs is
+
+-- A lookup in one pass with the check.
+
+-- what is asked for: the first of vs as a single, or the sequence vs
+abbrev pub findAsked : Bool → List ℕ → List Item → Found
+findAsked false vs is = findValue (getD vs 0 0) 0 is
+findAsked true vs is = findSequence vs is
+
+-- what was found, where the table is complete; else why it is refused
+abbrev pub foundAs : Found → Sought
+foundAs (At g) = SoughtAt g
+foundAs Nothing = SoughtNothing
+
+abbrev pub soughtOf : Found → TableAnswer → Sought
+soughtOf w Complete = foundAs w
+soughtOf w (TableCut k g) = SoughtCut k g
+soughtOf w (TableBad k g) = SoughtBad k g
+soughtOf w (Trailing k) = SoughtTrailing k
+
+-- its place in the tail
+abbrev pub soughtPlace : Sought → ℕ
+soughtPlace (SoughtAt g) = 0
+soughtPlace SoughtNothing = 0
+soughtPlace (SoughtCut k g) = k
+soughtPlace (SoughtBad k g) = k
+soughtPlace (SoughtTrailing k) = k
+
+-- what is asked for, from a phase of a description on, counted from g: just after a start mark the sequence that is read is like vs so far
+abbrev pub findFrom : Bool → List ℕ → ℕ → Phase → List Step → Found
+findFrom false vs g p xs = findValue (getD vs 0 0) g (stepItems (isInside p) xs)
+findFrom true vs g p xs = findSequenceFrom vs g (isOpened p) vs (stepItems (isInside p) xs)
+
+-- whether steps are exactly the values vs, and then a mark
+unfoldable pub sequenceIn : List ℕ → List Step → Bool
+sequenceIn vs [] = false
+sequenceIn [] (StepValue w next ∷ xs) = false
+sequenceIn (v ∷ vs) (StepValue w next ∷ xs) = pick (eqb v w) (sequenceIn vs xs) false
+sequenceIn [] (StepStart next ∷ xs) = true
+sequenceIn (v ∷ vs) (StepStart next ∷ xs) = false
+sequenceIn [] (StepEnd next ∷ xs) = true
+sequenceIn (v ∷ vs) (StepEnd next ∷ xs) = false
+sequenceIn vs (StepCut ∷ xs) = false
+sequenceIn vs (StepBad k ∷ xs) = false
+
+-- whether what is asked for begins with the value w, the first of the steps xs, in a phase
+abbrev pub beginsAt : Bool → List ℕ → Phase → ℕ → List Step → Bool
+beginsAt false vs singles w xs = eqb w (getD vs 0 0)
+beginsAt false vs opened w xs = false
+beginsAt false vs filled w xs = false
+beginsAt true vs singles w xs = false
+beginsAt true vs opened w xs = sequenceIn vs xs
+beginsAt true vs filled w xs = false

@@ -1,12 +1,16 @@
-// Inner layer: a table's items by number, and lookups of values and sequences, each one walk over the tail.
-// Definitions: specs/Meaning.antt (what is listed), specs/Reading.antt (what is answered). They hold on any tail, as far as it can be read.
+// Inner layer: a table's items by number, by a walk over the tail as far as it can be read; and lookups of values and sequences, each one pass that
+// checks the table too. Definitions: specs/Meaning.antt (what is listed), specs/Reading.antt (what is answered).
 ghost use mathlib.Core.Path.{_≡_};
-ghost use lib.ListN.{drop};
-ghost use Rattle.table.specs.Reading.{itemsIn};
-ghost use Rattle.lookup.specs.Reading.{itemAt, findValue, findSequence, goesOn, isWhole};
+ghost use Prim.Native.Nat.{_≤_};
+ghost use lib.ListN.{length};
+ghost use Rattle.table.specs.Reading.{itemsIn, stepsAt, tableOf};
+ghost use Rattle.table.specs.Skipping.{phaseOf, Stands};
+ghost use Rattle.lookup.specs.Reading.{itemAt, findValue, findSequence, sequenceIn, beginsAt, soughtOf, findAsked};
 use coding::Coding;
+use table::Cursor;
 use table::Item;
 use table::Step;
+use table::TableAnswer;
 
 // The item asked for, or Nothing where the glyph or the item is not there.
 pub enum Walked {
@@ -20,6 +24,15 @@ pub enum Found {
     Nothing,
 }
 
+// The same of a table that is complete; else why it is refused, as `TableAnswer` has it.
+pub enum Sought {
+    At(usize),
+    Nothing,
+    Cut(usize, usize),
+    Bad(usize, usize),
+    Trailing(usize),
+}
+
 // Item k of glyph g, counted from 0, in the order of the file.
 pub fn item_at(c: Coding, tail: &[u8], g: usize, k: usize) -> Walked
     ensures { λ r. ⌜ r ≡ itemAt g k (itemsIn c (now (tail .entry))) ⌝ }
@@ -29,7 +42,7 @@ pub fn item_at(c: Coding, tail: &[u8], g: usize, k: usize) -> Walked
     let mut inside = false;
     let mut at: usize = 0;
     while at < tail.len() {
-        let t = table::next_step(c, tail, at);
+        let t = table::step_at(c, tail, at);
         match t {
             Step::Value(v, next) => {
                 if glyphs == 0 {
@@ -68,103 +81,111 @@ pub fn item_at(c: Coding, tail: &[u8], g: usize, k: usize) -> Walked
     Walked::Nothing
 }
 
-// The lowest glyph that lists v as a single.
-pub fn find_value(c: Coding, tail: &[u8], v: u32) -> Found
-    ensures { λ r. ⌜ r ≡ findValue v 0 (itemsIn c (now (tail .entry))) ⌝ }
+// Whether from a place on stand exactly the values vs, and then a mark.
+fn sequence_at(c: Coding, tail: &[u8], start: usize, vs: &[u32]) -> bool
+    ensures { λ r. ⌜ r ≡ sequenceIn (now (vs .entry)) (stepsAt c (now (tail .entry)) start) ⌝ }
 {
-    let mut g: usize = 0;
-    let mut inside = false;
-    let mut at: usize = 0;
-    while at < tail.len() {
-        let t = table::next_step(c, tail, at);
-        match t {
-            Step::Value(w, next) => {
-                if !inside {
-                    if w == v {
-                        return Found::At(g);
-                    }
-                }
-                at = next;
-            }
-            Step::Start(next) => {
-                inside = true;
-                at = next;
-            }
-            Step::End(next) => {
-                inside = false;
-                g += 1;
-                at = next;
-            }
-            Step::Cut => return Found::Nothing,
-            Step::Bad(_) => return Found::Nothing,
-        }
-    }
-    Found::Nothing
-}
-
-// Whether the sequence that is read goes on like vs: it did up to place m, and v stands there.
-fn goes_on(alike: bool, vs: &[u32], m: usize, v: u32) -> bool
-    ensures { λ r. ⌜ r ≡ goesOn alike v (drop m (now (vs .entry))) ⌝ }
-{
-    if !alike {
-        return false;
-    }
-    if vs.len() <= m {
-        return false;
-    }
-    vs[m] == v
-}
-
-// Whether the sequence that was read is vs: it went on like vs, and nothing of vs is left at place m.
-fn is_whole(alike: bool, vs: &[u32], m: usize) -> bool
-    ensures { λ r. ⌜ r ≡ isWhole alike (drop m (now (vs .entry))) ⌝ }
-{
-    if !alike {
-        return false;
-    }
-    vs.len() <= m
-}
-
-// The lowest glyph that, after some start mark, lists exactly vs up to the next start or end mark.
-pub fn find_sequence(c: Coding, tail: &[u8], vs: &[u32]) -> Found
-    ensures { λ r. ⌜ r ≡ findSequence (now (vs .entry)) (itemsIn c (now (tail .entry))) ⌝ }
-{
-    let mut g: usize = 0;
-    let mut inside = false;
-    let mut alike = false;
     let mut m: usize = 0;
-    let mut at: usize = 0;
+    let mut at = start;
     while at < tail.len() {
-        let t = table::next_step(c, tail, at);
+        let t = table::step_at(c, tail, at);
         match t {
             Step::Value(v, next) => {
-                if inside {
-                    alike = goes_on(alike, vs, m, v);
-                    m += 1;
+                if vs.len() <= m {
+                    return false;
                 }
+                if vs[m] != v {
+                    return false;
+                }
+                m += 1;
                 at = next;
             }
-            Step::Start(next) => {
-                if is_whole(alike, vs, m) {
-                    return Found::At(g);
-                }
-                inside = true;
-                alike = true;
-                m = 0;
-                at = next;
-            }
-            Step::End(next) => {
-                if is_whole(alike, vs, m) {
-                    return Found::At(g);
-                }
-                inside = false;
-                alike = false;
-                g += 1;
-                at = next;
-            }
-            Step::Cut => return Found::Nothing,
-            Step::Bad(_) => return Found::Nothing,
+            Step::Start(_) => return vs.len() <= m,
+            Step::End(_) => return vs.len() <= m,
+            Step::Cut => return false,
+            Step::Bad(_) => return false,
         }
     }
-    Found::Nothing
+    false
+}
+
+// Whether what is asked for begins with the value w, where a walk stands: the first of vs as a single, or the sequence vs. Asks for some value, and
+// for a cursor within the table.
+fn begins(sequence: bool, vs: &[u32], c: Coding, tail: &[u8], p: Cursor, w: u32) -> bool
+    requires { ⌜ (1 ≤ length (now vs)) × Stands (now tail) p ⌝ }
+    ensures { λ r. ⌜ r ≡ beginsAt sequence (now (vs .entry)) (phaseOf (p .start) (p .at)) w (stepsAt c (now (tail .entry)) (p .at)) ⌝ }
+{
+    if sequence {
+        if p.start == p.at {
+            return sequence_at(c, tail, p.at, vs);
+        }
+        return false;
+    }
+    if p.start == table::NO_START {
+        return w == vs[0];
+    }
+    false
+}
+
+// What was found, where the table is complete; else why it is refused.
+fn sought_by(w: Found, a: TableAnswer) -> Sought
+    ensures { λ r. ⌜ r ≡ soughtOf w a ⌝ }
+{
+    match a {
+        TableAnswer::Complete => match w {
+            Found::At(g) => Sought::At(g),
+            Found::Nothing => Sought::Nothing,
+        },
+        TableAnswer::Cut(k, g) => Sought::Cut(k, g),
+        TableAnswer::Bad(k, g) => Sought::Bad(k, g),
+        TableAnswer::Trailing(k) => Sought::Trailing(k),
+    }
+}
+
+// Checks a table of n descriptions and looks for the first of vs as a single, or for the sequence vs, in one pass: it goes over what plainly stands
+// there, up to each value with the key of the first of vs. Asks for some value.
+fn look(c: Coding, tail: &[u8], n: usize, sequence: bool, vs: &[u32]) -> Sought
+    requires { ⌜ 1 ≤ length (now vs) ⌝ }
+    ensures { λ r. ⌜ r ≡ soughtOf (findAsked sequence (now (vs .entry)) (itemsIn c (now (tail .entry)))) (tableOf c n (now (tail .entry))) ⌝ }
+{
+    let key = coding::key_of(c, vs[0]);
+    let mut left = n;
+    let mut start: usize = table::NO_START;
+    let mut at: usize = 0;
+    while left != 0 {
+        let p = table::skip(c, &tail[..], key, table::cursor_at(at, left, start));
+        left = p.left;
+        start = p.start;
+        at = p.at;
+        if left == 0 {
+            return sought_by(Found::Nothing, table::ended(tail, at));
+        }
+        let Step::Value(w, next) = table::step_at(c, tail, at) else {
+            return sought_by(Found::Nothing, table::refused(c, tail, at, n - left));
+        };
+        if begins(sequence, vs, c, tail, p, w) {
+            return sought_by(
+                Found::At(n - left),
+                table::check_from(c, tail, n, table::cursor_at(next, left, start)),
+            );
+        }
+        at = next;
+    }
+    sought_by(Found::Nothing, table::ended(tail, at))
+}
+
+// The lowest glyph that lists v as a single, in a table of n descriptions; or why the table is refused.
+pub fn find_value(c: Coding, tail: &[u8], n: usize, v: u32) -> Sought
+    ensures { λ r. ⌜ r ≡ soughtOf (findValue v 0 (itemsIn c (now (tail .entry)))) (tableOf c n (now (tail .entry))) ⌝ }
+{
+    let vs = [v; 1];
+    look(c, tail, n, false, &vs)
+}
+
+// The lowest glyph that, after some start mark, lists exactly vs up to the next start or end mark; as above. Asks for some value.
+pub fn find_sequence(c: Coding, tail: &[u8], n: usize, vs: &[u32]) -> Sought
+    requires { ⌜ 1 ≤ length (now vs) ⌝ }
+    ensures { λ r. ⌜ r ≡ soughtOf (findSequence (now (vs .entry)) (itemsIn c (now (tail .entry)))) (tableOf c n (now (tail .entry))) ⌝ }
+{
+    look(c, tail, n, true, vs)
 }

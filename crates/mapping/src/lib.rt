@@ -25,7 +25,7 @@ fn description_start(c: Coding, tail: &[u8], g: usize) -> usize
         if left == 0 {
             return at;
         }
-        let t = table::next_step(c, tail, at);
+        let t = table::step_at(c, tail, at);
         match t {
             Step::Value(_, next) => at = next,
             Step::Start(next) => at = next,
@@ -48,7 +48,7 @@ fn find_single(c: Coding, tail: &[u8], start: usize, v: u32) -> Mapping
 {
     let mut at = start;
     while at < tail.len() {
-        let t = table::next_step(c, tail, at);
+        let t = table::step_at(c, tail, at);
         match t {
             Step::Value(w, next) => {
                 if w == v {

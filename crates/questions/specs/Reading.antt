@@ -1,19 +1,23 @@
 -- What the questions about a table answer on a sound font (document 01): "Lookups and walks: NO TABLE, then ASK, then UNMAPPED."
-use Prim.Native.Nat.{ℕ}
+use Prim.Native.Nat.{ℕ, _+_}
 use mathlib.Core.Bool.{Bool, true, false}
 use mathlib.Core.List.{List, [], _∷_}
 use lib.Dec.{ltb}
 use Rattle.base.specs.Meaning.{pick}
 use Rattle.base.specs.Reading.{when}
-use Rattle.refusal.specs.Meaning.{refusal}
-use Rattle.refusal.specs.declared.Reason.the-variants.{Ask, NoTable, Unmapped}
+use Rattle.refusal.specs.Meaning.{refusal, refusalAt}
+use Rattle.refusal.specs.declared.Reason.the-variants.{TableCut, TableBad, Trailing, Ask, NoTable, Unmapped}
 use Rattle.header.specs.declared.Font.{Font}
+use Rattle.header.specs.declared.Checked.{Checked}
+use Rattle.header.specs.declared.Checked.the-variants.{Sound, Refused}
 use Rattle.table.specs.declared.Item as I
 use Rattle.table.specs.Reading.{itemsIn}
 use Rattle.lookup.specs.declared.Walked.{Walked}
 use Rattle.lookup.specs.declared.Walked.the-variants.{Found as Got, Nothing as NoItem}
 use Rattle.lookup.specs.declared.Found as F
 use Rattle.lookup.specs.declared.Found.the-variants.{At as FoundAt, Nothing}
+use Rattle.lookup.specs.declared.Sought.{Sought}
+use Rattle.lookup.specs.declared.Sought.the-variants.{At as SoughtAt, Nothing as SoughtNothing, Cut as SoughtCut, Bad as SoughtBad, Trailing as SoughtTrailing}
 use Rattle.lookup.specs.Reading.{itemAt, findValue, findSequence}
 use Rattle.stages.specs.Meaning.{codingOf, tailOf}
 use Rattle.questions.specs.declared.Walk.{Walk}
@@ -55,3 +59,16 @@ askable (v ∷ vs) = pick (anyHigh (v ∷ vs)) false true
 -- the lowest glyph that lists the sequence vs
 abbrev pub sequenceOn : List ℕ → List ℕ → Font → Lookup
 sequenceOn s vs f = pick (f .table) (when (askable vs) (lookupOf (findSequence vs (fontItems s f))) (NoLookup (refusal Ask 0))) (NoLookup (refusal NoTable 0))
+
+-- an answer on a font whose tail passed, or the refusal of its tail
+abbrev pub afterTail : (Font → Lookup) → Checked → Lookup
+afterTail answer (Sound f) = answer f
+afterTail answer (Refused r) = NoLookup r
+
+-- what a lookup in one pass with the table's check says, places as offsets in a file whose table begins at e
+abbrev pub toldAt : ℕ → Sought → Lookup
+toldAt e (SoughtAt g) = Glyph g
+toldAt e SoughtNothing = NoLookup (refusal Unmapped 0)
+toldAt e (SoughtCut k g) = NoLookup (refusalAt TableCut (e + k) g)
+toldAt e (SoughtBad k g) = NoLookup (refusalAt TableBad (e + k) g)
+toldAt e (SoughtTrailing k) = NoLookup (refusal Trailing (e + k))

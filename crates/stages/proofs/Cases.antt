@@ -1,5 +1,5 @@
 -- The stages of the check one by one: what each is where it refuses or passes, and what is known of a font that passed.
-use mathlib.Core.Path.{_≡_, sym, _∙_, ap, subst}
+use mathlib.Core.Path.{_≡_, refl, sym, _∙_, ap, subst}
 use mathlib.Core.List.{List}
 use mathlib.Core.Bool.{Bool, true, false}
 use Prim.Native.Nat.{ℕ, _+_, _≤_, _<_}
@@ -102,8 +102,13 @@ module _ (s : List ℕ) where
   unfolding checkOf
   tail-after x e = rw e
 
+-- the check as far as it is asked for
+pub both-stages : (t : Bool) (x a b : Checked) → (t ≡ true → x ≡ a) → (t ≡ false → x ≡ b) → x ≡ pick t a b
+both-stages true x a b p q = p refl
+both-stages false x a b p q = q refl
+
 -- a stage that passes gives the font that it was given
-abbrev Gives : (Font → Checked) → Type 0
+abbrev pub Gives : (Font → Checked) → Type 0
 Gives next = (f g : Font) → next f ≡ Sound g → f ≡ g
 
 sound-same : (f g : Font) → Sound f ≡ Sound g → f ≡ g
@@ -134,7 +139,7 @@ entries-gives s f g e = go (f .kind) e
     go Psf2 e = sound-same f g e
     go Vfont2 e = scanned-gives f g (scanOf s (f .size) (f .entries) (f .count) 0 0 0) e
 
-tailed-gives : (s : List ℕ) → Gives (tailed s)
+pub tailed-gives : (s : List ℕ) → Gives (tailed s)
 unfolding tailed bareOf
 tailed-gives s f g e = go (f .table) e
   where

@@ -12,6 +12,7 @@ use refusal::Reason;
 use table::TableAnswer;
 use vfont2::Vfont2;
 ghost use mathlib.Core.Path.{_≡_};
+ghost use Rattle.base.specs.Meaning.{pick};
 ghost use Rattle.header.specs.declared.Kind.the-variants.{Vfont2 as vfont2};
 ghost use Rattle.header.specs.Reading.{kindOf, saysOf};
 ghost use Rattle.header.specs.Bounds.{Placed};
@@ -201,14 +202,20 @@ pub fn check_dispatched(file: &[u8]) -> Checked
     }
 }
 
-// Refusals 1 to 12, or what the font is, as above.
-pub fn check(file: &[u8]) -> Checked
-    ensures equal { λ r. ⌜ r ≡ checkOf (now (file .entry)) ⌝ }
+// Refusals 1 to 9, and where the tail is to be checked too 10 to 12; or what the font is, as above. One function for both, since a second caller of
+// `check_dispatched` would keep the compiler from putting that into the check (docs/DECISIONS.md, "Speed").
+pub fn check(file: &[u8], tail: bool) -> Checked
+    ensures equal { λ r. ⌜ r ≡ pick tail (checkOf (now (file .entry))) (throughEntries (now (file .entry))) ⌝ }
     ensures bounded { λ r. ⌜ CheckedPlaced (now (file .entry)) r ⌝ }
 {
     let d = check_dispatched(file);
     match d {
-        Checked::Sound(f) => check_tail(file, f),
+        Checked::Sound(f) => {
+            if tail {
+                return check_tail(file, f);
+            }
+            Checked::Sound(f)
+        }
         Checked::Refused(r) => Checked::Refused(r),
     }
 }

@@ -8,12 +8,7 @@ use lib.ListN.{length}
 use Rattle.table.specs.declared.Item.{Item}
 use Rattle.table.specs.declared.Item.the-variants.{Single, Start, Value, End}
 use Rattle.table.specs.Meaning.{Seq, Desc, each, seqs, items}
-
--- where in a description: among its singles, just after a start mark, or in a sequence with a value
-pub data Phase : Type 0 where
-  singles : Phase
-  opened : Phase
-  filled : Phase
+use Rattle.table.specs.Skipping.{Phase, singles, opened, filled}
 
 -- items that are n descriptions, from a phase on
 abbrev pub Accepts : ℕ → Phase → List Item → Type 0

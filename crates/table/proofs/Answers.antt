@@ -24,9 +24,10 @@ use Rattle.table.specs.declared.TableAnswer.{TableAnswer}
 use Rattle.table.specs.declared.TableAnswer.the-variants.{Complete, Cut as TableCut, Bad as TableBad, Trailing}
 use Rattle.table.specs.Reading.{endsIn, stepOf, stepsFrom, checkSteps}
 use Rattle.table.specs.Meaning.{itemBytes, bytes, OfCoding}
-use Rattle.table.proofs.Accepts.{Phase, singles, opened, filled, Accepts}
+use Rattle.table.specs.Skipping.{Phase, singles, opened, filled, isOpened}
+use Rattle.table.proofs.Accepts.{Accepts}
 use Rattle.table.proofs.Stepping.{first, item-front}
-use Rattle.table.proofs.Moves.{isOpened, ended, ended-more, Move, single, first-value, other-value, first-start, other-start, end-singles, end-sequences, moved}
+use Rattle.table.proofs.Moves.{ended, ended-more, Move, single, first-value, other-value, first-start, other-start, end-singles, end-sequences, moved}
 
 -- as many end marks as descriptions are left
 abbrev ends : ℕ → List Item

@@ -53,9 +53,6 @@ unfolding readToken
 ucs2-token s = refl
 
 module _ (s : List ℕ) (i : ℕ) (h : i < length s) where
-  pub utf8-step : (t : Token) → t ≡ readUtf8 (take (length s - i) (drop i s)) → Stepped Utf8 s i (stepOf 1 i t)
-  utf8-step t e = token-says Utf8 s i h 1 utf8-mark t (e ∙ ap readUtf8 (rest-all s i) ∙ utf8-token (drop i s))
-
   pub ucs2-step : (t : Token) → t ≡ readUcs2 (take (length s - i) (drop i s)) → Stepped Ucs2 s i (stepOf 2 i t)
   ucs2-step t e = token-says Ucs2 s i h 2 ucs2-mark t (e ∙ ap readUcs2 (rest-all s i) ∙ ucs2-token (drop i s))
 

@@ -3,7 +3,10 @@ pub mod Meaning
 pub mod Stepping
 pub mod Firsts
 pub mod Telling
-pub mod Checking
+pub mod Skipping
+pub mod Turning
+pub mod Plainly
+pub mod Halting
 pub mod Accepts
 pub mod Moves
 pub mod Answers

@@ -12,20 +12,9 @@ use Rattle.table.specs.declared.Item.the-variants.{Single, Start, Value,
 use Rattle.table.specs.declared.Step.{Step}
 use Rattle.table.specs.Reading.{endsIn, valueItem, stepItems, checkSteps}
 use Rattle.table.specs.Meaning.{OfCoding}
-use Rattle.table.proofs.Accepts.{Phase, singles, opened, filled, Accepts}
+use Rattle.table.specs.Skipping.{Phase, singles, opened, filled, isOpened, isInside}
+use Rattle.table.proofs.Accepts.{Accepts}
 use Rattle.table.proofs.Stepping.{stepFor}
-
--- what the check keeps of a phase: whether a value must stand next
-abbrev pub isOpened : Phase → Bool
-isOpened singles = false
-isOpened opened = true
-isOpened filled = false
-
--- what the telling of items keeps of it: whether a value there stands in a sequence
-abbrev pub isInside : Phase → Bool
-isInside singles = false
-isInside opened = true
-isInside filled = true
 
 -- the descriptions complete behind an item, of those complete in front of it
 abbrev pub ended : Item → ℕ → ℕ

@@ -18,7 +18,8 @@ use Rattle.table.specs.declared.TableAnswer.{TableAnswer}
 use Rattle.table.specs.declared.TableAnswer.the-variants.{Complete, Cut as TableCut, Bad as TableBad, Trailing}
 use Rattle.table.specs.Meaning.{Desc, items, bytes, OfCoding, encode, Readable, IsTable, Completable, LongestStart, Unfinished, BadAt}
 use Rattle.table.specs.Reading.{endsIn, stepsFrom, checkSteps, tableOf, tablePlace}
-use Rattle.table.proofs.Accepts.{singles, Accepts, accepts-items, accepted-items}
+use Rattle.table.proofs.Accepts.{Accepts, accepts-items, accepted-items}
+use Rattle.table.specs.Skipping.{singles}
 use Rattle.table.proofs.Answers.{walk, Read, More, Stops, Says, answer-told, atOver, passes, stops-before, bad-behind}
 use Rattle.table.proofs.Reading.{items-bytes}
 

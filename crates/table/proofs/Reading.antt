@@ -12,8 +12,9 @@ use Rattle.table.specs.declared.Item.{Item}
 use Rattle.table.specs.declared.Item.the-variants.{Single, Start, Value, End}
 use Rattle.table.specs.Meaning.{Desc, items, itemBytes, bytes, OfCoding, encode, Readable}
 use Rattle.table.specs.Reading.{stepsFrom, stepItems, itemsIn}
-use Rattle.table.proofs.Accepts.{Phase, singles, Accepts, accepts-items, items-inj}
-use Rattle.table.proofs.Moves.{isInside, moved}
+use Rattle.table.proofs.Accepts.{Accepts, accepts-items, items-inj}
+use Rattle.table.proofs.Moves.{moved}
+use Rattle.table.specs.Skipping.{Phase, singles, isInside}
 use Rattle.table.proofs.Stepping.{item-front}
 
 module _ (c : Coding) where

@@ -109,3 +109,14 @@ module _ (c : Coding) where
   item-front End at y o =
       let l = coded c .end-long in
       front at (endBytes c) y (StepEnd (at + length (endBytes c))) (omega (arith, l, mark-small c .0)) (ap (stepOf (markLen c) at) (coded c .end-read y) ∙ rw l) (λ f. refl)
+
+  -- what a step says, as the first of the steps from its place on
+  pub says-first : (s : List ℕ) (i : ℕ) → i < length s → (x : Step) → StepSays c s i x → (xs : List Step) × (stepsAt c s i ≡ x ∷ xs)
+  says-first s i h (StepValue v next) w = (stepsAt c s next, w .2)
+  says-first s i h (StepStart next) w = (stepsAt c s next, w .2)
+  says-first s i h (StepEnd next) w = (stepsAt c s next, w .2)
+  says-first s i h StepCut w = ([], w h)
+  says-first s i h (StepBad k) w = ([], w .2)
+
+  pub step-says : (s : List ℕ) (i : ℕ) → i < length s → StepSays c s i (stepAt c s i)
+  step-says s i h = token-says s i h (markLen c) refl (readToken c (drop i s)) refl .1

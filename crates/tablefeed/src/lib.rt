@@ -89,7 +89,7 @@ fn run_through(c: Coding, s: &[u8], start: usize, n: usize, ended: usize, opened
         if n <= g {
             return stopped_at(12, g, at);
         }
-        let t = table::next_step(c, s, at);
+        let t = table::step_at(c, s, at);
         match t {
             Step::Value(_, next) => {
                 after = false;

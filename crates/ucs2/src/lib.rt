@@ -27,16 +27,19 @@ pub fn read_ucs2(s: &[u8]) -> Token
         return Token::Cut;
     }
     let v = base::get16(s, 0);
-    if is_word(v) {
+    if v < 0xFDD0 {
         return Token::Value(v, 2);
     }
-    if v < 0xFFFE {
-        return Token::Bad(1);
+    if v == 0xFFFF {
+        return Token::End;
     }
     if v == 0xFFFE {
         return Token::Start;
     }
-    Token::End
+    if v < 0xFDF0 {
+        return Token::Bad(1);
+    }
+    Token::Value(v, 2)
 }
 
 // A value's two bytes to the front, the low one first. Asks for a value of PSF1's coding and for room: the caller has tested both.

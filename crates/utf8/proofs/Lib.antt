@@ -11,3 +11,5 @@ pub mod Reading
 pub mod Coding
 pub mod Stops
 pub mod Growing
+pub mod Plain
+pub mod Lengths

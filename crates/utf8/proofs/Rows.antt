@@ -1,10 +1,12 @@
 -- The rows of Table 3-7: what `leadOf` is at each byte of a row's range, and what holds of every leadRow.
 use mathlib.Core.Path.{_≡_, sym}
-use mathlib.Core.Bool.{Bool, _&&_}
+use mathlib.Core.Bool.{Bool, not, _&&_}
+use mathlib.Core.Logic.{_⊎_, inl, inr}
 use Prim.Native.Nat.{ℕ, _+_, _≤_, _<_}
 use native.Mathlib.Omega.{arith}
 use lib.Dec.{T, eqb, leb, ltb, eqb→eq, leb→le, ltb→lt}
-use Rattle.base.proofs.Tests.{and-left, and-right}
+use borrow.Author.Tests.{eq-eqb}
+use Rattle.base.proofs.Tests.{and-left, and-right, below}
 use Rattle.base.proofs.Ranged.{every, ranged}
 use Rattle.utf8.specs.declared.Lead.{Lead}
 use Rattle.utf8.specs.Reading.{leadRow, leadOf}
@@ -54,6 +56,14 @@ row-3c b g h = leads 237 1 (leadRow 3 16 128 159) tt b g h
 pub row-3d : (b : ℕ) → 238 ≤ b → b < 240 → leadRow 3 16 128 191 ≡ leadOf b
 unfolding leadOf
 row-3d b g h = leads 238 2 (leadRow 3 16 128 191) tt b g h
+
+-- the two wide rows of three bytes as one
+pub row-3 : (b : ℕ) → (225 ≤ b) × (b < 240) × (b ≡ 237 → ⊥) → leadRow 3 16 128 191 ≡ leadOf b
+row-3 b (g, h, n) = by (below b 237)
+  where
+    by : (b < 237) ⊎ (237 ≤ b) → leadRow 3 16 128 191 ≡ leadOf b
+    by (inl k) = row-3b b g k
+    by (inr k) = row-3d b (omega arith) h
 
 pub row-4a : (b : ℕ) → 240 ≤ b → b < 241 → leadRow 4 8 144 191 ≡ leadOf b
 unfolding leadOf
@@ -107,3 +117,8 @@ is-fine l t =
 pub all-fine : (b : ℕ) → b < 256 → Fine (leadOf b)
 unfolding leadOf
 all-fine b h = is-fine (leadOf b) (ranged (λ x. fine (leadOf x)) 256 0 tt b (omega arith) (omega arith))
+
+-- from 80 on no byte is a value by itself
+pub longer : (b : ℕ) → 0x80 ≤ b → b < 256 → leadOf b .len ≡ 1 → ⊥
+unfolding leadOf
+longer b g h e = rw (eq-eqb (leadOf b .len) 1 e) at (ranged (λ x. not (eqb (leadOf x .len) 1)) 128 128 tt b g h)

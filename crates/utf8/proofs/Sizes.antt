@@ -46,3 +46,23 @@ read-sized (b ∷ s) =
     by-test (λ (x : Read). P (asToken x)) (eqb (leadOf b .len) 0) _ _ (λ _. omega arith) (λ _.
     permitted-sized (leadOf b .len - 1) (length (b ∷ s)) _
     (conts-sized (leadOf b .len - 1) (leadOf b .lo) (leadOf b .hi) (b % leadOf b .modulus) 1 s (length (b ∷ s)) (suc (leadOf b .len - 1)) (omega arith) (omega arith)))))
+
+-- the place of a wrong byte is within the list
+abbrev pub Within : ℕ → Read → Type 0
+Within m (Value v l) = Unit {0}
+Within m Cut = Unit {0}
+Within m (Bad j) = j < m
+
+permitted-within : (k m : ℕ) (r : Read) → Ends (suc k) m r → Within m (permittedAt k r)
+unfolding permittedAt
+permitted-within k m (Value v l) h = by-test (Within m) (isNoncharacter v) _ _ (λ _. omega (arith, h .0, h .1)) (λ _. tt)
+permitted-within k m Cut h = tt
+permitted-within k m (Bad j) h = h
+
+pub bad-within : (s : List ℕ) → Within (length s) (readValue s)
+unfolding readValue
+bad-within [] = tt
+bad-within (b ∷ s) =
+    by-test (Within (length (b ∷ s))) (eqb (leadOf b .len) 0) _ _ (λ _. omega arith) (λ _.
+    permitted-within (leadOf b .len - 1) (length (b ∷ s)) _
+    (conts-sized (leadOf b .len - 1) (leadOf b .lo) (leadOf b .hi) (b % leadOf b .modulus) 1 s (length (b ∷ s)) (suc (leadOf b .len - 1)) (omega arith) (omega arith)))

@@ -57,7 +57,17 @@ readValue (b ∷ s) =
     pick (eqb (leadOf b .len) 0) (Bad 0)
     (permittedAt (leadOf b .len - 1) (conts (leadOf b .len - 1) (leadOf b .lo) (leadOf b .hi) (b % leadOf b .modulus) 1 s))
 
--- the same as a token
+-- a value's key: its last byte
+unfoldable pub utf8Key : ℕ → ℕ
+utf8Key v = pick (ltb v 0x80) v (0x80 + v % 64)
+
+-- how many bytes a value has that was read; 0 where there is none, or its key is k
+abbrev pub plainLen : ℕ → Read → ℕ
+plainLen k (Value v l) = pick (eqb (utf8Key v) k) 0 l
+plainLen k Cut = 0
+plainLen k (Bad j) = 0
+
+-- what was read, as a token
 abbrev pub asToken : Read → Token
 asToken (Value v l) = TokenValue v l
 asToken Cut = TokenCut

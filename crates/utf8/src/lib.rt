@@ -1,14 +1,15 @@
-// Inner layer: one value at the front of some bytes, in UTF-8, or one token, FE and FF being marks; and a value written. Definitions: specs/Meaning.antt,
+// Inner layer: one value at the front of some bytes, in UTF-8; its length alone; and a value written. Definitions: specs/Meaning.antt,
 // specs/Reading.antt.
 ghost use mathlib.Core.Path.{_≡_};
-ghost use Prim.Native.Nat.{_+_, _-_, _*_, _≤_, _<_};
-ghost use lib.ListN.{length, drop};
+ghost use Prim.Native.Nat.{_+_, _-_, _*_, _%_, _≤_, _<_};
+ghost use lib.ListN.{length, getD, drop};
+ghost use Rattle.base.specs.Meaning.{pick};
 ghost use Rattle.base.specs.Reading.{within, over};
-ghost use Rattle.utf8.specs.Reading.{leadOf, readValue, readUtf8, conts, permittedAt, isScalar, isUtf8Value};
+ghost use Rattle.token.specs.Reading.{isNoncharacter};
+ghost use Rattle.utf8.specs.Reading.{leadOf, readValue, conts, permittedAt, isScalar, isUtf8Value, utf8Key, plainLen};
 ghost use Rattle.utf8.specs.Bounds.{Reached};
 ghost use Rattle.utf8.specs.Meaning.{Scalar, utf8Bytes};
 use base::wide;
-use token::Token;
 
 // What the first byte of a value says: the value's length (0: no value begins so), the modulus that
 // leaves the first byte's bits, and the bounds of the second byte.
@@ -30,6 +31,9 @@ pub struct Lead {
 //   U+10000..U+3FFFF    F0       90..BF   80..BF   80..BF
 //   U+40000..U+FFFFF    F1..F3   80..BF   80..BF   80..BF
 //   U+100000..U+10FFFF  F4       80..8F   80..BF   80..BF
+//
+// The match stands in three parts, the rows of three and of four bytes each in one of their own: with all four rows of a single first byte
+// in one match the compiler tests for these before any range.
 fn lead_of(b: u8) -> Lead
     ensures { λ r. ⌜ r ≡ leadOf b ⌝ }
 {
@@ -46,51 +50,65 @@ fn lead_of(b: u8) -> Lead
             lo: 0x80,
             hi: 0xBF,
         },
-        0xE0..=0xE0 => Lead {
+        0xE0..=0xEF => three_lead(b),
+        0xF0..=0xF4 => four_lead(b),
+        _ => Lead {
+            len: 0,
+            modulus: 1,
+            lo: 0x80,
+            hi: 0xBF,
+        },
+    }
+}
+
+// The rows of three bytes. Asks for a first byte of these.
+fn three_lead(b: u8) -> Lead
+    requires { ⌜ (224 ≤ b) × (b < 240) ⌝ }
+    ensures { λ r. ⌜ r ≡ leadOf b ⌝ }
+{
+    match b {
+        0xE0 => Lead {
             len: 3,
             modulus: 16,
             lo: 0xA0,
             hi: 0xBF,
         },
-        0xE1..=0xEC => Lead {
-            len: 3,
-            modulus: 16,
-            lo: 0x80,
-            hi: 0xBF,
-        },
-        0xED..=0xED => Lead {
+        0xED => Lead {
             len: 3,
             modulus: 16,
             lo: 0x80,
             hi: 0x9F,
         },
-        0xEE..=0xEF => Lead {
+        _ => Lead {
             len: 3,
             modulus: 16,
             lo: 0x80,
             hi: 0xBF,
         },
-        0xF0..=0xF0 => Lead {
+    }
+}
+
+// The rows of four bytes. Asks for a first byte of these.
+fn four_lead(b: u8) -> Lead
+    requires { ⌜ (240 ≤ b) × (b < 245) ⌝ }
+    ensures { λ r. ⌜ r ≡ leadOf b ⌝ }
+{
+    match b {
+        0xF0 => Lead {
             len: 4,
             modulus: 8,
             lo: 0x90,
             hi: 0xBF,
         },
-        0xF1..=0xF3 => Lead {
-            len: 4,
-            modulus: 8,
-            lo: 0x80,
-            hi: 0xBF,
-        },
-        0xF4..=0xF4 => Lead {
+        0xF4 => Lead {
             len: 4,
             modulus: 8,
             lo: 0x80,
             hi: 0x8F,
         },
         _ => Lead {
-            len: 0,
-            modulus: 1,
+            len: 4,
+            modulus: 8,
             lo: 0x80,
             hi: 0xBF,
         },
@@ -212,25 +230,157 @@ pub fn read_value(s: &[u8]) -> Read
     }
 }
 
-// The token at the front of some bytes: a mark, or what is read as a value.
-pub fn read_utf8(s: &[u8]) -> Token
-    ensures { λ r. ⌜ r ≡ readUtf8 (now (s .entry)) ⌝ }
+// A value's key: its last byte.
+pub fn key_of(v: u32) -> u32
+    ensures { λ r. ⌜ r ≡ utf8Key v ⌝ }
 {
-    if s.len() == 0 {
-        return Token::Cut;
+    if v < 0x80 {
+        return v;
     }
-    let b = s[0];
-    if b == 0xFE {
-        return Token::Start;
+    0x80 + v % 64
+}
+
+// 0 where the value of three bytes b, x, y is a noncharacter, else 3. Asks for bytes of such a value.
+fn three_permitted(b: u8, x: u8, y: u8) -> usize
+    requires { ⌜ (224 ≤ b) × (b < 240) × (128 ≤ x) × (x < 192) × (128 ≤ y) × (y < 192) ⌝ }
+    ensures { λ r. ⌜ r ≡ pick (isNoncharacter ((b % 16 * 64 + (x - 128)) * 64 + (y - 128))) 0 3 ⌝ }
+{
+    if b < 0xEF {
+        return 3;
     }
-    if b == 0xFF {
-        return Token::End;
+    if x == 0xB7 {
+        if y < 0x90 {
+            return 3;
+        }
+        if y < 0xB0 {
+            return 0;
+        }
+        return 3;
     }
-    let r = read_value(s);
-    match r {
-        Read::Value(v, l) => Token::Value(v, l),
-        Read::Cut => Token::Cut,
-        Read::Bad(k) => Token::Bad(k),
+    if x == 0xBF {
+        if y < 0xBE {
+            return 3;
+        }
+        return 0;
+    }
+    3
+}
+
+// 0 where the value of four bytes b, x, y, z is a noncharacter, else 4. Asks for bytes of such a value; b does not matter.
+fn four_permitted(b: u8, x: u8, y: u8, z: u8) -> usize
+    requires { ⌜ (240 ≤ b) × (b < 245) × (128 ≤ x) × (x < 192) × (128 ≤ y) × (y < 192) × (128 ≤ z) × (z < 192) × (16 ≤ b % 8 * 64 + (x - 128)) ⌝ }
+    ensures { λ r. ⌜ r ≡ pick (isNoncharacter (((b % 8 * 64 + (x - 128)) * 64 + (y - 128)) * 64 + (z - 128))) 0 4 ⌝ }
+{
+    if z < 0xBE {
+        return 4;
+    }
+    if y < 0xBF {
+        return 4;
+    }
+    if x % 16 < 15 {
+        return 4;
+    }
+    0
+}
+
+// The length of a value of two bytes at a place, whose first is b: 0 where it is not there whole, or its key is `key`. Asks for what b's row of
+// Table 3-7 has.
+fn two_len(s: &[u8], at: usize, b: u8, lo: u8, hi: u8, key: u32) -> usize
+    requires { ⌜ (at < length (now s)) × (b ≡ getD (now s) at 0) × (leadOf b .len ≡ 2) × (lo ≡ leadOf b .lo) × (hi ≡ leadOf b .hi) ⌝ }
+    ensures { λ r. ⌜ (r ≡ plainLen key (readValue (drop at (now (s .entry))))) × (at + r ≤ length (now (s .entry))) ⌝ }
+{
+    if s.len() <= at + 1 {
+        return 0;
+    }
+    let x = s[at + 1];
+    if x < lo {
+        return 0;
+    }
+    if hi < x {
+        return 0;
+    }
+    if wide(x) == key {
+        return 0;
+    }
+    2
+}
+
+// The same of three bytes; 0 too where it is a noncharacter.
+fn three_len(s: &[u8], at: usize, b: u8, lo: u8, hi: u8, key: u32) -> usize
+    requires { ⌜ (at < length (now s)) × (b ≡ getD (now s) at 0) × (leadOf b .len ≡ 3) × (lo ≡ leadOf b .lo) × (hi ≡ leadOf b .hi) ⌝ }
+    ensures { λ r. ⌜ (r ≡ plainLen key (readValue (drop at (now (s .entry))))) × (at + r ≤ length (now (s .entry))) ⌝ }
+{
+    if s.len() <= at + 2 {
+        return 0;
+    }
+    let x = s[at + 1];
+    if x < lo {
+        return 0;
+    }
+    if hi < x {
+        return 0;
+    }
+    let y = s[at + 2];
+    if y < 0x80 {
+        return 0;
+    }
+    if 0xBF < y {
+        return 0;
+    }
+    if wide(y) == key {
+        return 0;
+    }
+    three_permitted(b, x, y)
+}
+
+// The same of four bytes.
+fn four_len(s: &[u8], at: usize, b: u8, lo: u8, hi: u8, key: u32) -> usize
+    requires { ⌜ (at < length (now s)) × (b ≡ getD (now s) at 0) × (leadOf b .len ≡ 4) × (lo ≡ leadOf b .lo) × (hi ≡ leadOf b .hi) ⌝ }
+    ensures { λ r. ⌜ (r ≡ plainLen key (readValue (drop at (now (s .entry))))) × (at + r ≤ length (now (s .entry))) ⌝ }
+{
+    if s.len() <= at + 3 {
+        return 0;
+    }
+    let x = s[at + 1];
+    if x < lo {
+        return 0;
+    }
+    if hi < x {
+        return 0;
+    }
+    let y = s[at + 2];
+    if y < 0x80 {
+        return 0;
+    }
+    if 0xBF < y {
+        return 0;
+    }
+    let z = s[at + 3];
+    if z < 0x80 {
+        return 0;
+    }
+    if 0xBF < z {
+        return 0;
+    }
+    if wide(z) == key {
+        return 0;
+    }
+    four_permitted(b, x, y, z)
+}
+
+// The length of the value at a place whose first byte b is 80 or above, without the value: 0 where none stands there whole, or its key is
+// `key`. Asks for such a byte there.
+pub fn plain_len(s: &[u8], at: usize, b: u8, key: u32) -> usize
+    requires { ⌜ (at < length (now s)) × (b ≡ getD (now s) at 0) × (128 ≤ b) ⌝ }
+    ensures { λ r. ⌜ (r ≡ plainLen key (readValue (drop at (now (s .entry))))) × (at + r ≤ length (now (s .entry))) ⌝ }
+{
+    let l = lead_of(b);
+    let n = l.len;
+    match n {
+        2 => two_len(s, at, b, l.lo, l.hi, key),
+        3 => three_len(s, at, b, l.lo, l.hi, key),
+        4 => four_len(s, at, b, l.lo, l.hi, key),
+        _ => 0,
     }
 }
 

@@ -27,11 +27,11 @@ returns c =
     let e = c .description-end .ensures in
     (ends-second (c .before .before .before .before .before .before .args .c) (c .before .before .before .before .before .before .args .s .now) (c .before .before .before .loop .a) (c .before .before .before .before .before .before .args .d) (c .before .before .before .before .before .before .args .t .now) (c .before .before .before .loop .b) _ (c .before .if1 .taken) (e .0) ∙ c .before .before .before .loop .inv .2, (e .1, c .before .before .before .loop .inv .1))
 
-next-step-requires : tie.Need-next-step-requires Inv-loop μ-loop
-next-step-requires c κs = search needs
+step-at-requires : tie.Need-step-at-requires Inv-loop μ-loop
+step-at-requires c κs = search needs
 
-next-step-requires-2 : tie.Need-next-step-requires-2 Inv-loop μ-loop
-next-step-requires-2 c κs = search needs
+step-at-requires-2 : tie.Need-step-at-requires-2 Inv-loop μ-loop
+step-at-requires-2 c κs = search needs
 
 code-of-requires : tie.Need-code-of-requires Inv-loop μ-loop
 code-of-requires c κs = search needs
@@ -47,10 +47,10 @@ description-end-requires-3 c κs = search needs
 
 returns-2 : tie.Need-returns-2 Inv-loop μ-loop
 returns-2 c =
-    let n : codeOf (c .before .before .before .before .before .before .next-step .result) ≡ codeOf (c .before .before .before .before .before .next-step2 .result) → ⊥ = λ q. c .before .before .if2 .taken (c .before .before .before .before .code-of .ensures ∙ q ∙ sym (c .before .before .before .code-of2 .ensures)) in
+    let n : codeOf (c .before .before .before .before .before .before .step-at .result) ≡ codeOf (c .before .before .before .before .before .step-at2 .result) → ⊥ = λ q. c .before .before .if2 .taken (c .before .before .before .before .code-of .ensures ∙ q ∙ sym (c .before .before .before .code-of2 .ensures)) in
     let e = c .before .description-end2 .ensures in
     let r = c .description-end3 .ensures in
-    (ends-other (c .before .before .before .before .before .before .before .before .before .before .before .before .args .c) (c .before .before .before .before .before .before .before .before .before .before .before .before .args .s .now) (c .before .before .before .before .before .before .before .before .before .loop .a) (c .before .before .before .before .before .before .before .before .before .before .before .before .args .d) (c .before .before .before .before .before .before .before .before .before .before .before .before .args .t .now) (c .before .before .before .before .before .before .before .before .before .loop .b) (c .before .before .before .before .before .before .next-step .result) (c .before .before .before .before .before .next-step2 .result) (c .before .before .before .before .before .before .before .before .loop-test .taken) (omega arith) (c .before .before .before .before .before .before .next-step .ensures .1) (c .before .before .before .before .before .next-step2 .ensures .1) _ _ n (e .0) (r .0) ∙ c .before .before .before .before .before .before .before .before .before .loop .inv .2, (e .1, r .1))
+    (ends-other (c .before .before .before .before .before .before .before .before .before .before .before .before .args .c) (c .before .before .before .before .before .before .before .before .before .before .before .before .args .s .now) (c .before .before .before .before .before .before .before .before .before .loop .a) (c .before .before .before .before .before .before .before .before .before .before .before .before .args .d) (c .before .before .before .before .before .before .before .before .before .before .before .before .args .t .now) (c .before .before .before .before .before .before .before .before .before .loop .b) (c .before .before .before .before .before .before .step-at .result) (c .before .before .before .before .before .step-at2 .result) (c .before .before .before .before .before .before .before .before .loop-test .taken) (omega arith) (c .before .before .before .before .before .before .step-at .ensures .1) (c .before .before .before .before .before .step-at2 .ensures .1) _ _ n (e .0) (r .0) ∙ c .before .before .before .before .before .before .before .before .before .loop .inv .2, (e .1, r .1))
 
 next-of-requires : tie.Need-next-of-requires Inv-loop μ-loop
 next-of-requires c κs = search needs
@@ -60,20 +60,20 @@ next-of-requires-2 c κs = search needs
 
 returns-3 : tie.Need-returns-3 Inv-loop μ-loop
 returns-3 c =
-    let q : codeOf (c .before .before .before .before .before .before .before .next-step .result) ≡ codeOf (c .before .before .before .before .before .before .next-step2 .result) = sym (c .before .before .before .before .before .code-of .ensures) ∙ c .before .before .before .if2 .left ∙ c .before .before .before .before .code-of2 .ensures in
-    let w = ends-here (c .before .before .before .before .before .before .before .before .before .before .before .before .before .args .c) (c .before .before .before .before .before .before .before .before .before .before .before .before .before .args .s .now) (c .before .before .before .before .before .before .before .before .before .before .loop .a) (c .before .before .before .before .before .before .before .before .before .before .before .before .before .args .d) (c .before .before .before .before .before .before .before .before .before .before .before .before .before .args .t .now) (c .before .before .before .before .before .before .before .before .before .before .loop .b) (c .before .before .before .before .before .before .before .next-step .result) (c .before .before .before .before .before .before .next-step2 .result) (c .before .before .before .before .before .before .before .before .before .loop-test .taken) (omega arith) (c .before .before .before .before .before .before .before .next-step .ensures .1) (c .before .before .before .before .before .before .next-step2 .ensures .1) _ _ q (c .before .before .next-of .ensures) (c .before .next-of2 .ensures) (sym (c .before .before .before .before .before .code-of .ensures) ∙ c .if3 .taken) in
+    let q : codeOf (c .before .before .before .before .before .before .before .step-at .result) ≡ codeOf (c .before .before .before .before .before .before .step-at2 .result) = sym (c .before .before .before .before .before .code-of .ensures) ∙ c .before .before .before .if2 .left ∙ c .before .before .before .before .code-of2 .ensures in
+    let w = ends-here (c .before .before .before .before .before .before .before .before .before .before .before .before .before .args .c) (c .before .before .before .before .before .before .before .before .before .before .before .before .before .args .s .now) (c .before .before .before .before .before .before .before .before .before .before .loop .a) (c .before .before .before .before .before .before .before .before .before .before .before .before .before .args .d) (c .before .before .before .before .before .before .before .before .before .before .before .before .before .args .t .now) (c .before .before .before .before .before .before .before .before .before .before .loop .b) (c .before .before .before .before .before .before .before .step-at .result) (c .before .before .before .before .before .before .step-at2 .result) (c .before .before .before .before .before .before .before .before .before .loop-test .taken) (omega arith) (c .before .before .before .before .before .before .before .step-at .ensures .1) (c .before .before .before .before .before .before .step-at2 .ensures .1) _ _ q (c .before .before .next-of .ensures) (c .before .next-of2 .ensures) (sym (c .before .before .before .before .before .code-of .ensures) ∙ c .if3 .taken) in
     (w .0 ∙ c .before .before .before .before .before .before .before .before .before .before .loop .inv .2, (w .1, w .2))
 
 loop-less : tie.Need-loop-less Inv-loop μ-loop
 loop-less c =
-    let q : codeOf (c .before .before .before .before .before .before .before .next-step .result) ≡ codeOf (c .before .before .before .before .before .before .next-step2 .result) = sym (c .before .before .before .before .before .code-of .ensures) ∙ c .before .before .before .if2 .left ∙ c .before .before .before .before .code-of2 .ensures in
-    let w = ends-later (c .before .before .before .before .before .before .before .before .before .before .before .before .before .args .c) (c .before .before .before .before .before .before .before .before .before .before .before .before .before .args .s .now) (c .before .before .before .before .before .before .before .before .before .before .loop .a) (c .before .before .before .before .before .before .before .before .before .before .before .before .before .args .d) (c .before .before .before .before .before .before .before .before .before .before .before .before .before .args .t .now) (c .before .before .before .before .before .before .before .before .before .before .loop .b) (c .before .before .before .before .before .before .before .next-step .result) (c .before .before .before .before .before .before .next-step2 .result) (c .before .before .before .before .before .before .before .before .before .loop-test .taken) (omega arith) (c .before .before .before .before .before .before .before .next-step .ensures .1) (c .before .before .before .before .before .before .next-step2 .ensures .1) _ _ q (c .before .before .next-of .ensures) (c .before .next-of2 .ensures) (λ z. c .if3 .left (c .before .before .before .before .before .code-of .ensures ∙ z)) in
+    let q : codeOf (c .before .before .before .before .before .before .before .step-at .result) ≡ codeOf (c .before .before .before .before .before .before .step-at2 .result) = sym (c .before .before .before .before .before .code-of .ensures) ∙ c .before .before .before .if2 .left ∙ c .before .before .before .before .code-of2 .ensures in
+    let w = ends-later (c .before .before .before .before .before .before .before .before .before .before .before .before .before .args .c) (c .before .before .before .before .before .before .before .before .before .before .before .before .before .args .s .now) (c .before .before .before .before .before .before .before .before .before .before .loop .a) (c .before .before .before .before .before .before .before .before .before .before .before .before .before .args .d) (c .before .before .before .before .before .before .before .before .before .before .before .before .before .args .t .now) (c .before .before .before .before .before .before .before .before .before .before .loop .b) (c .before .before .before .before .before .before .before .step-at .result) (c .before .before .before .before .before .before .step-at2 .result) (c .before .before .before .before .before .before .before .before .before .loop-test .taken) (omega arith) (c .before .before .before .before .before .before .before .step-at .ensures .1) (c .before .before .before .before .before .before .step-at2 .ensures .1) _ _ q (c .before .before .next-of .ensures) (c .before .next-of2 .ensures) (λ z. c .if3 .left (c .before .before .before .before .before .code-of .ensures ∙ z)) in
     omega (arith, w .0, w .3)
 
 loop-again : tie.Need-loop-again Inv-loop μ-loop
 loop-again c =
-    let q : codeOf (c .before .before .before .before .before .before .before .next-step .result) ≡ codeOf (c .before .before .before .before .before .before .next-step2 .result) = sym (c .before .before .before .before .before .code-of .ensures) ∙ c .before .before .before .if2 .left ∙ c .before .before .before .before .code-of2 .ensures in
-    let w = ends-later (c .before .before .before .before .before .before .before .before .before .before .before .before .before .args .c) (c .before .before .before .before .before .before .before .before .before .before .before .before .before .args .s .now) (c .before .before .before .before .before .before .before .before .before .before .loop .a) (c .before .before .before .before .before .before .before .before .before .before .before .before .before .args .d) (c .before .before .before .before .before .before .before .before .before .before .before .before .before .args .t .now) (c .before .before .before .before .before .before .before .before .before .before .loop .b) (c .before .before .before .before .before .before .before .next-step .result) (c .before .before .before .before .before .before .next-step2 .result) (c .before .before .before .before .before .before .before .before .before .loop-test .taken) (omega arith) (c .before .before .before .before .before .before .before .next-step .ensures .1) (c .before .before .before .before .before .before .next-step2 .ensures .1) _ _ q (c .before .before .next-of .ensures) (c .before .next-of2 .ensures) (λ z. c .if3 .left (c .before .before .before .before .before .code-of .ensures ∙ z)) in
+    let q : codeOf (c .before .before .before .before .before .before .before .step-at .result) ≡ codeOf (c .before .before .before .before .before .before .step-at2 .result) = sym (c .before .before .before .before .before .code-of .ensures) ∙ c .before .before .before .if2 .left ∙ c .before .before .before .before .code-of2 .ensures in
+    let w = ends-later (c .before .before .before .before .before .before .before .before .before .before .before .before .before .args .c) (c .before .before .before .before .before .before .before .before .before .before .before .before .before .args .s .now) (c .before .before .before .before .before .before .before .before .before .before .loop .a) (c .before .before .before .before .before .before .before .before .before .before .before .before .before .args .d) (c .before .before .before .before .before .before .before .before .before .before .before .before .before .args .t .now) (c .before .before .before .before .before .before .before .before .before .before .loop .b) (c .before .before .before .before .before .before .before .step-at .result) (c .before .before .before .before .before .before .step-at2 .result) (c .before .before .before .before .before .before .before .before .before .loop-test .taken) (omega arith) (c .before .before .before .before .before .before .before .step-at .ensures .1) (c .before .before .before .before .before .before .step-at2 .ensures .1) _ _ q (c .before .before .next-of .ensures) (c .before .next-of2 .ensures) (λ z. c .if3 .left (c .before .before .before .before .before .code-of .ensures ∙ z)) in
     (w .0, w .1, w .2 ∙ c .before .before .before .before .before .before .before .before .before .before .loop .inv .2)
 
 description-end-requires-4 : tie.Need-description-end-requires-4 Inv-loop μ-loop
@@ -93,8 +93,8 @@ compare-spec =
     loop-holds
     description-end-requires
     returns
-    next-step-requires
-    next-step-requires-2
+    step-at-requires
+    step-at-requires-2
     code-of-requires
     code-of-requires-2
     description-end-requires-2

@@ -20,8 +20,8 @@ abbrev μ-loop : tie.MeasureT-loop
 loop-holds : tie.Need-loop-holds Inv-loop μ-loop
 loop-holds c = (omega arith, refl)
 
-next-step-requires : tie.Need-next-step-requires Inv-loop μ-loop
-next-step-requires c κs = search needs
+step-at-requires : tie.Need-step-at-requires Inv-loop μ-loop
+step-at-requires c κs = search needs
 
 next-of-requires : tie.Need-next-of-requires Inv-loop μ-loop
 next-of-requires c κs = search needs
@@ -31,23 +31,23 @@ code-of-requires c κs = search needs
 
 returns : tie.Need-returns Inv-loop μ-loop
 returns c =
-    let x = c .before .before .before .next-step .result in
-    let f = front (c .before .before .before .before .before .before .before .args .c) (c .before .before .before .before .before .before .before .args .tail .now) (c .before .before .before .before .before .loop .at) x (c .before .before .before .before .loop-test .taken) (c .before .before .before .next-step .ensures .1) in
+    let x = c .before .before .before .step-at .result in
+    let f = front (c .before .before .before .before .before .before .before .args .c) (c .before .before .before .before .before .before .before .args .tail .now) (c .before .before .before .before .before .loop .at) x (c .before .before .before .before .loop-test .taken) (c .before .before .before .step-at .ensures .1) in
     let e : codeOf x ≡ 0 = sym (c .before .code-of .ensures) ∙ c .if1 .taken in
     (c .before .before .next-of .ensures ∙ sym (end-here (c .before .before .before .before .before .loop .at) x _ _ e (f .1 .1)) ∙ c .before .before .before .before .before .loop .inv .1, omega (arith, f .0, c .before .before .next-of .ensures))
 
 loop-less : tie.Need-loop-less Inv-loop μ-loop
 loop-less c =
-    let x = c .before .before .before .next-step .result in
+    let x = c .before .before .before .step-at .result in
     let n : codeOf x ≡ 0 → ⊥ = λ e. c .if1 .left (c .before .code-of .ensures ∙ e) in
-    let w = goes (c .before .before .before .before .before .before .before .args .c) (c .before .before .before .before .before .before .before .args .tail .now) (c .before .before .before .before .before .loop .at) x (c .before .before .before .next-step .ensures .1) n in
+    let w = goes (c .before .before .before .before .before .before .before .args .c) (c .before .before .before .before .before .before .before .args .tail .now) (c .before .before .before .before .before .loop .at) x (c .before .before .before .step-at .ensures .1) n in
     omega (arith, w .0, w .1, c .before .before .next-of .ensures)
 
 loop-again : tie.Need-loop-again Inv-loop μ-loop
 loop-again c =
-    let x = c .before .before .before .next-step .result in
+    let x = c .before .before .before .step-at .result in
     let n : codeOf x ≡ 0 → ⊥ = λ e. c .if1 .left (c .before .code-of .ensures ∙ e) in
-    let w = goes (c .before .before .before .before .before .before .before .args .c) (c .before .before .before .before .before .before .before .args .tail .now) (c .before .before .before .before .before .loop .at) x (c .before .before .before .next-step .ensures .1) n in
+    let w = goes (c .before .before .before .before .before .before .before .args .c) (c .before .before .before .before .before .before .before .args .tail .now) (c .before .before .before .before .before .loop .at) x (c .before .before .before .step-at .ensures .1) n in
     let q = c .before .before .next-of .ensures in
     (omega (arith, w .1, q), ap (λ (m : ℕ). endFrom m (stepsAt (c .before .before .before .before .before .before .before .args .c) (c .before .before .before .before .before .before .before .args .tail .now) m)) q ∙ sym (end-later (c .before .before .before .before .before .loop .at) x _ _ n (w .2)) ∙ c .before .before .before .before .before .loop .inv .1)
 
@@ -61,7 +61,7 @@ description-end-spec =
     Inv-loop
     μ-loop
     loop-holds
-    next-step-requires
+    step-at-requires
     next-of-requires
     code-of-requires
     returns

@@ -1,6 +1,9 @@
 -- `fonts::find_value` meets its contract: the font's own refusal, or the lookup's answer. Assumes nothing.
 use Rattle.fonts.specs.Reading.{valueGlyph}
 use mathlib.Core.Path.{sym, _∙_}
+use denote.Ref.{now}
+use Rattle.questions.specs.Reading.{valueOn}
+use Rattle.fonts.proofs.Asking.{tail-asked, none-asked}
 use borrow.Author.Needs.{needs}
 use Rattle.fonts.proofs.find_value.Statement.{statement}
 use Rattle.fonts.proofs.find_value.Tie as tie
@@ -19,11 +22,11 @@ enum-known-a-2 c = search needs
 
 returns : tie.Need-returns
 unfolding valueGlyph
-returns c = c .value-on .ensures ∙ rw (sym (c .before .before .before .before .check .ensures .0) ∙ c .before .before .a .given .1)
+returns c = c .value-on .ensures ∙ tail-asked (now (c .before .before .before .before .before .before .args .file)) (valueOn (now (c .before .before .before .before .before .before .args .file)) (c .before .before .before .before .before .before .args .v)) _ (sym (c .before .before .before .before .check .ensures .0) ∙ c .before .before .a .given .1)
 
 returns-2 : tie.Need-returns-2
 unfolding valueGlyph
-returns-2 c = rw (sym (c .before .before .before .check .ensures .0) ∙ c .before .a2 .given .1)
+returns-2 c = none-asked (now (c .before .before .before .before .before .args .file)) (valueOn (now (c .before .before .before .before .before .args .file)) (c .before .before .before .before .before .args .v)) _ (sym (c .before .before .before .check .ensures .0) ∙ c .before .a2 .given .1)
 
 pub find-value-spec : {M : Type 1} → statement M
 find-value-spec =

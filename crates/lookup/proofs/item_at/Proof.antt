@@ -22,8 +22,8 @@ abbrev μ-loop : tie.MeasureT-loop
 loop-holds : tie.Need-loop-holds Inv-loop μ-loop
 loop-holds c = search needs
 
-next-step-requires : tie.Need-next-step-requires Inv-loop μ-loop
-next-step-requires c κs = search needs
+step-at-requires : tie.Need-step-at-requires Inv-loop μ-loop
+step-at-requires c κs = search needs
 
 enum-known-t : tie.Need-enum-known-t Inv-loop μ-loop
 enum-known-t c = search needs
@@ -33,7 +33,7 @@ value-item-requires c κs = search needs
 
 returns : tie.Need-returns Inv-loop μ-loop
 returns c =
-    let w = rw (c .before .before .before .before .t .given .1) at (c .before .before .before .before .before .before .next-step .ensures .1) in
+    let w = rw (c .before .before .before .before .t .given .1) at (c .before .before .before .before .before .before .step-at .ensures .1) in
     ap Found (c .value-item .ensures)
     ∙ sym (ap (itemAt _ _) (told-value _ _ _ _ _ (w .2)) ∙ item-here _ _ _ _ (c .before .before .if1 .taken) (c .before .if2 .taken))
     ∙ c .before .before .before .before .before .before .before .before .loop .inv .1
@@ -43,12 +43,12 @@ sub-left c = search needs
 
 loop-less : tie.Need-loop-less Inv-loop μ-loop
 loop-less c =
-    let w = rw (c .before .before .before .t .given .1) at (c .before .before .before .before .before .next-step .ensures .1) in
+    let w = rw (c .before .before .before .t .given .1) at (c .before .before .before .before .before .step-at .ensures .1) in
     omega (arith, w .0, w .1)
 
 loop-again : tie.Need-loop-again Inv-loop μ-loop
 loop-again c =
-    let w = rw (c .before .before .before .t .given .1) at (c .before .before .before .before .before .next-step .ensures .1) in (
+    let w = rw (c .before .before .before .t .given .1) at (c .before .before .before .before .before .step-at .ensures .1) in (
       w .1,
       sym (ap (itemAt _ _) (told-value _ _ _ _ _ (w .2)) ∙ item-next _ _ _ _ (c .before .if1 .taken) (c .if2 .left) (inner-told _ _))
           ∙ c .before .before .before .before .before .before .before .loop .inv .1,
@@ -56,12 +56,12 @@ loop-again c =
 
 loop-less-2 : tie.Need-loop-less-2 Inv-loop μ-loop
 loop-less-2 c =
-    let w = rw (c .before .before .t .given .1) at (c .before .before .before .before .next-step .ensures .1) in
+    let w = rw (c .before .before .t .given .1) at (c .before .before .before .before .step-at .ensures .1) in
     omega (arith, w .0, w .1)
 
 loop-again-2 : tie.Need-loop-again-2 Inv-loop μ-loop
 loop-again-2 c =
-    let w = rw (c .before .before .t .given .1) at (c .before .before .before .before .next-step .ensures .1) in (
+    let w = rw (c .before .before .t .given .1) at (c .before .before .before .before .step-at .ensures .1) in (
       w .1,
       sym (ap (itemAt _ _) (told-value _ _ _ _ _ (w .2)) ∙ item-past _ _ _ _ (c .if1 .left) (inner-told _ _))
           ∙ c .before .before .before .before .before .before .loop .inv .1,
@@ -72,7 +72,7 @@ enum-known-t-2 c = search needs
 
 returns-2 : tie.Need-returns-2 Inv-loop μ-loop
 returns-2 c =
-    let w = rw (c .before .before .before .t2 .given .1) at (c .before .before .before .before .before .next-step .ensures .1) in
+    let w = rw (c .before .before .before .t2 .given .1) at (c .before .before .before .before .before .step-at .ensures .1) in
     sym (ap (itemAt _ _) (told-start _ _ _ _ (w .2)) ∙ item-here _ _ _ _ (c .before .if3 .taken) (c .if4 .taken))
     ∙ c .before .before .before .before .before .before .before .loop .inv .1
 
@@ -81,12 +81,12 @@ sub-left-2 c = search needs
 
 loop-less-3 : tie.Need-loop-less-3 Inv-loop μ-loop
 loop-less-3 c =
-    let w = rw (c .before .before .before .t2 .given .1) at (c .before .before .before .before .before .next-step .ensures .1) in
+    let w = rw (c .before .before .before .t2 .given .1) at (c .before .before .before .before .before .step-at .ensures .1) in
     omega (arith, w .0, w .1)
 
 loop-again-3 : tie.Need-loop-again-3 Inv-loop μ-loop
 loop-again-3 c =
-    let w = rw (c .before .before .before .t2 .given .1) at (c .before .before .before .before .before .next-step .ensures .1) in (
+    let w = rw (c .before .before .before .t2 .given .1) at (c .before .before .before .before .before .step-at .ensures .1) in (
       w .1,
       sym (ap (itemAt _ _) (told-start _ _ _ _ (w .2)) ∙ item-next _ _ _ _ (c .before .if3 .taken) (c .if4 .left) tt)
           ∙ c .before .before .before .before .before .before .before .loop .inv .1,
@@ -94,12 +94,12 @@ loop-again-3 c =
 
 loop-less-4 : tie.Need-loop-less-4 Inv-loop μ-loop
 loop-less-4 c =
-    let w = rw (c .before .before .t2 .given .1) at (c .before .before .before .before .next-step .ensures .1) in
+    let w = rw (c .before .before .t2 .given .1) at (c .before .before .before .before .step-at .ensures .1) in
     omega (arith, w .0, w .1)
 
 loop-again-4 : tie.Need-loop-again-4 Inv-loop μ-loop
 loop-again-4 c =
-    let w = rw (c .before .before .t2 .given .1) at (c .before .before .before .before .next-step .ensures .1) in (
+    let w = rw (c .before .before .t2 .given .1) at (c .before .before .before .before .step-at .ensures .1) in (
       w .1,
       sym (ap (itemAt _ _) (told-start _ _ _ _ (w .2)) ∙ item-past _ _ _ _ (c .if3 .left) tt)
           ∙ c .before .before .before .before .before .before .loop .inv .1,
@@ -110,13 +110,13 @@ enum-known-t-3 c = search needs
 
 returns-3 : tie.Need-returns-3 Inv-loop μ-loop
 returns-3 c =
-    let w = rw (c .before .before .before .t3 .given .1) at (c .before .before .before .before .before .next-step .ensures .1) in
+    let w = rw (c .before .before .before .t3 .given .1) at (c .before .before .before .before .before .step-at .ensures .1) in
     sym (ap (itemAt _ _) (told-end _ _ _ _ (w .2)) ∙ item-here _ _ _ _ (c .before .if5 .taken) (c .if6 .taken))
     ∙ c .before .before .before .before .before .before .before .loop .inv .1
 
 returns-4 : tie.Need-returns-4 Inv-loop μ-loop
 returns-4 c =
-    let w = rw (c .before .before .before .t3 .given .1) at (c .before .before .before .before .before .next-step .ensures .1) in
+    let w = rw (c .before .before .before .t3 .given .1) at (c .before .before .before .before .before .step-at .ensures .1) in
     sym (ap (itemAt _ _) (told-end _ _ _ _ (w .2)) ∙ no-item _ _ _ (c .before .if5 .taken) (c .if6 .left))
     ∙ c .before .before .before .before .before .before .before .loop .inv .1
 
@@ -125,12 +125,12 @@ sub-glyphs c = search needs
 
 loop-less-5 : tie.Need-loop-less-5 Inv-loop μ-loop
 loop-less-5 c =
-    let w = rw (c .before .before .t3 .given .1) at (c .before .before .before .before .next-step .ensures .1) in
+    let w = rw (c .before .before .t3 .given .1) at (c .before .before .before .before .step-at .ensures .1) in
     omega (arith, w .0, w .1)
 
 loop-again-5 : tie.Need-loop-again-5 Inv-loop μ-loop
 loop-again-5 c =
-    let w = rw (c .before .before .t3 .given .1) at (c .before .before .before .before .next-step .ensures .1) in (
+    let w = rw (c .before .before .t3 .given .1) at (c .before .before .before .before .step-at .ensures .1) in (
       w .1,
       sym (ap (itemAt _ _) (told-end _ _ _ _ (w .2)) ∙ glyph-past _ _ _ (c .if5 .left))
           ∙ c .before .before .before .before .before .before .loop .inv .1,
@@ -141,7 +141,7 @@ enum-told c = search needs
 
 returns-5 : tie.Need-returns-5 Inv-loop μ-loop
 returns-5 c =
-    let w = rw (c .enum-told .given .1) at (c .before .before .next-step .ensures .1) in
+    let w = rw (c .enum-told .given .1) at (c .before .before .step-at .ensures .1) in
     sym (ap (itemAt _ _) (told-cut _ _ _ (w (omega arith))) ∙ item-none _ _) ∙ c .before .before .before .before .loop .inv .1
 
 enum-told-2 : tie.Need-enum-told-2 Inv-loop μ-loop
@@ -149,7 +149,7 @@ enum-told-2 c = search needs
 
 returns-6 : tie.Need-returns-6 Inv-loop μ-loop
 returns-6 c =
-    let w = rw (c .enum-told2 .given .1) at (c .before .before .next-step .ensures .1) in
+    let w = rw (c .enum-told2 .given .1) at (c .before .before .step-at .ensures .1) in
     sym (ap (itemAt _ _) (told-bad _ _ _ _ (w .2)) ∙ item-none _ _) ∙ c .before .before .before .before .loop .inv .1
 
 returns-7 : tie.Need-returns-7 Inv-loop μ-loop
@@ -162,7 +162,7 @@ item-at-spec =
     Inv-loop
     μ-loop
     loop-holds
-    next-step-requires
+    step-at-requires
     enum-known-t
     value-item-requires
     returns

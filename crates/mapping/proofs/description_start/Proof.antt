@@ -22,20 +22,20 @@ loop-holds c = (omega arith, from-front (c .before .args .c) (c .before .args .t
 returns : tie.Need-returns Inv-loop μ-loop
 returns c = (here _ _ _ (c .if1 .taken) ∙ c .before .before .loop .inv .1, c .before .before .loop .inv .0)
 
-next-step-requires : tie.Need-next-step-requires Inv-loop μ-loop
-next-step-requires c κs = search needs
+step-at-requires : tie.Need-step-at-requires Inv-loop μ-loop
+step-at-requires c κs = search needs
 
 enum-known-t : tie.Need-enum-known-t Inv-loop μ-loop
 enum-known-t c = search needs
 
 loop-less : tie.Need-loop-less Inv-loop μ-loop
 loop-less c =
-    let w = rw (c .before .t .given .1) at (c .before .before .before .next-step .ensures .1) in
+    let w = rw (c .before .t .given .1) at (c .before .before .before .step-at .ensures .1) in
     omega (arith, w .0, w .1)
 
 loop-again : tie.Need-loop-again Inv-loop μ-loop
 loop-again c =
-    let w = rw (c .before .t .given .1) at (c .before .before .before .next-step .ensures .1) in
+    let w = rw (c .before .t .given .1) at (c .before .before .before .step-at .ensures .1) in
     (w .1, sym (past-value _ _ _ _ _ _ (c .before .before .before .before .if1 .left) (w .2)) ∙ c .before .before .before .before .before .before .loop .inv .1)
 
 enum-known-t-2 : tie.Need-enum-known-t-2 Inv-loop μ-loop
@@ -43,12 +43,12 @@ enum-known-t-2 c = search needs
 
 loop-less-2 : tie.Need-loop-less-2 Inv-loop μ-loop
 loop-less-2 c =
-    let w = rw (c .before .t2 .given .1) at (c .before .before .before .next-step .ensures .1) in
+    let w = rw (c .before .t2 .given .1) at (c .before .before .before .step-at .ensures .1) in
     omega (arith, w .0, w .1)
 
 loop-again-2 : tie.Need-loop-again-2 Inv-loop μ-loop
 loop-again-2 c =
-    let w = rw (c .before .t2 .given .1) at (c .before .before .before .next-step .ensures .1) in
+    let w = rw (c .before .t2 .given .1) at (c .before .before .before .step-at .ensures .1) in
     (w .1, sym (past-start _ _ _ _ _ (c .before .before .before .before .if1 .left) (w .2)) ∙ c .before .before .before .before .before .before .loop .inv .1)
 
 enum-known-t-3 : tie.Need-enum-known-t-3 Inv-loop μ-loop
@@ -59,12 +59,12 @@ sub-left c = search needs
 
 loop-less-3 : tie.Need-loop-less-3 Inv-loop μ-loop
 loop-less-3 c =
-    let w = rw (c .before .t3 .given .1) at (c .before .before .before .next-step .ensures .1) in
+    let w = rw (c .before .t3 .given .1) at (c .before .before .before .step-at .ensures .1) in
     omega (arith, w .0, w .1)
 
 loop-again-3 : tie.Need-loop-again-3 Inv-loop μ-loop
 loop-again-3 c =
-    let w = rw (c .before .t3 .given .1) at (c .before .before .before .next-step .ensures .1) in
+    let w = rw (c .before .t3 .given .1) at (c .before .before .before .step-at .ensures .1) in
     (w .1, sym (past-end _ _ _ _ _ (c .before .before .before .before .if1 .left) (w .2)) ∙ c .before .before .before .before .before .before .loop .inv .1)
 
 enum-told : tie.Need-enum-told Inv-loop μ-loop
@@ -72,7 +72,7 @@ enum-told c = search needs
 
 returns-2 : tie.Need-returns-2 Inv-loop μ-loop
 returns-2 c =
-    let w = rw (c .enum-told .given .1) at (c .before .before .next-step .ensures .1) in
+    let w = rw (c .enum-told .given .1) at (c .before .before .step-at .ensures .1) in
     (sym (stops-cut _ _ _ _ (w (omega arith))) ∙ c .before .before .before .before .before .loop .inv .1, c .before .before .before .before .before .loop .inv .0)
 
 enum-told-2 : tie.Need-enum-told-2 Inv-loop μ-loop
@@ -80,7 +80,7 @@ enum-told-2 c = search needs
 
 returns-3 : tie.Need-returns-3 Inv-loop μ-loop
 returns-3 c =
-    let w = rw (c .enum-told2 .given .1) at (c .before .before .next-step .ensures .1) in
+    let w = rw (c .enum-told2 .given .1) at (c .before .before .step-at .ensures .1) in
     (sym (stops-bad _ _ _ _ _ (w .2)) ∙ c .before .before .before .before .before .loop .inv .1, c .before .before .before .before .before .loop .inv .0)
 
 returns-4 : tie.Need-returns-4 Inv-loop μ-loop
@@ -94,7 +94,7 @@ description-start-spec =
     μ-loop
     loop-holds
     returns
-    next-step-requires
+    step-at-requires
     enum-known-t
     loop-less
     loop-again

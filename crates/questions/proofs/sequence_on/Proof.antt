@@ -1,7 +1,10 @@
--- `questions::sequence_on` meets its contract: NO TABLE, then ASK, then what the lookup found. Assumes `Placed`.
-use mathlib.Core.Path.{_∙_, ap}
-use Rattle.questions.specs.declared.Lookup.the-variants.{Refused as NoLookup}
-use Rattle.questions.proofs.Answers.{sequence-told, sequence-ask, sequence-bare}
+-- `questions::sequence_on` meets its contract: the table's refusal, NO TABLE, then ASK, then what the lookup found. Assumes `Placed`.
+use mathlib.Core.Path.{sym, _∙_, refl}
+use native.Mathlib.Omega.{arith}
+use denote.Ref.{now}
+use Rattle.base.proofs.Parts.{bytes-of}
+use Rattle.questions.specs.Reading.{sequenceOn}
+use Rattle.questions.proofs.Answers.{sequence-told, sequence-ask, sequence-bare, after-tail, place-told, looked-told, ask-one}
 use borrow.Author.Needs.{needs}
 use Rattle.questions.proofs.sequence_on.Statement.{statement}
 use Rattle.questions.proofs.sequence_on.Tie as tie
@@ -22,34 +25,25 @@ part-find-sequence-end : tie.Need-part-find-sequence-end
 part-find-sequence-end c = search needs
 
 find-sequence-requires : tie.Need-find-sequence-requires
-find-sequence-requires c κs = search needs
+find-sequence-requires c κs = ask-one (now (c .before .before .before .before .before .before .before .args .vs)) (sym (c .before .before .before .may-ask .ensures) ∙ c .before .before .if2 .taken)
 
-enum-known-w : tie.Need-enum-known-w
-enum-known-w c = search needs
-
-enum-told : tie.Need-enum-told
-enum-told c = search needs
-
-refuse-requires : tie.Need-refuse-requires
-refuse-requires c κs = search needs
+told-requires : tie.Need-told-requires
+told-requires c κs = omega (arith, place-told (now (c .before .before .before .before .before .before .before .before .args .file)) (c .before .before .before .before .before .before .before .before .args .f) _ (c .before .before .coding-of .ensures) _ _ (c .find-sequence .ensures) (bytes-of (now (c .before .before .before .before .before .before .before .before .args .file)) (c .before .before .before .before .before .before .before .shared-slice-known .given)) (c .before .before .before .before .before .before .before .before .pre))
 
 returns : tie.Need-returns
-returns c = rw (c .before .w .given .1) at (sequence-told (c .before .before .before .before .before .before .before .before .before .before .before .args .file .now) (c .before .before .before .before .before .before .before .before .before .before .before .args .f) (c .before .before .before .before .before .before .before .before .before .before .before .args .vs .now) (c .before .before .before .before .before .before .before .before .if1 .taken) _ (c .before .before .before .before .before .before .before .may-ask .ensures) (c .before .before .before .before .before .before .if2 .taken) _ (c .before .before .before .before .before .coding-of .ensures) _ (c .before .before .before .find-sequence .ensures))
+returns c = c .told .ensures ∙ looked-told (now (c .before .before .before .before .before .before .before .before .before .args .file)) (c .before .before .before .before .before .before .before .before .before .args .f) _ (c .before .before .before .coding-of .ensures) _ _ (c .before .find-sequence .ensures) (c .before .before .before .before .before .before .if1 .taken) (sequenceOn (now (c .before .before .before .before .before .before .before .before .before .args .file)) (now (c .before .before .before .before .before .before .before .before .before .args .vs))) (sequence-told (now (c .before .before .before .before .before .before .before .before .before .args .file)) (c .before .before .before .before .before .before .before .before .before .args .f) (now (c .before .before .before .before .before .before .before .before .before .args .vs)) (c .before .before .before .before .before .before .if1 .taken) _ (c .before .before .before .before .before .may-ask .ensures) (c .before .before .before .before .if2 .taken) _ (c .before .before .before .coding-of .ensures) _ refl)
+
+refuse-after-requires : tie.Need-refuse-after-requires
+refuse-after-requires c κs = search needs
 
 returns-2 : tie.Need-returns-2
-returns-2 c = ap NoLookup (c .refuse .ensures) ∙ (rw (c .before .enum-told .given .1) at (sequence-told (c .before .before .before .before .before .before .before .before .before .before .before .args .file .now) (c .before .before .before .before .before .before .before .before .before .before .before .args .f) (c .before .before .before .before .before .before .before .before .before .before .before .args .vs .now) (c .before .before .before .before .before .before .before .before .if1 .taken) _ (c .before .before .before .before .before .before .before .may-ask .ensures) (c .before .before .before .before .before .before .if2 .taken) _ (c .before .before .before .before .before .coding-of .ensures) _ (c .before .before .before .find-sequence .ensures)))
+returns-2 c = c .refuse-after .ensures ∙ after-tail (now (c .before .before .before .before .before .before .args .file)) (c .before .before .before .before .before .before .args .f) _ (sequenceOn (now (c .before .before .before .before .before .before .args .file)) (now (c .before .before .before .before .before .before .args .vs))) (sequence-ask (now (c .before .before .before .before .before .before .args .file)) (c .before .before .before .before .before .before .args .f) (now (c .before .before .before .before .before .before .args .vs)) (c .before .before .before .if1 .taken) _ (c .before .before .may-ask .ensures) (c .before .if2 .left))
 
-refuse-requires-2 : tie.Need-refuse-requires-2
-refuse-requires-2 c κs = search needs
+refuse-after-requires-2 : tie.Need-refuse-after-requires-2
+refuse-after-requires-2 c κs = search needs
 
 returns-3 : tie.Need-returns-3
-returns-3 c = ap NoLookup (c .refuse2 .ensures) ∙ sequence-ask (c .before .before .before .before .before .before .args .file .now) (c .before .before .before .before .before .before .args .f) (c .before .before .before .before .before .before .args .vs .now) (c .before .before .before .if1 .taken) _ (c .before .before .may-ask .ensures) (c .before .if2 .left)
-
-refuse-requires-3 : tie.Need-refuse-requires-3
-refuse-requires-3 c κs = search needs
-
-returns-4 : tie.Need-returns-4
-returns-4 c = ap NoLookup (c .refuse3 .ensures) ∙ sequence-bare (c .before .before .before .before .args .file .now) (c .before .before .before .before .args .f) (c .before .before .before .before .args .vs .now) (c .before .if1 .left)
+returns-3 c = c .refuse-after2 .ensures ∙ after-tail (now (c .before .before .before .before .args .file)) (c .before .before .before .before .args .f) _ (sequenceOn (now (c .before .before .before .before .args .file)) (now (c .before .before .before .before .args .vs))) (sequence-bare (now (c .before .before .before .before .args .file)) (c .before .before .before .before .args .f) (now (c .before .before .before .before .args .vs)) (c .before .if1 .left))
 
 pub sequence-on-spec : {M : Type 1} → statement M
 sequence-on-spec =
@@ -61,12 +55,9 @@ sequence-on-spec =
     part-find-sequence-start
     part-find-sequence-end
     find-sequence-requires
-    enum-known-w
-    enum-told
-    refuse-requires
+    told-requires
     returns
+    refuse-after-requires
     returns-2
-    refuse-requires-2
-    returns-3
-    refuse-requires-3
-    returns-4)
+    refuse-after-requires-2
+    returns-3)

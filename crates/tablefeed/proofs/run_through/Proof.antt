@@ -25,20 +25,20 @@ stopped-at-requires c κs = search needs
 returns : tie.Need-returns Inv-loop μ-loop
 returns c = c .stopped-at .ensures ∙ sym (trailing _ _ _ _ _ _ (omega arith) (omega arith)) ∙ c .before .before .before .loop .inv
 
-next-step-requires : tie.Need-next-step-requires Inv-loop μ-loop
-next-step-requires c κs = search needs
+step-at-requires : tie.Need-step-at-requires Inv-loop μ-loop
+step-at-requires c κs = search needs
 
 enum-known-t : tie.Need-enum-known-t Inv-loop μ-loop
 enum-known-t c = search needs
 
 loop-less : tie.Need-loop-less Inv-loop μ-loop
 loop-less c =
-    let w = rw (c .before .t .given .1) at (c .before .before .before .next-step .ensures .1) in
+    let w = rw (c .before .t .given .1) at (c .before .before .before .step-at .ensures .1) in
     omega (arith, w .0, w .1)
 
 loop-again : tie.Need-loop-again Inv-loop μ-loop
 loop-again c =
-    let w = rw (c .before .t .given .1) at (c .before .before .before .next-step .ensures .1) in
+    let w = rw (c .before .t .given .1) at (c .before .before .before .step-at .ensures .1) in
     sym (ap (runOf _ _ _ _) (w .2) ∙ value _ _ _ _ _ (omega arith) _ _) ∙ c .before .before .before .before .before .before .loop .inv
 
 enum-known-t-2 : tie.Need-enum-known-t-2 Inv-loop μ-loop
@@ -46,22 +46,22 @@ enum-known-t-2 c = search needs
 
 misplaced-requires : tie.Need-misplaced-requires Inv-loop μ-loop
 misplaced-requires c κs =
-    let w = rw (c .before .before .t2 .given .1) at (c .before .before .before .before .next-step .ensures .1) in
+    let w = rw (c .before .before .t2 .given .1) at (c .before .before .before .before .step-at .ensures .1) in
     omega (arith, w .0)
 
 returns-2 : tie.Need-returns-2 Inv-loop μ-loop
 returns-2 c =
-    let w = rw (c .before .before .before .t2 .given .1) at (c .before .before .before .before .before .next-step .ensures .1) in
+    let w = rw (c .before .before .before .t2 .given .1) at (c .before .before .before .before .before .step-at .ensures .1) in
     c .misplaced .ensures ∙ sym (ap (runOf _ _ _ _) (w .2) ∙ start-bad _ _ _ _ _ (omega arith) _ (c .before .if2 .taken)) ∙ c .before .before .before .before .before .before .before .before .loop .inv
 
 loop-less-2 : tie.Need-loop-less-2 Inv-loop μ-loop
 loop-less-2 c =
-    let w = rw (c .before .before .t2 .given .1) at (c .before .before .before .before .next-step .ensures .1) in
+    let w = rw (c .before .before .t2 .given .1) at (c .before .before .before .before .step-at .ensures .1) in
     omega (arith, w .0, w .1)
 
 loop-again-2 : tie.Need-loop-again-2 Inv-loop μ-loop
 loop-again-2 c =
-    let w = rw (c .before .before .t2 .given .1) at (c .before .before .before .before .next-step .ensures .1) in
+    let w = rw (c .before .before .t2 .given .1) at (c .before .before .before .before .step-at .ensures .1) in
     sym (ap (runOf _ _ _ _) (w .2) ∙ start _ _ _ _ _ (omega arith) _ (c .if2 .left)) ∙ c .before .before .before .before .before .before .before .loop .inv
 
 enum-known-t-3 : tie.Need-enum-known-t-3 Inv-loop μ-loop
@@ -69,12 +69,12 @@ enum-known-t-3 c = search needs
 
 misplaced-requires-2 : tie.Need-misplaced-requires-2 Inv-loop μ-loop
 misplaced-requires-2 c κs =
-    let w = rw (c .before .before .t3 .given .1) at (c .before .before .before .before .next-step .ensures .1) in
+    let w = rw (c .before .before .t3 .given .1) at (c .before .before .before .before .step-at .ensures .1) in
     omega (arith, w .0)
 
 returns-3 : tie.Need-returns-3 Inv-loop μ-loop
 returns-3 c =
-    let w = rw (c .before .before .before .t3 .given .1) at (c .before .before .before .before .before .next-step .ensures .1) in
+    let w = rw (c .before .before .before .t3 .given .1) at (c .before .before .before .before .before .step-at .ensures .1) in
     c .misplaced2 .ensures ∙ sym (ap (runOf _ _ _ _) (w .2) ∙ end-bad _ _ _ _ _ (omega arith) _ (c .before .if3 .taken)) ∙ c .before .before .before .before .before .before .before .before .loop .inv
 
 add-g : tie.Need-add-g Inv-loop μ-loop
@@ -82,12 +82,12 @@ add-g c = omega arith
 
 loop-less-3 : tie.Need-loop-less-3 Inv-loop μ-loop
 loop-less-3 c =
-    let w = rw (c .before .before .t3 .given .1) at (c .before .before .before .before .next-step .ensures .1) in
+    let w = rw (c .before .before .t3 .given .1) at (c .before .before .before .before .step-at .ensures .1) in
     omega (arith, w .0, w .1)
 
 loop-again-3 : tie.Need-loop-again-3 Inv-loop μ-loop
 loop-again-3 c =
-    let w = rw (c .before .before .t3 .given .1) at (c .before .before .before .before .next-step .ensures .1) in
+    let w = rw (c .before .before .t3 .given .1) at (c .before .before .before .before .step-at .ensures .1) in
     sym (ap (runOf _ _ _ _) (w .2) ∙ end _ _ _ _ _ (omega arith) _ (c .if3 .left)) ∙ c .before .before .before .before .before .before .before .loop .inv
 
 enum-told : tie.Need-enum-told Inv-loop μ-loop
@@ -98,7 +98,7 @@ going-at-requires c κs = search needs
 
 returns-4 : tie.Need-returns-4 Inv-loop μ-loop
 returns-4 c =
-    let w = rw (c .before .enum-told .given .1) at (c .before .before .before .next-step .ensures .1) in
+    let w = rw (c .before .enum-told .given .1) at (c .before .before .before .step-at .ensures .1) in
     c .going-at .ensures ∙ sym (ap (runOf _ _ _ _) (w (omega arith)) ∙ cut _ _ _ _ _ (omega arith)) ∙ c .before .before .before .before .before .before .loop .inv
 
 enum-known-t-4 : tie.Need-enum-known-t-4 Inv-loop μ-loop
@@ -109,7 +109,7 @@ stopped-at-requires-2 c κs = search needs
 
 returns-5 : tie.Need-returns-5 Inv-loop μ-loop
 returns-5 c =
-    let w = rw (c .before .before .t4 .given .1) at (c .before .before .before .before .next-step .ensures .1) in
+    let w = rw (c .before .before .t4 .given .1) at (c .before .before .before .before .step-at .ensures .1) in
     c .stopped-at2 .ensures ∙ sym (ap (runOf _ _ _ _) (w .2) ∙ bad _ _ _ _ _ (omega arith) _) ∙ c .before .before .before .before .before .before .before .loop .inv
 
 going-at-requires-2 : tie.Need-going-at-requires-2 Inv-loop μ-loop
@@ -127,7 +127,7 @@ run-through-spec =
     loop-holds
     stopped-at-requires
     returns
-    next-step-requires
+    step-at-requires
     enum-known-t
     loop-less
     loop-again

@@ -1,21 +1,17 @@
 -- `utf8::read_value` meets its contract: a first byte below 80 is the value, else its row decides. Assumes nothing.
 use mathlib.Core.Path.{_≡_, sym, _∙_, ap}
-use mathlib.Core.Bool.{not}
 use mathlib.Core.List.{List, [], _∷_}
 use Prim.Native.Nat.{ℕ, _+_, _*_, _≤_, _<_}
 use native.Mathlib.Omega.{arith}
 use native.Mathlib.Nat.{mod-lt}
-use lib.Dec.{eqb}
 use lib.ListN.{length, getD}
 use denote.Ref.{now}
-use borrow.Author.Tests.{eq-eqb}
-use Rattle.base.proofs.Ranged.{ranged}
 use Rattle.utf8.specs.declared.Read.the-variants.{Value}
-use Rattle.utf8.specs.Reading.{leadOf, permittedAt, readValue}
+use Rattle.utf8.specs.Reading.{permittedAt, readValue}
 use Rattle.utf8.proofs.First.{no-bytes, no-value, long-value}
 use Rattle.utf8.proofs.Permitted.{permitted-low}
 use Rattle.utf8.proofs.Ascii.{ascii-value}
-use Rattle.utf8.proofs.Rows.{Fine, all-fine}
+use Rattle.utf8.proofs.Rows.{Fine, all-fine, longer}
 use borrow.Author.Needs.{needs}
 use Rattle.utf8.proofs.read_value.Statement.{statement}
 use Rattle.utf8.proofs.read_value.Tie as tie
@@ -24,11 +20,6 @@ use Rattle.utf8.proofs.read_value.Tie as tie
 itself : (s : List ℕ) → 0 < length s → getD s 0 0 < 0x80 → (v : ℕ) → v ≡ getD s 0 0 → Value v 1 ≡ readValue s
 itself [] h k v e = absurd (omega arith)
 itself (b ∷ s) h k v e = rw e (sym (ascii-value b s k))
-
--- from 80 on no byte is a value by itself
-longer : (b : ℕ) → 0x80 ≤ b → b < 256 → leadOf b .len ≡ 1 → ⊥
-unfolding leadOf
-longer b g h e = rw (eq-eqb (leadOf b .len) 1 e) at (ranged (λ x. not (eqb (leadOf x .len) 1)) 128 128 tt b g h)
 
 returns : tie.Need-returns
 returns c = no-bytes _ (c .if1 .taken)

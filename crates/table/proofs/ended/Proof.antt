@@ -1,0 +1,13 @@
+-- `table::ended` meets its contract: bytes behind the last description, or none. Assumes nothing.
+use Rattle.table.proofs.Skipping.{ended-trailing, ended-complete}
+use Rattle.table.proofs.ended.Statement.{statement}
+use Rattle.table.proofs.ended.Tie as tie
+
+returns : tie.Need-returns
+returns c = ended-trailing _ _ (c .if1 .taken)
+
+returns-2 : tie.Need-returns-2
+returns-2 c = ended-complete _ _ (c .if1 .left)
+
+pub ended-spec : {M : Type 1} → statement M
+ended-spec = tie.close (tie.spec returns returns-2)
