@@ -17,7 +17,7 @@
  * The functions allocate nothing, have no global state and no locks, and call nothing: the archive needs no C library. So they may run
  * in several threads at once, and in an interrupt handler; but lav_check, lav_metrics, the four conversions, the two edits, lav_differences
  * and the loader's three calls use SSE registers (the compiler's doing; tools/try-boundary reads it off the archive), so a handler that
- * does not save them must not call these twelve. They need at most about 800 bytes of stack, lav_differences about 1,100, lav_loader_feed
+ * does not save them must not call these twelve. They need at most about 600 bytes of stack, lav_differences about 800, lav_loader_feed
  * about 1,800 (docs/BENCHMARK.md), whatever the font. Each call on a file checks the font first, one pass over the header, the vfont2
  * entries and the Unicode table; a lookup is done in that same pass; a walk is another pass over the Unicode table at most, a conversion two;
  * an edit is a pass up to the place and one move of the bytes behind it; a comparison is one pass over the bitmaps and tables of both fonts,

@@ -20,10 +20,6 @@ module _ (s m : List ℕ) (i : ℕ) where
   begins-whole h = rw (drop-of-length-le m h)
 
   module _ (l : i < length m) where
-    pub begins-short : length s ≤ i → false ≡ startsWith (drop i m) (drop i s)
-    unfolding startsWith
-    begins-short h = rw (drop-of-length-le s h, drop-cons m i 0 l)
-
     pub begins-other : i < length s → (getD s i 0 ≡ getD m i 0 → ⊥) → false ≡ startsWith (drop i m) (drop i s)
     unfolding startsWith when
     begins-other h n = rw (drop-cons s i 0 h, drop-cons m i 0 l, ne-eqb _ _ n)
@@ -31,6 +27,17 @@ module _ (s m : List ℕ) (i : ℕ) where
     pub begins-next : i < length s → getD s i 0 ≡ getD m i 0 → startsWith (drop (i + 1) m) (drop (i + 1) s) ≡ startsWith (drop i m) (drop i s)
     unfolding startsWith when
     begins-next h e = rw (drop-cons s i 0 h, drop-cons m i 0 l, eq-eqb _ _ e, add-one)
+
+-- a shorter list
+pub begins-short : (s m : List ℕ) → length s < length m → false ≡ startsWith m s
+unfolding startsWith when
+begins-short s [] h = absurd (omega arith)
+begins-short [] (b ∷ m) h = refl
+begins-short (c ∷ s) (b ∷ m) h = go (eqb c b) (begins-short s m (omega arith))
+  where
+    go : (t : Bool) → false ≡ startsWith m s → false ≡ when t (startsWith m s) false
+    go true e = e
+    go false e = refl
 
 -- the test says that the list begins so
 pub begins-exactly : (m s : List ℕ) → (startsWith m s ≡ true) ↔ Begins m s

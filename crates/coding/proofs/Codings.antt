@@ -19,7 +19,7 @@ use Rattle.ucs2.proofs.Stops.{stopping-ucs2}
 use Rattle.ucs2.proofs.Growing.{growing-ucs2}
 use Rattle.coding.specs.declared.Coding.{Coding}
 use Rattle.coding.specs.declared.Coding.the-variants.{Utf8, Ucs2}
-use Rattle.coding.specs.Reading.{readToken, markLen, keyOf}
+use Rattle.coding.specs.Reading.{readToken, markLen, keyOf, noKey}
 use Rattle.coding.specs.Meaning.{valueOf, valueBytes, startBytes, endBytes}
 
 -- what is written is read, and what is read was written
@@ -51,8 +51,8 @@ unfolding markLen
 mark-small Utf8 = omega arith
 mark-small Ucs2 = omega arith
 
--- 10000 is no value's key
-pub no-key : (c : Coding) (v : ℕ) → keyOf c v ≡ 0x10000 → ⊥
+-- no value has it
+pub no-key : (c : Coding) (v : ℕ) → keyOf c v ≡ noKey → ⊥
 unfolding keyOf
 no-key Utf8 v e = omega (arith, key-byte v)
 no-key Ucs2 v e = omega arith

@@ -23,6 +23,10 @@ unfoldable pub keyOf : Coding → ℕ → ℕ
 keyOf Utf8 v = utf8Key v
 keyOf Ucs2 v = v % 0x10000
 
+-- no value's key
+abbrev pub noKey : ℕ
+noKey = 0x10000
+
 -- whether a number is one of the coding's values, as a test
 unfoldable pub carriesOf : Coding → ℕ → Bool
 carriesOf Utf8 v = isUtf8Value v

@@ -6,7 +6,8 @@ use Prim.Native.Nat.{ℕ, zero, suc, _+_, _-_, _*_, _≤_, _<_}
 use native.Mathlib.Omega.{arith}
 use native.Mathlib.Numerals.{add-one}
 use lib.Dec.{eqb}
-use lib.ListN.{length, take}
+use lib.ListN.{length, take, drop}
+use lib.Seq.{length-take-le, take-add, drop-at}
 use borrow.Author.Tests.{eq-eqb, ne-eqb}
 use Rattle.base.specs.Reading.{when}
 use Rattle.base.specs.Meaning.{le16}
@@ -14,9 +15,7 @@ use Rattle.base.proofs.Chain.{chain}
 use Rattle.refusal.specs.Meaning.{refusal}
 use Rattle.refusal.specs.declared.Refusal.{Refusal}
 use Rattle.refusal.specs.declared.Reason.the-variants.{WrongKind, Glyphs, Size}
-use Rattle.coding.specs.declared.Coding.{Coding}
 use Rattle.coding.specs.declared.Coding.the-variants.{Utf8, Ucs2}
-use Rattle.table.specs.declared.TableAnswer.{TableAnswer}
 use Rattle.table.specs.Reading.{tableOf}
 use Rattle.transcode.specs.Reading.{tableLen}
 use Rattle.transcode.specs.declared.Measured.{Measured}
@@ -26,10 +25,12 @@ use Rattle.header.specs.declared.Kind.the-variants.{Psf1, Psf2, Vfont2}
 use Rattle.header.specs.declared.Font.{Font}
 use Rattle.header.specs.declared.Checked.{Checked}
 use Rattle.header.specs.declared.Checked.the-variants.{Sound, Refused}
+use Rattle.header.specs.Bounds.{Placed}
 use Rattle.header.specs.Meaning.{limit, charSize, headerLen, entryLen}
 use Rattle.entries.specs.Meaning.{entryAt, sizeAt}
 use Rattle.stages.specs.Meaning.{codingOf, tailOf}
-use Rattle.stages.specs.Reading.{checkOf}
+use Rattle.stages.specs.declared.TailAnswer.{TailAnswer}
+use Rattle.stages.specs.Reading.{toldAt, tableTail, checkOf}
 use Rattle.conversion.specs.declared.Conversion.{Conversion}
 use Rattle.conversion.specs.declared.Conversion.the-variants.{Psf1ToPsf2, Psf2ToPsf1, Psf2ToVfont2, Vfont2ToPsf2}
 use Rattle.conversion.specs.declared.Evenness.the-variants.{Even, UnevenAt}
@@ -37,7 +38,7 @@ use Rattle.conversion.specs.declared.Suits.{Suits}
 use Rattle.conversion.specs.declared.Suits.the-variants.{Yes, Refused as Unsuited}
 use Rattle.conversion.specs.declared.Prepared.the-variants.{Ready, Refused as Unprepared}
 use Rattle.conversion.specs.Meaning.{sourceKind, targetKind, frontLen}
-use Rattle.conversion.specs.Reading.{sameKind, ofKind, openedOf, isPsf1Count, suitsPsf1, isEven, evenness, evenSuits, suitsOf, measuredOf, fitting, glyphIn, glyphAt, measuredThen, openedThen, preparedOn, preparedOf}
+use Rattle.conversion.specs.Reading.{sameKind, ofKind, openedOf, isPsf1Count, suitsPsf1, isEven, evenness, evenSuits, suitsOf, measuredOf, fitting, glyphTold, glyphAt, measuredThen, openedThen, preparedOn, preparedOf}
 
 -- 17
 pub kind-same : (a b : Kind) → sameKind a b ≡ true → b ≡ a
@@ -224,7 +225,17 @@ pub opened-as : (c : Conversion) (s : List ℕ) (x : Checked) → openedOf (sour
 unfolding preparedOf
 opened-as c s x e = rw e
 
--- the glyph that is told where a table is cut at a place
-pub told-at : (f : Font) (tail : List ℕ) (k : ℕ) (c : Coding) (a : TableAnswer) → c ≡ codingOf (f .kind) → a ≡ tableOf c (f .count) (take k tail) → glyphIn a ≡ glyphAt f tail k
-unfolding glyphAt
-told-at f tail k c a e q = ap glyphIn (q ∙ ap (λ (x : Coding). tableOf x (f .count) (take k tail)) e)
+-- the glyph that is told where a table is cut at a place: what the file up to there says
+module _ (s : List ℕ) (f : Font) (k : ℕ) (h : f .end + k ≤ length s) where
+  pub cut-length : length (take (f .end + k) s) ≡ f .end + k
+  cut-length = length-take-le (f .end + k) s h
+
+  pub cut-placed : Placed s f → Placed (take (f .end + k) s) f
+  cut-placed p = (omega (arith, cut-length, p .0), p .1, p .2, p .3, p .4, p .5, p .6, omega (arith, cut-length), p .8)
+
+  pub told-at : (a : TailAnswer) → a ≡ tableTail (take (f .end + k) s) f → glyphTold a ≡ glyphAt f (tailOf s f) k
+  unfolding glyphAt
+  told-at a q =
+      let e : drop (f .end) (take (f .end + k) s) ≡ take k (drop (f .end) s) =
+      ap (drop (f .end)) (take-add (f .end) k s) ∙ drop-at (take (f .end) s) (take k (drop (f .end) s)) (f .end) (length-take-le (f .end) s (omega arith)) in
+      ap glyphTold q ∙ ap (λ (t : List ℕ). glyphTold (toldAt (f .end) (tableOf (codingOf (f .kind)) (f .count) t))) e

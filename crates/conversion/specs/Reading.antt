@@ -8,8 +8,6 @@ use lib.ListN.{length, take}
 use Rattle.base.specs.Reading.{when}
 use Rattle.base.specs.Meaning.{le16}
 use Rattle.refusal.specs.Meaning.{refusal, refusalAt, noGlyph}
-use Rattle.table.specs.declared.TableAnswer.{TableAnswer}
-use Rattle.table.specs.declared.TableAnswer.the-variants.{Complete, Cut, Bad, Trailing}
 use Rattle.table.specs.Reading.{tableOf}
 use Rattle.refusal.specs.declared.Reason.the-variants.{WrongKind, Glyphs, Value, Size}
 use Rattle.coding.specs.declared.Coding.the-variants.{Utf8, Ucs2}
@@ -25,7 +23,9 @@ use Rattle.header.specs.Meaning.{limit, charSize}
 use Rattle.entries.specs.Meaning.{entryAt, sizeAt}
 use Rattle.layout.specs.Reading.{fontBytes, glyphsIn, evenly}
 use Rattle.stages.specs.Meaning.{codingOf, tailOf}
-use Rattle.stages.specs.Reading.{andThen, checkOf}
+use Rattle.stages.specs.declared.TailAnswer.{TailAnswer}
+use Rattle.stages.specs.declared.TailAnswer.the-variants.{Sound as TailSound, Refused as TailRefused}
+use Rattle.stages.specs.Reading.{andThen, toldAt, checkOf}
 use Rattle.conversion.specs.declared.Conversion.{Conversion}
 use Rattle.conversion.specs.declared.Conversion.the-variants.{Psf1ToPsf2, Psf2ToPsf1, Psf2ToVfont2, Vfont2ToPsf2}
 use Rattle.conversion.specs.declared.Evenness.{Evenness}
@@ -100,16 +100,14 @@ measuredOf Vfont2ToPsf2 tail = Length (length tail)
 unfoldable pub fitting : Font → ℕ → Prepared
 fitting f need = when (ltb limit need) (Unprepared (refusal Size 0)) (Ready f need)
 
--- the glyph that a table's answer tells
-abbrev pub glyphIn : TableAnswer → ℕ
-glyphIn Complete = noGlyph
-glyphIn (Cut k g) = g
-glyphIn (Bad k g) = g
-glyphIn (Trailing k) = noGlyph
+-- the glyph that a tail's answer tells
+abbrev pub glyphTold : TailAnswer → ℕ
+glyphTold TailSound = noGlyph
+glyphTold (TailRefused r) = r .glyph
 
--- the glyph that is told where a font's table is cut at a place
+-- the glyph that is told where a font's table is cut at a place of its tail
 unfoldable pub glyphAt : Font → List ℕ → ℕ → ℕ
-glyphAt f tail k = glyphIn (tableOf (codingOf (f .kind)) (f .count) (take k tail))
+glyphAt f tail k = glyphTold (toldAt (f .end) (tableOf (codingOf (f .kind)) (f .count) (take k tail)))
 
 -- 19: "value's first byte", and the glyph that lists it
 abbrev pub measuredThen : Conversion → Font → List ℕ → Measured → Prepared

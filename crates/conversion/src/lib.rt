@@ -8,7 +8,7 @@ use psf1::Psf1;
 use psf2::Psf2;
 use refusal::Reason;
 use refusal::Refusal;
-use table::TableAnswer;
+use stages::TailAnswer;
 use transcode::Measured;
 use vfont2::Vfont2;
 ghost use mathlib.Core.Path.{_≡_};
@@ -20,7 +20,7 @@ ghost use Rattle.header.specs.declared.Kind.the-variants.{Vfont2 as vfont2};
 ghost use Rattle.transcode.specs.Bounds.{MeasuredWithin};
 ghost use Rattle.entries.specs.Meaning.{entryAt};
 ghost use Rattle.conversion.specs.Meaning.{sourceKind, targetKind, frontLen};
-ghost use Rattle.conversion.specs.Reading.{sameKind, openedOf, isPsf1Count, suitsPsf1, isEven, evenness, evenSuits, suitsOf, measuredOf, fitting, glyphIn, glyphAt, measuredThen, preparedOn, preparedOf};
+ghost use Rattle.conversion.specs.Reading.{sameKind, openedOf, isPsf1Count, suitsPsf1, isEven, evenness, evenSuits, suitsOf, measuredOf, fitting, glyphTold, glyphAt, measuredThen, preparedOn, preparedOf};
 ghost use Rattle.stages.specs.Meaning.{tailOf};
 ghost use Rattle.conversion.specs.Bounds.{OpenedPlaced};
 
@@ -123,7 +123,7 @@ pub fn opened(file: &[u8], k: Kind) -> Checked
     ensures equal { λ r. ⌜ r ≡ openedOf k (now (file .entry)) ⌝ }
     ensures bounded { λ r. ⌜ OpenedPlaced k (now (file .entry)) r ⌝ }
 {
-    let a = stages::check(file, true);
+    let a = stages::check(file);
     match a {
         Checked::Sound(f) => {
             let kind = f.kind;
@@ -263,27 +263,24 @@ fn fit(f: Font, need: usize) -> Prepared
     Prepared::Ready(f, need)
 }
 
-// The glyph that a table's answer tells.
-fn glyph_in(a: TableAnswer) -> usize
-    ensures { λ r. ⌜ r ≡ glyphIn a ⌝ }
+// The glyph that a tail's answer tells.
+fn glyph_in(a: TailAnswer) -> usize
+    ensures { λ r. ⌜ r ≡ glyphTold a ⌝ }
 {
     match a {
-        TableAnswer::Complete => refusal::NO_GLYPH,
-        TableAnswer::Cut(_, g) => g,
-        TableAnswer::Bad(_, g) => g,
-        TableAnswer::Trailing(_) => refusal::NO_GLYPH,
+        TailAnswer::Sound => refusal::NO_GLYPH,
+        TailAnswer::Refused(r) => r.glyph,
     }
 }
 
-// The glyph that is told where a font's table is cut at a place: so many descriptions are complete before it. Counted only where a value is
-// refused, so that measuring counts none. Asks for a place in the tail.
-fn glyph_at(f: Font, tail: &[u8], k: usize) -> usize
-    requires { ⌜ k ≤ length (now tail) ⌝ }
-    ensures { λ r. ⌜ r ≡ glyphAt f (now (tail .entry)) k ⌝ }
+// The glyph that is told where a font's table is cut at a place of its tail: so many descriptions are complete before it. Counted only where a value
+// is refused, so that measuring counts none. Asks for a font whose parts stand in the file, and for a place in its tail.
+fn glyph_at(f: Font, file: &[u8], k: usize) -> usize
+    requires { ⌜ Placed (now file) f × (f .end + k ≤ length (now file)) ⌝ }
+    ensures { λ r. ⌜ r ≡ glyphAt f (tailOf (now (file .entry)) f) k ⌝ }
 {
-    let kind = f.kind;
-    let c = stages::coding_of(kind);
-    glyph_in(table::check_table(c, &tail[..k], f.count))
+    let to = f.end + k;
+    glyph_in(stages::check_font_table(&file[..to], f))
 }
 
 // Refusals 19 and 20. Asks for a font whose parts stand in the file.
@@ -298,7 +295,7 @@ fn measured(c: Conversion, file: &[u8], f: Font) -> Prepared
         Measured::Uncarried(k) => Prepared::Refused(refusal::refuse_at(
             Reason::Value,
             end + k,
-            glyph_at(f, &file[end..], k),
+            glyph_at(f, file, k),
         )),
     }
 }

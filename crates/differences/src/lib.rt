@@ -257,7 +257,7 @@ fn compare_second(a: &[u8], f: Font, b: &[u8], out: &mut [u32]) -> Compared
     ensures answer { λ r. ⌜ r ≡ comparedWith (now (a .entry)) f (now (b .entry)) (length (now (out .entry))) (checkOf (now (b .entry))) ⌝ }
     ensures buffer { λ r. ⌜ now (out .exit) ≡ leftBy r (foundWith (now (a .entry)) f (now (b .entry)) (checkOf (now (b .entry)))) (now (out .entry)) ⌝ }
 {
-    let y = stages::check(b, true);
+    let y = stages::check(b);
     match y {
         Checked::Sound(h) => compare_fonts(a, f, b, h, out),
         Checked::Refused(r) => Compared::Refused(2, r),
@@ -272,7 +272,7 @@ pub fn compare(first: &[u8], second: &[u8], out: &mut [u32]) -> Compared
     ensures answer { λ r. ⌜ r ≡ compareAnswer (now (first .entry)) (now (second .entry)) (length (now (out .entry))) ⌝ }
     ensures buffer { λ _. ⌜ now (out .exit) ≡ compareInto (now (first .entry)) (now (second .entry)) (now (out .entry)) ⌝ }
 {
-    let x = stages::check(first, true);
+    let x = stages::check(first);
     match x {
         Checked::Sound(f) => compare_second(first, f, second, out),
         Checked::Refused(r) => Compared::Refused(1, r),

@@ -61,7 +61,7 @@ fn raised(v: u32) -> u32
     requires { ⌜ v < 65536 ⌝ }
     ensures { λ r. ⌜ ((v < 32768 → r ≡ v + 32768) × (32768 ≤ v → r + 32768 ≡ v)) × (r < 65536) ⌝ }
 {
-    if v < 32768 { v + 32768 } else { v - 32768 }
+    (v + 32768) % 65536
 }
 
 // The sum of two signed numbers of 16 bits, as a whole number, or 0 where it is below zero. Asks for numbers of two bytes: each

@@ -8,6 +8,7 @@ use convert::Converted;
 use header::Checked;
 use questions::Lookup;
 use questions::Walk;
+use stages::ToTable;
 ghost use mathlib.Core.Path.{_≡_};
 ghost use lib.ListN.{length};
 ghost use Rattle.stages.specs.Reading.{checkOf};
@@ -21,7 +22,7 @@ ghost use Rattle.fonts.specs.Reading.{glyphPartOf, rowPartOf, pixelAt, g
 pub fn check(file: &[u8]) -> Checked
     ensures { λ r. ⌜ r ≡ checkOf (now (file .entry)) ⌝ }
 {
-    stages::check(file, true)
+    stages::check(file)
 }
 
 // Offset and length of glyph g's bytes. Refusals: the font's own (1 to 12), ASK, NO GLYPH.
@@ -29,7 +30,7 @@ pub fn glyph_part(file: &[u8], g: usize) -> Part
     ensures equal { λ r. ⌜ r ≡ glyphPartOf (now (file .entry)) g ⌝ }
     ensures bounded { λ r. ⌜ PartInside (now (file .entry)) r ⌝ }
 {
-    let a = stages::check(file, true);
+    let a = stages::check(file);
     match a {
         Checked::Sound(f) => bitmap::glyph_part(file, f, g),
         Checked::Refused(r) => Part::Refused(r),
@@ -52,7 +53,7 @@ pub fn row_part(file: &[u8], g: usize, y: usize) -> Part
     ensures equal { λ r. ⌜ r ≡ rowPartOf (now (file .entry)) g y ⌝ }
     ensures bounded { λ r. ⌜ PartInside (now (file .entry)) r ⌝ }
 {
-    let a = stages::check(file, true);
+    let a = stages::check(file);
     match a {
         Checked::Sound(f) => bitmap::row_part(file, f, g, y),
         Checked::Refused(r) => Part::Refused(r),
@@ -75,7 +76,7 @@ pub fn row<'a>(file: &'a [u8], g: usize, y: usize) -> &'a [u8]
 pub fn pixel(file: &[u8], g: usize, y: usize, x: usize) -> Pixel
     ensures { λ r. ⌜ r ≡ pixelAt (now (file .entry)) g y x ⌝ }
 {
-    let a = stages::check(file, true);
+    let a = stages::check(file);
     match a {
         Checked::Sound(f) => bitmap::pixel_at(file, f, g, y, x),
         Checked::Refused(r) => Pixel::Refused(r),
@@ -87,7 +88,7 @@ pub fn pixel(file: &[u8], g: usize, y: usize, x: usize) -> Pixel
 pub fn metrics(file: &[u8], g: usize) -> GlyphMetrics
     ensures { λ r. ⌜ r ≡ glyphMetricsOf (now (file .entry)) g ⌝ }
 {
-    let a = stages::check(file, true);
+    let a = stages::check(file);
     match a {
         Checked::Sound(f) => bitmap::metrics(file, f, g),
         Checked::Refused(r) => GlyphMetrics::Refused(r),
@@ -99,7 +100,7 @@ pub fn metrics(file: &[u8], g: usize) -> GlyphMetrics
 pub fn item(file: &[u8], g: usize, k: usize) -> Walk
     ensures { λ r. ⌜ r ≡ itemOf (now (file .entry)) g k ⌝ }
 {
-    let a = stages::check(file, true);
+    let a = stages::check(file);
     match a {
         Checked::Sound(f) => questions::item_on(file, f, g, k),
         Checked::Refused(r) => Walk::Refused(r),
@@ -111,10 +112,10 @@ pub fn item(file: &[u8], g: usize, k: usize) -> Walk
 pub fn find_value(file: &[u8], v: u32) -> Lookup
     ensures { λ r. ⌜ r ≡ valueGlyph (now (file .entry)) v ⌝ }
 {
-    let a = stages::check(file, false);
+    let a = stages::check_to_table(file);
     match a {
-        Checked::Sound(f) => questions::value_on(file, f, v),
-        Checked::Refused(r) => Lookup::Refused(r),
+        ToTable::Sound(_, f) => questions::value_on(file, f, v),
+        ToTable::Refused(r) => Lookup::Refused(r),
     }
 }
 
@@ -123,10 +124,10 @@ pub fn find_value(file: &[u8], v: u32) -> Lookup
 pub fn find_sequence(file: &[u8], vs: &[u32]) -> Lookup
     ensures { λ r. ⌜ r ≡ sequenceGlyph (now (file .entry)) (now (vs .entry)) ⌝ }
 {
-    let a = stages::check(file, false);
+    let a = stages::check_to_table(file);
     match a {
-        Checked::Sound(f) => questions::sequence_on(file, f, vs),
-        Checked::Refused(r) => Lookup::Refused(r),
+        ToTable::Sound(_, f) => questions::sequence_on(file, f, vs),
+        ToTable::Refused(r) => Lookup::Refused(r),
     }
 }
 

@@ -11,6 +11,7 @@ use Rattle.base.proofs.Parts.{bytes-take}
 use Rattle.base.proofs.Tests.{below, by-when}
 use Rattle.refusal.specs.Meaning.{noGlyph}
 use Rattle.refusal.specs.declared.Refusal.{Refusal}
+use Rattle.table.specs.declared.TableAnswer.{TableAnswer}
 use Rattle.table.specs.declared.TableAnswer.the-variants.{Cut}
 use Rattle.table.specs.Meaning.{Desc, encode, Readable, InGlyph}
 use Rattle.table.specs.Reading.{tableOf}
@@ -43,7 +44,7 @@ use Rattle.bitmap.specs.declared.GlyphMetrics.the-variants.{Is as IsMetrics, Re
 use Rattle.bitmap.specs.Reading.{entryLocated, kindBitmap, bitmapOf, wholeOf, rowOf, pixelOf, metricsOf}
 use Rattle.bitmap.proofs.Places.{known, too-high}
 use Rattle.stages.specs.Meaning.{codingOf, tailOf}
-use Rattle.stages.specs.Reading.{checkOf}
+use Rattle.stages.specs.Reading.{toldAt, checkOf}
 use Rattle.stages.proofs.Cases.{accepted, passed-entries, passed-body}
 use Rattle.questions.specs.declared.Walk.{Walk}
 use Rattle.questions.specs.declared.Walk.the-variants.{Is, Refused as NoWalk}
@@ -62,7 +63,7 @@ use Rattle.conversion.specs.declared.Suits.the-variants.{Yes, Refused as Unsuit
 use Rattle.conversion.specs.declared.Prepared.{Prepared}
 use Rattle.conversion.specs.declared.Prepared.the-variants.{Ready, Refused as Unprepared}
 use Rattle.conversion.specs.Meaning.{sourceKind, targetKind}
-use Rattle.conversion.specs.Reading.{ofKind, openedOf, suitsPsf1, evenness, evenSuits, suitsOf, measuredOf, fitting, glyphIn, glyphAt, measuredThen, suitsThen, openedThen, preparedOn, preparedOf}
+use Rattle.conversion.specs.Reading.{ofKind, openedOf, suitsPsf1, evenness, evenSuits, suitsOf, measuredOf, fitting, glyphTold, glyphAt, measuredThen, suitsThen, openedThen, preparedOn, preparedOf}
 use Rattle.conversion.proofs.Cases.{uneven-within}
 use Rattle.conversion.proofs.Ready.{opened-sound}
 use Rattle.convert.specs.declared.Converted.{Converted}
@@ -277,7 +278,7 @@ module _ (s : List ℕ) (y : Bytes s) where
           let n : length (d .0) ≡ f .count = counted f (f .table) (d .0) (w .0) (d .1) (w .2) in
           let t : tableOf (codingOf (f .kind)) (f .count) (take i (tailOf s f)) ≡ Cut i (w .0) =
           ap (λ (x : Kind). tableOf (codingOf x) (f .count) (take i (tailOf s f))) k ∙ ap (λ (x : ℕ). tableOf (codingOf (sourceKind c)) x (take i (tailOf s f))) (sym n) ∙ w .1 in
-          subst (Told s 19 (f .end + i)) (ap glyphIn (sym t))
+          subst (Told s 19 (f .end + i)) (ap (λ (a : TableAnswer). glyphTold (toldAt (f .end) a)) (sym t))
           (in-table s y f (accepted s f e .0) 19 i (w .0) (inr (inr refl)) (omega (arith, w .2, n), subst (λ (x : Kind). InGlyph (codingOf x) (tailOf s f) i (w .0)) (sym k) (w .3)))
 
   prepared : (c : Conversion) → OfPrepared s (preparedOf c s)

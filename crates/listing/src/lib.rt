@@ -128,7 +128,7 @@ pub fn list(file: &[u8], out: &mut [u8]) -> Listed
     if 65536 < file.len() {
         return list_text(b"too big\n", out);
     }
-    let a = stages::check(file, true);
+    let a = stages::check(file);
     match a {
         Checked::Sound(f) => list_font(file, f, out),
         Checked::Refused(r) => list_refused(r, out),

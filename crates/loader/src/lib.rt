@@ -331,7 +331,7 @@ fn told_open(l: Loader) -> Checked
         let h = l.held;
         let n = h.len;
         let bytes = h.bytes;
-        return stages::check(&bytes[..n], true);
+        return stages::check(&bytes[..n]);
     }
     let c = stages::describes(&header);
     match c {

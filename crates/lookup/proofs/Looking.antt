@@ -22,7 +22,7 @@ use Rattle.table.specs.Skipping.{Phase, singles, opened, filled, isOpened, isIn
 use Rattle.table.proofs.Skipping.{phase-none, phase-here, ended-trailing, ended-complete}
 use Rattle.lookup.specs.declared.Found.{Found}
 use Rattle.lookup.specs.declared.Found.the-variants.{At, Nothing}
-use Rattle.lookup.specs.Reading.{findValue, goesOn, isWhole, rest, findSequenceFrom, findFrom, sequenceIn, beginsAt, soughtOf}
+use Rattle.lookup.specs.Reading.{findValue, goesOn, isWhole, rest, findSequenceFrom, findFrom, sequenceIn, beginsAt, lookedOf}
 use Rattle.lookup.proofs.Finding.{no-matter}
 
 -- whether a sequence stands from a place on, one law for each way that a turn can go
@@ -193,18 +193,18 @@ unfolding findValue findSequenceFrom stepItems
 find-nil false vs g p = refl
 find-nil true vs g p = refl
 
-pub sought-ended : (c : Coding) (s : List ℕ) (q : Bool) (vs : List ℕ) (g : ℕ) (p : Phase) (at : ℕ) →
-    soughtOf Nothing (endedOf (length s) at) ≡ soughtOf (findFrom q vs g p (stepsAt c s at)) (endedOf (length s) at)
+pub looked-ended : (c : Coding) (s : List ℕ) (q : Bool) (vs : List ℕ) (g : ℕ) (p : Phase) (at : ℕ) →
+    lookedOf Nothing (endedOf (length s) at) ≡ lookedOf (findFrom q vs g p (stepsAt c s at)) (endedOf (length s) at)
 unfolding stepsFrom
-sought-ended c s q vs g p at = go (below at (length s))
+looked-ended c s q vs g p at = go (below at (length s))
   where
-    go : (at < length s) ⊎ (length s ≤ at) → soughtOf Nothing (endedOf (length s) at) ≡ soughtOf (findFrom q vs g p (stepsAt c s at)) (endedOf (length s) at)
+    go : (at < length s) ⊎ (length s ≤ at) → lookedOf Nothing (endedOf (length s) at) ≡ lookedOf (findFrom q vs g p (stepsAt c s at)) (endedOf (length s) at)
     go (inl l) = rw (← ended-trailing (length s) at l)
-    go (inr l) = ap (λ (w : Found). soughtOf w (endedOf (length s) at)) (sym (ap (λ (t : List ℕ). findFrom q vs g p (stepsFrom c at 0 t)) (drop-of-length-le s l) ∙ find-nil q vs g p))
+    go (inr l) = ap (λ (w : Found). lookedOf w (endedOf (length s) at)) (sym (ap (λ (t : List ℕ). findFrom q vs g p (stepsFrom c at 0 t)) (drop-of-length-le s l) ∙ find-nil q vs g p))
 
-pub sought-refused : (e g : ℕ) (x : Step) → NoValue x → (w u : Found) → soughtOf w (refusedOf e g x) ≡ soughtOf u (refusedOf e g x)
-sought-refused e g (StepValue v next) n w u = absurd n
-sought-refused e g (StepStart next) n w u = refl
-sought-refused e g (StepEnd next) n w u = refl
-sought-refused e g StepCut n w u = refl
-sought-refused e g (StepBad j) n w u = refl
+pub looked-refused : (e g : ℕ) (x : Step) → NoValue x → (w u : Found) → lookedOf w (refusedOf e g x) ≡ lookedOf u (refusedOf e g x)
+looked-refused e g (StepValue v next) n w u = absurd n
+looked-refused e g (StepStart next) n w u = refl
+looked-refused e g (StepEnd next) n w u = refl
+looked-refused e g StepCut n w u = refl
+looked-refused e g (StepBad j) n w u = refl

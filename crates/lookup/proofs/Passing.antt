@@ -23,9 +23,9 @@ use Rattle.table.proofs.Skipping.{HaltedAt, phase-none, phase-value, next-phase
 use Rattle.table.proofs.Halting.{ended-there, refused-there, left-after, halted-after, check-after, fresh-check}
 use Rattle.lookup.specs.declared.Found.{Found}
 use Rattle.lookup.specs.declared.Found.the-variants.{At, Nothing}
-use Rattle.lookup.specs.declared.Sought.{Sought}
-use Rattle.lookup.specs.Reading.{findAsked, soughtOf, findFrom, beginsAt}
-use Rattle.lookup.proofs.Looking.{findFront, find-skip, found-or-next, sought-ended, sought-refused}
+use Rattle.lookup.specs.declared.Looked.{Looked}
+use Rattle.lookup.specs.Reading.{findAsked, lookedOf, findFrom, beginsAt}
+use Rattle.lookup.proofs.Looking.{findFront, find-skip, found-or-next, looked-ended, looked-refused}
 
 -- a step of another kind than a value's
 pub no-value : (x : Step) → OneOf (1 ∷ 2 ∷ 3 ∷ 4 ∷ []) (tagOf the-type x) → NoValue x
@@ -37,9 +37,6 @@ no-value (StepStart next) h = tt
 no-value (StepEnd next) h = tt
 no-value StepCut h = tt
 no-value (StepBad k) h = tt
-
-pub place-of : (f : Cursor) (at left start : ℕ) → f ≡ cursorOf at left start → f .at ≡ at
-place-of f at left start e = ap (λ (x : Cursor). x .at) e
 
 module _ (c : Coding) (s : List ℕ) (n : ℕ) (q : Bool) (vs : List ℕ) where
   -- what holds at a cursor: it stands in the table, and the check and what is found go on from there
@@ -60,42 +57,39 @@ module _ (c : Coding) (s : List ℕ) (n : ℕ) (q : Bool) (vs : List ℕ) where
           let z : n - n ≡ 0 = omega arith in
           ap (λ (g : ℕ). findFrom q vs g (phaseOf noStart 0) (stepsAt c s 0)) z ∙ ap (λ (p : Phase). findFrom q vs 0 p (stepsAt c s 0)) (phase-none 0) ∙ asked q
 
+  pub goes-stands : (at left start : ℕ) → Goes at left start → (left ≡ 0 → ⊥) → Stands s (cursorOf at left start) × (1 ≤ left)
+  goes-stands at left start w l = (w .0, omega arith)
+
   -- a cursor that was gone to
-  module _ (at left start : ℕ) (w : Goes at left start) (l : left ≡ 0 → ⊥) (k : ℕ) (h : 1 ≤ length vs) (e : k ≡ keyOf c (getD vs 0 0)) (f p : Cursor) (d : f ≡ cursorOf at left start) where
-    pub goes-stands : Stands s f × (1 ≤ f .left)
-    goes-stands = subst (λ (x : Cursor). Stands s x × (1 ≤ x .left)) (sym d) (w .0, omega arith)
+  module _ (at left start : ℕ) (w : Goes at left start) (l : left ≡ 0 → ⊥) (k : ℕ) (h : 1 ≤ length vs) (e : k ≡ keyOf c (getD vs 0 0)) (p : Cursor)
+      (r : frontAt c s p ≡ skipped c k (frontAt c s (cursorOf at left start))) (b : Stands s p) where
+    pub goes-skipped : Goes (p .at) (p .left) (p .start)
+    goes-skipped =
+        let m : 1 ≤ left = omega arith in
+        let z : left ≡ suc (left - 1) = omega arith in
+        let u = left-after c s k (cursorOf at left start) p r m in (
+          b,
+          omega (arith, u, w .1),
+          check-after c s k (cursorOf at left start) p r m n (w .1) ∙ w .2,
+          ap (findFront q vs n) r
+              ∙ sym (find-skip c k vs h (sym e) n q (left - 1) (phaseOf start at) at (stepsAt c s at) (omega (arith, w .1)))
+              ∙ sym (ap (λ (m : ℕ). findFront q vs n (front m (phaseOf start at) at (stepsAt c s at))) z)
+              ∙ w .3,
+        )
 
-    module _ (r : frontAt c s p ≡ skipped c k (frontAt c s f)) (b : Stands s p) where
-      from-here : frontAt c s p ≡ skipped c k (frontAt c s (cursorOf at left start))
-      from-here = r ∙ ap (λ (x : Cursor). skipped c k (frontAt c s x)) d
-
-      pub goes-skipped : Goes (p .at) (p .left) (p .start)
-      goes-skipped =
-          let m : 1 ≤ left = omega arith in
-          let z : left ≡ suc (left - 1) = omega arith in
-          let u = left-after c s k (cursorOf at left start) p from-here m in (
-            b,
-            omega (arith, u, w .1),
-            check-after c s k (cursorOf at left start) p from-here m n (w .1) ∙ w .2,
-            ap (findFront q vs n) from-here
-                ∙ sym (find-skip c k vs h (sym e) n q (left - 1) (phaseOf start at) at (stepsAt c s at) (omega (arith, w .1)))
-                ∙ sym (ap (λ (m : ℕ). findFront q vs n (front m (phaseOf start at) at (stepsAt c s at))) z)
-                ∙ w .3,
-          )
-
-      pub goes-halted : HaltedAt c k (frontAt c s p)
-      goes-halted = halted-after c s k (cursorOf at left start) p from-here (omega arith)
+    pub goes-halted : HaltedAt c k (frontAt c s p)
+    goes-halted = halted-after c s k (cursorOf at left start) p r (omega arith)
 
   -- what is told
-  both : (a : Found) (t : TableAnswer) → a ≡ findAsked q vs (itemsIn c s) → t ≡ tableOf c n s → soughtOf a t ≡ soughtOf (findAsked q vs (itemsIn c s)) (tableOf c n s)
-  both a t x y = ap (λ (b : Found). soughtOf b t) x ∙ ap (soughtOf (findAsked q vs (itemsIn c s))) y
+  both : (a : Found) (t : TableAnswer) → a ≡ findAsked q vs (itemsIn c s) → t ≡ tableOf c n s → lookedOf a t ≡ lookedOf (findAsked q vs (itemsIn c s)) (tableOf c n s)
+  both a t x y = ap (λ (b : Found). lookedOf b t) x ∙ ap (lookedOf (findAsked q vs (itemsIn c s))) y
 
   module _ (at left start : ℕ) (w : Goes at left start) where
     -- behind the last description
-    pub told-ended : left ≡ 0 → (t : TableAnswer) → t ≡ endedOf (length s) at → (r : Sought) → r ≡ soughtOf Nothing t → r ≡ soughtOf (findAsked q vs (itemsIn c s)) (tableOf c n s)
+    pub told-ended : left ≡ 0 → (t : TableAnswer) → t ≡ endedOf (length s) at → (r : Looked) → r ≡ lookedOf Nothing t → r ≡ lookedOf (findAsked q vs (itemsIn c s)) (tableOf c n s)
     told-ended z t y r x =
         let g : n - left ≡ n - 0 = omega arith in
-        x ∙ ap (soughtOf Nothing) y ∙ sought-ended c s q vs (n - left) (phaseOf start at) at
+        x ∙ ap (lookedOf Nothing) y ∙ looked-ended c s q vs (n - left) (phaseOf start at) at
         ∙ both (findFrom q vs (n - left) (phaseOf start at) (stepsAt c s at)) (endedOf (length s) at) (w .3)
         (ended-there c s (n - left) (isOpened (phaseOf start at)) at
         ∙ ap (λ (m : ℕ). checkSteps (length s) (n - left) m (isOpened (phaseOf start at)) at (stepsAt c s at)) (sym z)
@@ -103,11 +97,11 @@ module _ (c : Coding) (s : List ℕ) (n : ℕ) (q : Bool) (vs : List ℕ) where
 
     -- where no value stands
     pub told-refused : (left ≡ 0 → ⊥) → (k : ℕ) → HaltedAt c k (frontAt c s (cursorOf at left start)) → NoValue (stepAt c s at) →
-        (t : TableAnswer) → t ≡ refusedOf (length s) (n - left) (stepAt c s at) → (r : Sought) → r ≡ soughtOf Nothing t → r ≡ soughtOf (findAsked q vs (itemsIn c s)) (tableOf c n s)
+        (t : TableAnswer) → t ≡ refusedOf (length s) (n - left) (stepAt c s at) → (r : Looked) → r ≡ lookedOf Nothing t → r ≡ lookedOf (findAsked q vs (itemsIn c s)) (tableOf c n s)
     told-refused z k (inl u) v t y r x = absurd (z u)
     told-refused z k (inr u) v t y r x =
         let m : suc (left - 1) ≡ left = omega arith in
-        x ∙ ap (soughtOf Nothing) y ∙ sought-refused (length s) (n - left) (stepAt c s at) v Nothing (findFrom q vs (n - left) (phaseOf start at) (stepsAt c s at))
+        x ∙ ap (lookedOf Nothing) y ∙ looked-refused (length s) (n - left) (stepAt c s at) v Nothing (findFrom q vs (n - left) (phaseOf start at) (stepsAt c s at))
         ∙ both (findFrom q vs (n - left) (phaseOf start at) (stepsAt c s at)) (refusedOf (length s) (n - left) (stepAt c s at)) (w .3)
         (refused-there c s at (phaseOf start at) k u v (n - left) (left - 1) (w .0 .0)
         ∙ ap (λ (i : ℕ). checkSteps (length s) (n - left) i (isOpened (phaseOf start at)) at (stepsAt c s at)) m
@@ -154,8 +148,8 @@ module _ (c : Coding) (s : List ℕ) (n : ℕ) (q : Bool) (vs : List ℕ) where
         pub next-stands : (f : Cursor) → f ≡ cursorOf next left start → Stands s f × (1 ≤ f .left) × (f .left ≤ n)
         next-stands f d = subst (λ (x : Cursor). Stands s x × (1 ≤ x .left) × (x .left ≤ n)) (sym d) (stands-next, omega arith, w .1)
 
-        pub told-found : t ≡ true → (f : Cursor) → f ≡ cursorOf next left start → (a : TableAnswer) → a ≡ checkAt c s n f → (r : Sought) → r ≡ soughtOf (At (n - left)) a →
-            r ≡ soughtOf (findAsked q vs (itemsIn c s)) (tableOf c n s)
+        pub told-found : t ≡ true → (f : Cursor) → f ≡ cursorOf next left start → (a : TableAnswer) → a ≡ checkAt c s n f → (r : Looked) → r ≡ lookedOf (At (n - left)) a →
+            r ≡ lookedOf (findAsked q vs (itemsIn c s)) (tableOf c n s)
         told-found x f d a u r m =
             m ∙ both (At (n - left)) a
             (sym (by-value ∙ ap (λ (i : Bool). pick i (At (n - left)) (findFrom q vs (n - left) (phaseOf start next) (stepsAt c s next))) (sym y ∙ x)) ∙ w .3)

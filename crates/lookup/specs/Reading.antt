@@ -11,14 +11,14 @@ use Rattle.table.specs.declared.Step.{Step}
 use Rattle.table.specs.declared.Step.the-variants.{Value as StepValue, Start as StepStart, End as StepEnd, Cut as StepCut, Bad as StepBad}
 use Rattle.table.specs.declared.TableAnswer.{TableAnswer}
 use Rattle.table.specs.declared.TableAnswer.the-variants.{Complete, Cut as TableCut, Bad as TableBad, Trailing}
-use Rattle.table.specs.Reading.{stepItems}
+use Rattle.table.specs.Reading.{stepItems, tablePlace}
 use Rattle.table.specs.Skipping.{Phase, singles, opened, filled, isOpened, isInside}
 use Rattle.lookup.specs.declared.Walked.{Walked}
 use Rattle.lookup.specs.declared.Walked.the-variants.{Found as Got, Nothing as NoItem}
 use Rattle.lookup.specs.declared.Found.{Found}
 use Rattle.lookup.specs.declared.Found.the-variants.{At, Nothing}
-use Rattle.lookup.specs.declared.Sought.{Sought}
-use Rattle.lookup.specs.declared.Sought.the-variants.{At as SoughtAt, Nothing as SoughtNothing, Cut as SoughtCut, Bad as SoughtBad, Trailing as SoughtTrailing}
+use Rattle.lookup.specs.declared.Looked.{Looked}
+use Rattle.lookup.specs.declared.Looked.the-variants.{At as LookedAt, Not}
 
 -- item k of description g
 unfoldable pub itemAt : ℕ → ℕ → List Item → Walked
@@ -78,24 +78,21 @@ abbrev pub findAsked : Bool → List ℕ → List Item → Found
 findAsked false vs is = findValue (getD vs 0 0) 0 is
 findAsked true vs is = findSequence vs is
 
--- what was found, where the table is complete; else why it is refused
-abbrev pub foundAs : Found → Sought
-foundAs (At g) = SoughtAt g
-foundAs Nothing = SoughtNothing
+-- what was found, where the table is complete; else what its check says
+abbrev pub foundAs : Found → Looked
+foundAs (At g) = LookedAt g
+foundAs Nothing = Not Complete
 
-abbrev pub soughtOf : Found → TableAnswer → Sought
-soughtOf w Complete = foundAs w
-soughtOf w (TableCut k g) = SoughtCut k g
-soughtOf w (TableBad k g) = SoughtBad k g
-soughtOf w (Trailing k) = SoughtTrailing k
+abbrev pub lookedOf : Found → TableAnswer → Looked
+lookedOf w Complete = foundAs w
+lookedOf w (TableCut k g) = Not (TableCut k g)
+lookedOf w (TableBad k g) = Not (TableBad k g)
+lookedOf w (Trailing k) = Not (Trailing k)
 
--- its place in the tail
-abbrev pub soughtPlace : Sought → ℕ
-soughtPlace (SoughtAt g) = 0
-soughtPlace SoughtNothing = 0
-soughtPlace (SoughtCut k g) = k
-soughtPlace (SoughtBad k g) = k
-soughtPlace (SoughtTrailing k) = k
+-- the place in the tail that is told
+abbrev pub lookedPlace : Looked → ℕ
+lookedPlace (LookedAt g) = 0
+lookedPlace (Not a) = tablePlace a
 
 -- what is asked for, from a phase of a description on, counted from g: just after a start mark the sequence that is read is like vs so far
 abbrev pub findFrom : Bool → List ℕ → ℕ → Phase → List Step → Found

@@ -5,7 +5,7 @@ ghost use Prim.Native.Nat.{_≤_};
 ghost use lib.ListN.{length};
 ghost use Rattle.table.specs.Reading.{itemsIn, stepsAt, tableOf};
 ghost use Rattle.table.specs.Skipping.{phaseOf, Stands};
-ghost use Rattle.lookup.specs.Reading.{itemAt, findValue, findSequence, sequenceIn, beginsAt, soughtOf, findAsked};
+ghost use Rattle.lookup.specs.Reading.{itemAt, findValue, findSequence, sequenceIn, beginsAt, lookedOf, findAsked};
 use coding::Coding;
 use table::Cursor;
 use table::Item;
@@ -24,13 +24,10 @@ pub enum Found {
     Nothing,
 }
 
-// The same of a table that is complete; else why it is refused, as `TableAnswer` has it.
-pub enum Sought {
+// The lowest glyph of a table that is complete; else what the check of the table says: where that is complete too, no glyph lists it.
+pub enum Looked {
     At(usize),
-    Nothing,
-    Cut(usize, usize),
-    Bad(usize, usize),
-    Trailing(usize),
+    Not(TableAnswer),
 }
 
 // Item k of glyph g, counted from 0, in the order of the file.
@@ -127,65 +124,65 @@ fn begins(sequence: bool, vs: &[u32], c: Coding, tail: &[u8], p: Cursor, w: u32)
     false
 }
 
-// What was found, where the table is complete; else why it is refused.
-fn sought_by(w: Found, a: TableAnswer) -> Sought
-    ensures { λ r. ⌜ r ≡ soughtOf w a ⌝ }
+// What was found, where the table is complete; else what its check says.
+fn looked_by(w: Found, a: TableAnswer) -> Looked
+    ensures { λ r. ⌜ r ≡ lookedOf w a ⌝ }
 {
     match a {
         TableAnswer::Complete => match w {
-            Found::At(g) => Sought::At(g),
-            Found::Nothing => Sought::Nothing,
+            Found::At(g) => Looked::At(g),
+            Found::Nothing => Looked::Not(a),
         },
-        TableAnswer::Cut(k, g) => Sought::Cut(k, g),
-        TableAnswer::Bad(k, g) => Sought::Bad(k, g),
-        TableAnswer::Trailing(k) => Sought::Trailing(k),
+        TableAnswer::Cut(_, _) => Looked::Not(a),
+        TableAnswer::Bad(_, _) => Looked::Not(a),
+        TableAnswer::Trailing(_) => Looked::Not(a),
     }
 }
 
 // Checks a table of n descriptions and looks for the first of vs as a single, or for the sequence vs, in one pass: it goes over what plainly stands
 // there, up to each value with the key of the first of vs. Asks for some value.
-fn look(c: Coding, tail: &[u8], n: usize, sequence: bool, vs: &[u32]) -> Sought
+fn look(c: Coding, tail: &[u8], n: usize, sequence: bool, vs: &[u32]) -> Looked
     requires { ⌜ 1 ≤ length (now vs) ⌝ }
-    ensures { λ r. ⌜ r ≡ soughtOf (findAsked sequence (now (vs .entry)) (itemsIn c (now (tail .entry)))) (tableOf c n (now (tail .entry))) ⌝ }
+    ensures { λ r. ⌜ r ≡ lookedOf (findAsked sequence (now (vs .entry)) (itemsIn c (now (tail .entry)))) (tableOf c n (now (tail .entry))) ⌝ }
 {
     let key = coding::key_of(c, vs[0]);
     let mut left = n;
     let mut start: usize = table::NO_START;
     let mut at: usize = 0;
     while left != 0 {
-        let p = table::skip(c, &tail[..], key, table::cursor_at(at, left, start));
+        let p = table::skip(c, &tail[..], key, at, left, start);
         left = p.left;
         start = p.start;
         at = p.at;
         if left == 0 {
-            return sought_by(Found::Nothing, table::ended(tail, at));
+            return looked_by(Found::Nothing, table::ended(tail, at));
         }
         let Step::Value(w, next) = table::step_at(c, tail, at) else {
-            return sought_by(Found::Nothing, table::refused(c, tail, at, n - left));
+            return looked_by(Found::Nothing, table::refused(c, tail, at, n - left));
         };
         if begins(sequence, vs, c, tail, p, w) {
-            return sought_by(
+            return looked_by(
                 Found::At(n - left),
                 table::check_from(c, tail, n, table::cursor_at(next, left, start)),
             );
         }
         at = next;
     }
-    sought_by(Found::Nothing, table::ended(tail, at))
+    looked_by(Found::Nothing, table::ended(tail, at))
 }
 
-// The lowest glyph that lists v as a single, in a table of n descriptions; or why the table is refused.
-pub fn find_value(c: Coding, tail: &[u8], n: usize, v: u32) -> Sought
-    ensures { λ r. ⌜ r ≡ soughtOf (findValue v 0 (itemsIn c (now (tail .entry)))) (tableOf c n (now (tail .entry))) ⌝ }
+// The lowest glyph that lists v as a single, in a table of n descriptions; else what the check of the table says.
+pub fn find_value(c: Coding, tail: &[u8], n: usize, v: u32) -> Looked
+    ensures { λ r. ⌜ r ≡ lookedOf (findValue v 0 (itemsIn c (now (tail .entry)))) (tableOf c n (now (tail .entry))) ⌝ }
 {
     let vs = [v; 1];
     look(c, tail, n, false, &vs)
 }
 
 // The lowest glyph that, after some start mark, lists exactly vs up to the next start or end mark; as above. Asks for some value.
-pub fn find_sequence(c: Coding, tail: &[u8], n: usize, vs: &[u32]) -> Sought
+pub fn find_sequence(c: Coding, tail: &[u8], n: usize, vs: &[u32]) -> Looked
     requires { ⌜ 1 ≤ length (now vs) ⌝ }
-    ensures { λ r. ⌜ r ≡ soughtOf (findSequence (now (vs .entry)) (itemsIn c (now (tail .entry)))) (tableOf c n (now (tail .entry))) ⌝ }
+    ensures { λ r. ⌜ r ≡ lookedOf (findSequence (now (vs .entry)) (itemsIn c (now (tail .entry)))) (tableOf c n (now (tail .entry))) ⌝ }
 {
     look(c, tail, n, true, vs)
 }

@@ -1,12 +1,12 @@
 -- What the questions about a table answer on a sound font (document 01): "Lookups and walks: NO TABLE, then ASK, then UNMAPPED."
-use Prim.Native.Nat.{ℕ, _+_}
+use Prim.Native.Nat.{ℕ}
 use mathlib.Core.Bool.{Bool, true, false}
 use mathlib.Core.List.{List, [], _∷_}
 use lib.Dec.{ltb}
 use Rattle.base.specs.Meaning.{pick}
 use Rattle.base.specs.Reading.{when}
-use Rattle.refusal.specs.Meaning.{refusal, refusalAt}
-use Rattle.refusal.specs.declared.Reason.the-variants.{TableCut, TableBad, Trailing, Ask, NoTable, Unmapped}
+use Rattle.refusal.specs.Meaning.{refusal}
+use Rattle.refusal.specs.declared.Reason.the-variants.{Ask, NoTable, Unmapped}
 use Rattle.header.specs.declared.Font.{Font}
 use Rattle.header.specs.declared.Checked.{Checked}
 use Rattle.header.specs.declared.Checked.the-variants.{Sound, Refused}
@@ -16,10 +16,13 @@ use Rattle.lookup.specs.declared.Walked.{Walked}
 use Rattle.lookup.specs.declared.Walked.the-variants.{Found as Got, Nothing as NoItem}
 use Rattle.lookup.specs.declared.Found as F
 use Rattle.lookup.specs.declared.Found.the-variants.{At as FoundAt, Nothing}
-use Rattle.lookup.specs.declared.Sought.{Sought}
-use Rattle.lookup.specs.declared.Sought.the-variants.{At as SoughtAt, Nothing as SoughtNothing, Cut as SoughtCut, Bad as SoughtBad, Trailing as SoughtTrailing}
+use Rattle.lookup.specs.declared.Looked.{Looked}
+use Rattle.lookup.specs.declared.Looked.the-variants.{At as LookedAt, Not}
 use Rattle.lookup.specs.Reading.{itemAt, findValue, findSequence}
+use Rattle.stages.specs.declared.TailAnswer.{TailAnswer}
+use Rattle.stages.specs.declared.TailAnswer.the-variants.{Sound as TailSound, Refused as TailRefused}
 use Rattle.stages.specs.Meaning.{codingOf, tailOf}
+use Rattle.stages.specs.Reading.{toldAt}
 use Rattle.questions.specs.declared.Walk.{Walk}
 use Rattle.questions.specs.declared.Walk.the-variants.{Is, Refused as NoWalk}
 use Rattle.questions.specs.declared.Lookup.{Lookup}
@@ -65,10 +68,11 @@ abbrev pub afterTail : (Font → Lookup) → Checked → Lookup
 afterTail answer (Sound f) = answer f
 afterTail answer (Refused r) = NoLookup r
 
--- what a lookup in one pass with the table's check says, places as offsets in a file whose table begins at e
-abbrev pub toldAt : ℕ → Sought → Lookup
-toldAt e (SoughtAt g) = Glyph g
-toldAt e SoughtNothing = NoLookup (refusal Unmapped 0)
-toldAt e (SoughtCut k g) = NoLookup (refusalAt TableCut (e + k) g)
-toldAt e (SoughtBad k g) = NoLookup (refusalAt TableBad (e + k) g)
-toldAt e (SoughtTrailing k) = NoLookup (refusal Trailing (e + k))
+-- what a lookup in one pass with the table's check says, in a file whose table begins at e: the table's refusal, then ASK, then what was found
+abbrev pub unlisted : Bool → TailAnswer → Lookup
+unlisted asked TailSound = pick asked (NoLookup (refusal Unmapped 0)) (NoLookup (refusal Ask 0))
+unlisted asked (TailRefused r) = NoLookup r
+
+abbrev pub lookupTold : ℕ → Bool → Looked → Lookup
+lookupTold e asked (LookedAt g) = pick asked (Glyph g) (NoLookup (refusal Ask 0))
+lookupTold e asked (Not a) = unlisted asked (toldAt e a)

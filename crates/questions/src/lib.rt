@@ -1,20 +1,22 @@
 // Inner layer: the questions about a table, asked of a font whose parts stand in the file (`Placed`): a walk, and two lookups that check the table in
 // the same pass, with refusals 10 to 15; `fonts` is the public face. Definitions: specs/Reading.antt.
-use header::Checked;
 use header::Font;
-use lookup::Sought;
+use lookup::Looked;
 use lookup::Walked;
 use refusal::Reason;
 use refusal::Refusal;
+use stages::TailAnswer;
 use table::Item;
 ghost use mathlib.Core.Path.{_≡_};
 ghost use Prim.Native.Nat.{_+_, _<_};
+ghost use Rattle.base.specs.Meaning.{pick};
 ghost use Rattle.refusal.specs.Meaning.{refusal};
+ghost use Rattle.refusal.specs.declared.Reason.the-variants.{Ask};
 ghost use Rattle.header.specs.Bounds.{Placed};
-ghost use Rattle.lookup.specs.Reading.{soughtPlace};
-ghost use Rattle.stages.specs.Reading.{tailed};
+ghost use Rattle.lookup.specs.Reading.{lookedPlace};
+ghost use Rattle.stages.specs.Reading.{tabled};
 ghost use Rattle.questions.specs.declared.Lookup.the-variants.{Refused as NoLookup};
-ghost use Rattle.questions.specs.Reading.{itemOn, valueOn, anyHigh, askable, sequenceOn, afterTail, toldAt};
+ghost use Rattle.questions.specs.Reading.{itemOn, valueOn, anyHigh, askable, sequenceOn, afterTail, lookupTold};
 
 // An item of a glyph's description; or the refusal.
 pub enum Walk {
@@ -45,47 +47,49 @@ pub fn item_on(file: &[u8], f: Font, g: usize, k: usize) -> Walk
     Walk::Refused(refusal::refuse(Reason::NoTable, 0))
 }
 
-// What a lookup in one pass says, of a font whose table begins at `end`. Asks for places that are offsets in the file.
-fn told(end: usize, w: Sought) -> Lookup
-    requires { ⌜ end + soughtPlace w < 18446744073709551616 ⌝ }
-    ensures { λ r. ⌜ r ≡ toldAt end w ⌝ }
+// ASK for a question that may not be asked, else its answer.
+fn if_asked(asked: bool, answer: Lookup) -> Lookup
+    ensures { λ r. ⌜ r ≡ pick asked answer (NoLookup (refusal Ask 0)) ⌝ }
+{
+    if asked {
+        return answer;
+    }
+    Lookup::Refused(refusal::refuse(Reason::Ask, 0))
+}
+
+// What a lookup in one pass says, of a font whose table begins at `end`: the table's refusal, then ASK, then what was found. Asks for places that are
+// offsets in the file.
+fn told(end: usize, w: Looked, asked: bool) -> Lookup
+    requires { ⌜ end + lookedPlace w < 18446744073709551616 ⌝ }
+    ensures { λ r. ⌜ r ≡ lookupTold end asked w ⌝ }
 {
     match w {
-        Sought::At(g) => Lookup::Glyph(g),
-        Sought::Nothing => Lookup::Refused(refusal::refuse(Reason::Unmapped, 0)),
-        Sought::Cut(k, g) => Lookup::Refused(refusal::refuse_at(Reason::TableCut, end + k, g)),
-        Sought::Bad(k, g) => Lookup::Refused(refusal::refuse_at(Reason::TableBad, end + k, g)),
-        Sought::Trailing(k) => Lookup::Refused(refusal::refuse(Reason::Trailing, end + k)),
+        Looked::At(g) => if_asked(asked, Lookup::Glyph(g)),
+        Looked::Not(a) => {
+            let t = stages::told_at(end, a);
+            match t {
+                TailAnswer::Sound => {
+                    if_asked(asked, Lookup::Refused(refusal::refuse(Reason::Unmapped, 0)))
+                }
+                TailAnswer::Refused(r) => Lookup::Refused(r),
+            }
+        }
     }
 }
 
-// A question's own refusal, after refusals 10 to 12 of a font whose parts stand in the file (`Placed`).
-fn refuse_after(file: &[u8], f: Font, why: Reason) -> Lookup
-    requires { ⌜ Placed (now file) f ⌝ }
-    ensures { λ r. ⌜ r ≡ afterTail (λ _. NoLookup (refusal why 0)) (tailed (now (file .entry)) f) ⌝ }
-{
-    let a = stages::check_tail(file, f);
-    match a {
-        Checked::Sound(_) => Lookup::Refused(refusal::refuse(why, 0)),
-        Checked::Refused(r) => Lookup::Refused(r),
-    }
-}
-
-// The lowest glyph that lists v as a single, in a font whose parts stand in the file (`Placed`): refusals 10 to 12 first.
+// The lowest glyph that lists v as a single, in a font whose parts stand in the file (`Placed`): the table's refusals first. Where v may not be asked,
+// looking for it is the check.
 pub fn value_on(file: &[u8], f: Font, v: u32) -> Lookup
     requires { ⌜ Placed (now file) f ⌝ }
-    ensures { λ r. ⌜ r ≡ afterTail (valueOn (now (file .entry)) v) (tailed (now (file .entry)) f) ⌝ }
+    ensures { λ r. ⌜ r ≡ afterTail (valueOn (now (file .entry)) v) (tabled (now (file .entry)) f) ⌝ }
 {
     if f.table {
-        if 0x10FFFF < v {
-            return refuse_after(file, f, Reason::Ask);
-        }
         let end = f.end;
         let kind = f.kind;
         let w = lookup::find_value(stages::coding_of(kind), &file[end..], f.count, v);
-        return told(end, w);
+        return told(end, w, v <= 0x10FFFF);
     }
-    refuse_after(file, f, Reason::NoTable)
+    Lookup::Refused(refusal::refuse(Reason::NoTable, 0))
 }
 
 // Whether some value is above 10FFFF.
@@ -112,19 +116,22 @@ fn may_ask(vs: &[u32]) -> bool
     !any_high(vs)
 }
 
-// The lowest glyph that lists the sequence vs, in a font whose parts stand in the file (`Placed`): refusals 10 to 12 first.
+// The lowest glyph that lists the sequence vs, in a font whose parts stand in the file (`Placed`): the table's refusals first. Where vs may not be
+// asked, looking for some value is the check.
 pub fn sequence_on(file: &[u8], f: Font, vs: &[u32]) -> Lookup
     requires { ⌜ Placed (now file) f ⌝ }
-    ensures { λ r. ⌜ r ≡ afterTail (sequenceOn (now (file .entry)) (now (vs .entry))) (tailed (now (file .entry)) f) ⌝ }
+    ensures { λ r. ⌜ r ≡ afterTail (sequenceOn (now (file .entry)) (now (vs .entry))) (tabled (now (file .entry)) f) ⌝ }
 {
     if f.table {
+        let end = f.end;
+        let kind = f.kind;
+        let c = stages::coding_of(kind);
         if may_ask(vs) {
-            let end = f.end;
-            let kind = f.kind;
-            let w = lookup::find_sequence(stages::coding_of(kind), &file[end..], f.count, vs);
-            return told(end, w);
+            let w = lookup::find_sequence(c, &file[end..], f.count, vs);
+            return told(end, w, true);
         }
-        return refuse_after(file, f, Reason::Ask);
+        let w = lookup::find_value(c, &file[end..], f.count, 0);
+        return told(end, w, false);
     }
-    refuse_after(file, f, Reason::NoTable)
+    Lookup::Refused(refusal::refuse(Reason::NoTable, 0))
 }

@@ -2,15 +2,16 @@
 use mathlib.Core.Path.{_≡_, refl, sym, _∙_, ap, subst}
 use mathlib.Core.List.{List}
 use mathlib.Core.Bool.{Bool, true, false}
-use Prim.Native.Nat.{ℕ, _+_, _≤_, _<_}
+use Prim.Native.Nat.{ℕ, _+_, _-_, _≤_, _<_}
 use native.Mathlib.Omega.{arith}
 use lib.Dec.{ltb}
-use lib.ListN.{length, getD, length-drop}
+use lib.ListN.{length, getD, take, drop, length-drop}
 use borrow.Author.Tests.{lt-ltb, le-ltb, ltb-false, eqb-true, not-false}
 use Rattle.base.specs.Meaning.{pick, Bytes}
 use Rattle.base.specs.Reading.{when}
 use Rattle.base.proofs.Chain.{chain}
-use Rattle.base.proofs.Parts.{bytes-drop}
+use Rattle.base.proofs.Parts.{bytes-drop, rest-all}
+use Rattle.refusal.specs.declared.Refusal.{Refusal}
 use Rattle.refusal.specs.Meaning.{refusal}
 use Rattle.refusal.specs.declared.Reason.the-variants.{TooLong, BodyCut, Entry, Trailing}
 use Rattle.coding.specs.declared.Coding.{Coding}
@@ -30,9 +31,13 @@ use Rattle.header.proofs.Known.{never, passes, described}
 use Rattle.entries.specs.declared.Scan.{Scan}
 use Rattle.entries.specs.declared.Scan.the-variants.{BrokenAt, Greatest}
 use Rattle.entries.specs.Reading.{scanOf}
+use Rattle.stages.specs.declared.TailAnswer.{TailAnswer}
+use Rattle.stages.specs.declared.TailAnswer.the-variants.{Sound as TailSound, Refused as TailRefused}
+use Rattle.stages.specs.declared.ToTable.{ToTable}
+use Rattle.stages.specs.declared.ToTable.the-variants.{Sound as ToSound, Refused as ToRefused}
 use Rattle.stages.specs.Meaning.{codingOf, tailOf}
-use Rattle.stages.specs.Reading.{andThen, sized, greatestOf, scanned, kindEntries, entriesOf, answered, bareOf, tailed, throughBody, throughEntries, checkOf}
-use Rattle.stages.specs.Bounds.{CheckedPlaced}
+use Rattle.stages.specs.Reading.{andThen, sized, greatestOf, scanned, kindEntries, entriesOf, passed, answered, tableTail, bareOf, tailed, unlessTable, tabled, throughBody, throughEntries, throughBare, toTable, checkOf}
+use Rattle.stages.specs.Bounds.{CheckedPlaced, ToTablePlaced}
 
 -- 8
 module _ (len : ℕ) (f : Font) where
@@ -68,6 +73,15 @@ place-fits s f y p c =
     omega (arith, p .7, place-within c (f .count) (tailOf s f) (bytes-drop (f .end) s y), length-drop (f .end) s)
 
 module _ (s : List ℕ) (f : Font) where
+  -- what the reader says of the part that it is handed
+  pub table-read : (c : Coding) → c ≡ codingOf (f .kind) → (a : TableAnswer) → a ≡ tableOf c (f .count) (take (length s - f .end) (drop (f .end) s)) →
+      a ≡ tableOf (codingOf (f .kind)) (f .count) (tailOf s f)
+  table-read c e a q = q ∙ rw (rest-all s (f .end), e)
+
+  pub read-fits : Bytes s → Placed s f → (c : Coding) → c ≡ codingOf (f .kind) → (a : TableAnswer) → a ≡ tableOf c (f .count) (take (length s - f .end) (drop (f .end) s)) →
+      f .end + tablePlace a ≤ length s
+  read-fits y p c e a q = subst (λ (x : TableAnswer). f .end + tablePlace x ≤ length s) (sym (table-read c e a q)) (place-fits s f y p (codingOf (f .kind)))
+
   pub with-table : f .table ≡ true → answered f (tableOf (codingOf (f .kind)) (f .count) (tailOf s f)) ≡ tailed s f
   unfolding tailed
   with-table e = rw e
@@ -83,6 +97,45 @@ module _ (s : List ℕ) (f : Font) where
   pub bare-sound : f .table ≡ false → length s ≤ f .end → Sound f ≡ tailed s f
   unfolding bareOf when
   bare-sound e h = let g : Sound f ≡ bareOf s f = rw (le-ltb (f .end) (length s) h) in g ∙ bare e
+
+  -- up to a table, and the table
+  with-flag : (b : Bool) → f .table ≡ b → ToSound b f ≡ toTable (Sound f)
+  with-flag b e = ap (λ (x : Bool). ToSound x f) (sym e)
+
+  pub reached-table : f .table ≡ true → ToSound true f ≡ toTable (unlessTable s f)
+  unfolding unlessTable
+  reached-table e = with-flag true e ∙ ap toTable (let g : Sound f ≡ pick (f .table) (Sound f) (bareOf s f) = rw e in g)
+
+  unless-bare : f .table ≡ false → bareOf s f ≡ unlessTable s f
+  unfolding unlessTable
+  unless-bare e = rw e
+
+  pub reached-trailing : f .table ≡ false → f .end < length s → ToRefused (refusal Trailing (f .end)) ≡ toTable (unlessTable s f)
+  unfolding bareOf when
+  reached-trailing e h = let g : Refused (refusal Trailing (f .end)) ≡ bareOf s f = rw (lt-ltb (f .end) (length s) h) in ap toTable (g ∙ unless-bare e)
+
+  pub reached-end : f .table ≡ false → length s ≤ f .end → ToSound false f ≡ toTable (unlessTable s f)
+  unfolding bareOf when
+  reached-end e h = let g : Sound f ≡ bareOf s f = rw (le-ltb (f .end) (length s) h) in with-flag false e ∙ ap toTable (g ∙ unless-bare e)
+
+  pub tabled-by : (b : Bool) → f .table ≡ b → (a : TailAnswer) → a ≡ pick b (tableTail s f) TailSound → passed f a ≡ tabled s f
+  unfolding tabled
+  tabled-by true e a q = ap (passed f) q ∙ (let g : passed f (tableTail s f) ≡ pick (f .table) (passed f (tableTail s f)) (Sound f) = rw e in g)
+  tabled-by false e a q = ap (passed f) q ∙ (let g : Sound f ≡ pick (f .table) (passed f (tableTail s f)) (Sound f) = rw e in g)
+
+  in-two : tailed s f ≡ andThen (unlessTable s f) (tabled s)
+  unfolding unlessTable tailed bareOf when
+  in-two = go (f .table) refl
+    where
+      by : (b c : Bool) → f .table ≡ b → pick b (passed f (tableTail s f)) (pick c (Refused (refusal Trailing (f .end))) (Sound f))
+          ≡ andThen (pick b (Sound f) (pick c (Refused (refusal Trailing (f .end))) (Sound f))) (tabled s)
+      by true c e = tabled-by true e (tableTail s f) refl
+      by false true e = refl
+      by false false e = tabled-by false e TailSound refl
+
+      go : (b : Bool) → f .table ≡ b → pick b (passed f (tableTail s f)) (when (ltb (f .end) (length s)) (Refused (refusal Trailing (f .end))) (Sound f))
+          ≡ andThen (pick b (Sound f) (when (ltb (f .end) (length s)) (Refused (refusal Trailing (f .end))) (Sound f))) (tabled s)
+      go b e = by b (ltb (f .end) (length s)) e
 
 -- stage after stage, each handing a refusal through
 module _ (s : List ℕ) where
@@ -102,10 +155,37 @@ module _ (s : List ℕ) where
   unfolding checkOf
   tail-after x e = rw e
 
--- the check as far as it is asked for
-pub both-stages : (t : Bool) (x a b : Checked) → (t ≡ true → x ≡ a) → (t ≡ false → x ≡ b) → x ≡ pick t a b
-both-stages true x a b p q = p refl
-both-stages false x a b p q = q refl
+  pub bare-after : (x : Checked) → throughEntries s ≡ x → andThen x (unlessTable s) ≡ throughBare s
+  unfolding throughBare
+  bare-after x e = rw e
+
+  -- the check is what comes before a table, then the table
+  pub table-after : (x : Checked) → throughBare s ≡ x → andThen x (tabled s) ≡ checkOf s
+  unfolding throughBare checkOf
+  table-after x e = ap (λ (y : Checked). andThen y (tabled s)) (sym e) ∙ go (throughEntries s)
+    where
+      go : (y : Checked) → andThen (andThen y (unlessTable s)) (tabled s) ≡ andThen y (tailed s)
+      go (Sound f) = sym (in-two s f)
+      go (Refused r) = refl
+
+came : (y : Checked) (t : Bool) (f : Font) → ToSound t f ≡ toTable y → (y ≡ Sound f) × (f .table ≡ t)
+came (Sound g) t f e = let h : g ≡ f = cc in let b : t ≡ g .table = cc in (ap Sound h, ap (λ (x : Font). x .table) (sym h) ∙ sym b)
+came (Refused r) t f e = let z : _≡_ {A = ℕ} 0 1 = cc in absurd (omega arith)
+
+came-refused : (y : Checked) (r : Refusal) → ToRefused r ≡ toTable y → y ≡ Refused r
+came-refused (Sound g) r e = let z : _≡_ {A = ℕ} 0 1 = cc in absurd (omega arith)
+came-refused (Refused q) r e = let h : q ≡ r = cc in ap Refused h
+
+-- what a call that came to the table, and then checked it, knows of the font
+module _ (s : List ℕ) where
+  pub came-to : (t : Bool) (f : Font) → ToSound t f ≡ toTable (throughBare s) → throughBare s ≡ Sound f
+  came-to t f e = came (throughBare s) t f e .0
+
+  pub checked-by : (t : Bool) (f : Font) → ToSound t f ≡ toTable (throughBare s) → (a : TailAnswer) → a ≡ pick t (tableTail s f) TailSound → passed f a ≡ checkOf s
+  checked-by t f e a q = let w = came (throughBare s) t f e in tabled-by s f t (w .1) a q ∙ table-after s (Sound f) (w .0)
+
+  pub refused-by : (r : Refusal) → ToRefused r ≡ toTable (throughBare s) → Refused r ≡ checkOf s
+  refused-by r e = table-after s (Refused r) (came-refused (throughBare s) r e)
 
 -- a stage that passes gives the font that it was given
 abbrev pub Gives : (Font → Checked) → Type 0
@@ -151,6 +231,14 @@ tailed-gives s f g e = go (f .table) e
 
     go : (t : Bool) → pick t (answered f (tableOf (codingOf (f .kind)) (f .count) (tailOf s f))) (when (ltb (f .end) (length s)) (Refused (refusal Trailing (f .end))) (Sound f)) ≡ Sound g → f ≡ g
     go true e = told (tableOf (codingOf (f .kind)) (f .count) (tailOf s f)) e
+    go false e = sound-same f g (passes _ _ _ g e .1)
+
+unless-gives : (s : List ℕ) → Gives (unlessTable s)
+unfolding unlessTable bareOf
+unless-gives s f g e = go (f .table) e
+  where
+    go : (t : Bool) → pick t (Sound f) (when (ltb (f .end) (length s)) (Refused (refusal Trailing (f .end))) (Sound f)) ≡ Sound g → f ≡ g
+    go true e = sound-same f g e
     go false e = sound-same f g (passes _ _ _ g e .1)
 
 -- a font that passed, and every stage that it passed
@@ -204,6 +292,11 @@ module _ (s : List ℕ) (byte : getD s 3 0 < 256) where
   pub entries-known : (x : Checked) → x ≡ throughEntries s → CheckedPlaced s x
   entries-known (Sound f) e = placed s f byte (sym e)
   entries-known (Refused r) e = tt
+
+  pub reached-placed : (x : ToTable) → x ≡ toTable (throughBare s) → ToTablePlaced s x
+  unfolding throughBare
+  reached-placed (ToSound t f) e = placed s f byte (then-sound (throughEntries s) (unlessTable s) (unless-gives s) f (came-to s t f e) .0)
+  reached-placed (ToRefused r) e = tt
 
   pub checked-placed : (x : Checked) → x ≡ checkOf s → CheckedPlaced s x
   checked-placed (Sound f) e = placed s f byte (accepted s f (sym e) .0)

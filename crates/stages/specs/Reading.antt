@@ -23,6 +23,10 @@ use Rattle.entries.specs.declared.Scan.{Scan}
 use Rattle.entries.specs.declared.Scan.the-variants.{BrokenAt, Greatest}
 use Rattle.entries.specs.Meaning.{entryAt}
 use Rattle.entries.specs.Reading.{scanOf}
+use Rattle.stages.specs.declared.TailAnswer.{TailAnswer}
+use Rattle.stages.specs.declared.TailAnswer.the-variants.{Sound as TailSound, Refused as TailRefused}
+use Rattle.stages.specs.declared.ToTable.{ToTable}
+use Rattle.stages.specs.declared.ToTable.the-variants.{Sound as ToSound, Refused as ToRefused}
 use Rattle.stages.specs.Meaning.{codingOf, tailOf}
 
 -- the next stage of a font, or the refusal of one before it
@@ -54,12 +58,25 @@ kindEntries s f Vfont2 = scanned f (scanOf s (f .size) (f .entries) (f .count) 0
 unfoldable pub entriesOf : List ℕ → Font → Checked
 entriesOf s f = kindEntries s f (f .kind)
 
--- a table's answer, its place an offset in the file; the glyph of CUT and BAD is "the number of descriptions complete before the place"
+-- a table's answer, where the table begins at e, its place an offset in the file; the glyph of CUT and BAD is "the number of descriptions complete
+-- before the place"
+abbrev pub toldAt : ℕ → TableAnswer → TailAnswer
+toldAt e Complete = TailSound
+toldAt e (Cut k g) = TailRefused (refusalAt TableCut (e + k) g)
+toldAt e (Bad k g) = TailRefused (refusalAt TableBad (e + k) g)
+toldAt e (Over k) = TailRefused (refusal Trailing (e + k))
+
+-- a font by what its tail says
+abbrev pub passed : Font → TailAnswer → Checked
+passed f TailSound = Sound f
+passed f (TailRefused r) = Refused r
+
 abbrev pub answered : Font → TableAnswer → Checked
-answered f Complete = Sound f
-answered f (Cut k g) = Refused (refusalAt TableCut (f .end + k) g)
-answered f (Bad k g) = Refused (refusalAt TableBad (f .end + k) g)
-answered f (Over k) = Refused (refusal Trailing (f .end + k))
+answered f a = passed f (toldAt (f .end) a)
+
+-- what a font's table says
+abbrev pub tableTail : List ℕ → Font → TailAnswer
+tableTail s f = toldAt (f .end) (tableOf (codingOf (f .kind)) (f .count) (tailOf s f))
 
 -- "bytes after the bitmaps of a font without" a table
 unfoldable pub bareOf : List ℕ → Font → Checked
@@ -76,6 +93,23 @@ throughBody s = when (ltb limit (length s)) (Refused (refusal TooLong limit)) (a
 -- refusals 1 to 9
 unfoldable pub throughEntries : List ℕ → Checked
 throughEntries s = andThen (throughBody s) (entriesOf s)
+
+-- refusal 12 of a font without a table
+unfoldable pub unlessTable : List ℕ → Font → Checked
+unlessTable s f = pick (f .table) (Sound f) (bareOf s f)
+
+-- 10 to 12 of a font with a table
+unfoldable pub tabled : List ℕ → Font → Checked
+tabled s f = pick (f .table) (passed f (tableTail s f)) (Sound f)
+
+-- refusals 1 to 9, and 12 of a font without a table
+unfoldable pub throughBare : List ℕ → Checked
+throughBare s = andThen (throughEntries s) (unlessTable s)
+
+-- the same, with whether there is a table still to be checked
+abbrev pub toTable : Checked → ToTable
+toTable (Sound f) = ToSound (f .table) f
+toTable (Refused r) = ToRefused r
 
 -- refusals 1 to 12, or what the font is
 unfoldable pub checkOf : List ℕ → Checked

@@ -9,18 +9,21 @@ use header::Named;
 use psf1::Psf1;
 use psf2::Psf2;
 use refusal::Reason;
+use refusal::Refusal;
 use table::TableAnswer;
 use vfont2::Vfont2;
 ghost use mathlib.Core.Path.{_≡_};
+ghost use Prim.Native.Nat.{_+_, _<_};
 ghost use Rattle.base.specs.Meaning.{pick};
 ghost use Rattle.header.specs.declared.Kind.the-variants.{Vfont2 as vfont2};
 ghost use Rattle.header.specs.Reading.{kindOf, saysOf};
 ghost use Rattle.header.specs.Bounds.{Placed};
 ghost use Rattle.entries.specs.Reading.{scanOf};
-ghost use Rattle.table.specs.Reading.{tableOf};
-ghost use Rattle.stages.specs.Meaning.{codingOf, tailOf};
-ghost use Rattle.stages.specs.Reading.{sized, greatestOf, scanned, entriesOf, answered, tailed, throughBody, throughEntries, checkOf};
-ghost use Rattle.stages.specs.Bounds.{CheckedPlaced};
+ghost use Rattle.table.specs.Reading.{tablePlace};
+ghost use Rattle.stages.specs.declared.TailAnswer.the-variants.{Sound as TailSound};
+ghost use Rattle.stages.specs.Meaning.{codingOf};
+ghost use Rattle.stages.specs.Reading.{sized, greatestOf, scanned, entriesOf, toldAt, tableTail, unlessTable, toTable, throughBody, throughEntries, throughBare, checkOf};
+ghost use Rattle.stages.specs.Bounds.{CheckedPlaced, ToTablePlaced};
 
 // How a kind of file writes its table's values.
 pub fn coding_of(kind: Kind) -> Coding
@@ -135,43 +138,75 @@ pub fn check_entries(file: &[u8], f: Font) -> Checked
     }
 }
 
-// The answer on the table of a font whose parts stand in the file (`Placed`). The table reader is handed only the tail.
-fn check_font_table(file: &[u8], f: Font) -> Checked
-    requires { ⌜ Placed (now file) f ⌝ }
-    ensures { λ r. ⌜ r ≡ answered f (tableOf (codingOf (f .kind)) (f .count) (tailOf (now (file .entry)) f)) ⌝ }
+// What refusals 10 to 12 say of a tail.
+pub enum TailAnswer {
+    Sound,
+    Refused(Refusal),
+}
+
+// What a table's answer says, where the table begins at `end`. Asks for places that are offsets in a file.
+pub fn told_at(end: usize, a: TableAnswer) -> TailAnswer
+    requires { ⌜ end + tablePlace a < 18446744073709551616 ⌝ }
+    ensures { λ r. ⌜ r ≡ toldAt end a ⌝ }
 {
-    let end = f.end;
-    let kind = f.kind;
-    let c = coding_of(kind);
-    let a = table::check_table(c, &file[end..], f.count);
     match a {
-        TableAnswer::Complete => Checked::Sound(f),
-        TableAnswer::Cut(k, g) => Checked::Refused(refusal::refuse_at(
+        TableAnswer::Complete => TailAnswer::Sound,
+        TableAnswer::Cut(k, g) => TailAnswer::Refused(refusal::refuse_at(
             Reason::TableCut,
             end + k,
             g,
         )),
-        TableAnswer::Bad(k, g) => Checked::Refused(refusal::refuse_at(
+        TableAnswer::Bad(k, g) => TailAnswer::Refused(refusal::refuse_at(
             Reason::TableBad,
             end + k,
             g,
         )),
-        TableAnswer::Trailing(k) => Checked::Refused(refusal::refuse(Reason::Trailing, end + k)),
+        TableAnswer::Trailing(k) => {
+            TailAnswer::Refused(refusal::refuse(Reason::Trailing, end + k))
+        }
     }
 }
 
-// Refusals 10 to 12 of a font whose parts stand in the file (`Placed`).
-pub fn check_tail(file: &[u8], f: Font) -> Checked
+// What the table of a font says whose parts stand in the file (`Placed`). The table reader is handed only the tail.
+pub fn check_font_table(file: &[u8], f: Font) -> TailAnswer
     requires { ⌜ Placed (now file) f ⌝ }
-    ensures { λ r. ⌜ r ≡ tailed (now (file .entry)) f ⌝ }
+    ensures { λ r. ⌜ r ≡ tableTail (now (file .entry)) f ⌝ }
 {
-    if f.table {
+    let end = f.end;
+    let kind = f.kind;
+    let c = coding_of(kind);
+    told_at(end, table::check_table(c, &file[end..], f.count))
+}
+
+// The same of a font that may have no table.
+pub fn check_tail(file: &[u8], f: Font, table: bool) -> TailAnswer
+    requires { ⌜ Placed (now file) f ⌝ }
+    ensures { λ r. ⌜ r ≡ pick table (tableTail (now (file .entry)) f) TailSound ⌝ }
+{
+    if table {
         return check_font_table(file, f);
     }
-    if f.end < file.len() {
-        return Checked::Refused(refusal::refuse(Reason::Trailing, f.end));
+    TailAnswer::Sound
+}
+
+// A font whose check has come to its table, and whether it has one; or the refusal. The flag stands beside the font, so that a call reads no field
+// of it before its table is checked (docs/DECISIONS.md, "Speed").
+pub enum ToTable {
+    Sound(bool, Font),
+    Refused(Refusal),
+}
+
+// Refusal 12 of a font without a table.
+fn check_bare(file: &[u8], f: Font) -> ToTable
+    ensures { λ r. ⌜ r ≡ toTable (unlessTable (now (file .entry)) f) ⌝ }
+{
+    if f.table {
+        return ToTable::Sound(true, f);
     }
-    Checked::Sound(f)
+    if f.end < file.len() {
+        return ToTable::Refused(refusal::refuse(Reason::Trailing, f.end));
+    }
+    ToTable::Sound(false, f)
 }
 
 // Refusals 1 to 8 in their order; and that the parts of a font that passes stand in the file.
@@ -202,20 +237,33 @@ pub fn check_dispatched(file: &[u8]) -> Checked
     }
 }
 
-// Refusals 1 to 9, and where the tail is to be checked too 10 to 12; or what the font is, as above. One function for both, since a second caller of
-// `check_dispatched` would keep the compiler from putting that into the check (docs/DECISIONS.md, "Speed").
-pub fn check(file: &[u8], tail: bool) -> Checked
-    ensures equal { λ r. ⌜ r ≡ pick tail (checkOf (now (file .entry))) (throughEntries (now (file .entry))) ⌝ }
-    ensures bounded { λ r. ⌜ CheckedPlaced (now (file .entry)) r ⌝ }
+// Refusals 1 to 9, and 12 of a font without a table: what a call has to know before it goes over the table. One function for all calls, so the
+// compiler puts the stages above into it (docs/DECISIONS.md, "Speed").
+pub fn check_to_table(file: &[u8]) -> ToTable
+    ensures equal { λ r. ⌜ r ≡ toTable (throughBare (now (file .entry))) ⌝ }
+    ensures bounded { λ r. ⌜ ToTablePlaced (now (file .entry)) r ⌝ }
 {
     let d = check_dispatched(file);
     match d {
-        Checked::Sound(f) => {
-            if tail {
-                return check_tail(file, f);
+        Checked::Sound(f) => check_bare(file, f),
+        Checked::Refused(r) => ToTable::Refused(r),
+    }
+}
+
+// Refusals 1 to 12, or what the font is; and that the parts of a font that passes stand in the file.
+pub fn check(file: &[u8]) -> Checked
+    ensures equal { λ r. ⌜ r ≡ checkOf (now (file .entry)) ⌝ }
+    ensures bounded { λ r. ⌜ CheckedPlaced (now (file .entry)) r ⌝ }
+{
+    let d = check_to_table(file);
+    match d {
+        ToTable::Sound(table, f) => {
+            let t = check_tail(file, f, table);
+            match t {
+                TailAnswer::Sound => Checked::Sound(f),
+                TailAnswer::Refused(r) => Checked::Refused(r),
             }
-            Checked::Sound(f)
         }
-        Checked::Refused(r) => Checked::Refused(r),
+        ToTable::Refused(r) => Checked::Refused(r),
     }
 }

@@ -11,6 +11,7 @@ use borrow.Author.Tests.{eq-eqb, ne-eqb}
 use Rattle.base.specs.Meaning.{pick}
 use Rattle.base.proofs.Tests.{below, same, nonzero}
 use Rattle.coding.specs.declared.Coding.{Coding}
+use Rattle.coding.specs.Reading.{noKey}
 use Rattle.coding.proofs.Codings.{no-key}
 use Rattle.table.specs.declared.Step.{Step}
 use Rattle.table.specs.declared.Step.the-variants.{Value as StepValue, Start as StepStart, End as StepEnd, Cut as StepCut, Bad as StepBad}
@@ -18,7 +19,7 @@ use Rattle.table.specs.declared.Cursor.{Cursor}
 use Rattle.table.specs.declared.TableAnswer.{TableAnswer}
 use Rattle.table.specs.declared.TableAnswer.the-variants.{Complete, Cut as TableCut, Bad as TableBad, Trailing}
 use Rattle.table.specs.Reading.{stepAt, stepsFrom, stepsAt, checkSteps, tableOf}
-use Rattle.table.specs.Skipping.{Phase, isOpened, noKey, Front, front, skipFrom, skipped, noStart, phaseOf, cursorOf, frontAt, Stands, endedOf, NoValue, refusedOf, answerAt, checkFront, checkAt}
+use Rattle.table.specs.Skipping.{Phase, isOpened, Front, front, skipFrom, skipped, noStart, phaseOf, cursorOf, frontAt, Stands, endedOf, NoValue, refusedOf, answerAt, checkFront, checkAt}
 use Rattle.table.proofs.Stepping.{step-says, says-first, past-end}
 use Rattle.table.proofs.Skipping.{check-skip, skip-left, skip-halts, Halted, HaltedAt, ended-trailing, ended-complete, phase-none}
 

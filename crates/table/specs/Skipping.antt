@@ -42,10 +42,6 @@ afterValue singles = singles
 afterValue opened = filled
 afterValue filled = filled
 
--- no value's key
-abbrev pub noKey : ℕ
-noKey = 0x10000
-
 -- what plainly stands there: a step without its value, but for a value with the key k and where nothing can be read
 abbrev pub plainOf : Coding → ℕ → Step → Plain
 plainOf c k (StepValue v next) = pick (eqb (keyOf c v) k) Other (PlainValue next)

@@ -4,10 +4,11 @@ ghost use mathlib.Core.Path.{_≡_};
 ghost use Prim.Native.Nat.{_-_, _≤_, _<_};
 ghost use lib.ListN.{length};
 ghost use Rattle.coding.specs.declared.Coding.the-variants.{Utf8, Ucs2};
+ghost use Rattle.coding.specs.Reading.{noKey};
 ghost use Rattle.table.specs.declared.Step.the-variants.{Value as StepValue};
 ghost use Rattle.table.specs.Reading.{stepOf, stepAt, valueItem, tableOf};
 ghost use Rattle.table.specs.Bounds.{StepFits, StepSays};
-ghost use Rattle.table.specs.Skipping.{plainOf, noKey, cursorOf, Stands, frontAt, skipped, endedOf, NoValue, refusedOf, answerAt, checkAt};
+ghost use Rattle.table.specs.Skipping.{plainOf, cursorOf, Stands, frontAt, skipped, endedOf, NoValue, refusedOf, answerAt, checkAt};
 use coding::Coding;
 use token::Token;
 use utf8::Read;
@@ -149,7 +150,7 @@ fn utf8_plain(s: &[u8], at: usize, key: u32) -> Plain
 fn word_plain(key: u32, v: u32, next: usize) -> Plain
     ensures { λ r. ⌜ r ≡ plainOf Ucs2 key (StepValue v next) ⌝ }
 {
-    if v % 0x10000 == key {
+    if coding::key_of(Coding::Ucs2, v) == key {
         return Plain::Other;
     }
     Plain::Value(next)
@@ -202,15 +203,16 @@ pub fn cursor_at(at: usize, left: usize, start: usize) -> Cursor
     }
 }
 
-// Goes on over what plainly stands there: up to a value with the key, to a mark where a value must stand, to where nothing can be read, or behind
-// the last description. Asks for a cursor within the bytes and for a description that is still to end.
-pub fn skip(c: Coding, s: &[u8], key: u32, from: Cursor) -> Cursor
-    requires { ⌜ Stands (now s) from × (1 ≤ from .left) ⌝ }
-    ensures { λ r. ⌜ (frontAt c (now (s .entry)) r ≡ skipped c key (frontAt c (now (s .entry)) from)) × Stands (now (s .entry)) r × (from .at ≤ r .at) ⌝ }
+// Goes on from a cursor over what plainly stands there: up to a value with the key, to a mark where a value must stand, to where nothing can be
+// read, or behind the last description. The cursor comes as its three numbers, which take no memory (docs/DECISIONS.md, "Speed"). Asks for one within
+// the bytes and for a description that is still to end.
+pub fn skip(c: Coding, s: &[u8], key: u32, from: usize, n: usize, mark: usize) -> Cursor
+    requires { ⌜ Stands (now s) (cursorOf from n mark) × (1 ≤ n) ⌝ }
+    ensures { λ r. ⌜ (frontAt c (now (s .entry)) r ≡ skipped c key (frontAt c (now (s .entry)) (cursorOf from n mark))) × Stands (now (s .entry)) r × (from ≤ r .at) ⌝ }
 {
-    let mut at = from.at;
-    let mut left = from.left;
-    let mut start = from.start;
+    let mut at = from;
+    let mut left = n;
+    let mut start = mark;
     while at < s.len() {
         let p = plain_at(c, s, at, key);
         match p {
@@ -303,7 +305,7 @@ fn skip_all(c: Coding, s: &[u8], from: Cursor) -> Cursor
     requires { ⌜ Stands (now s) from × (1 ≤ from .left) ⌝ }
     ensures { λ r. ⌜ (frontAt c (now (s .entry)) r ≡ skipped c noKey (frontAt c (now (s .entry)) from)) × Stands (now (s .entry)) r ⌝ }
 {
-    skip(c, &s[..], coding::NO_KEY, from)
+    skip(c, &s[..], coding::NO_KEY, from.at, from.left, from.start)
 }
 
 // The check of what is left of a table of n descriptions: no value is worked out. Asks for a cursor within the table.

@@ -1,8 +1,7 @@
 -- `conversion::measured` meets its contract: the table's length, or the first value that can't be carried. Assumes `Placed`.
-use Rattle.conversion.specs.Reading.{fitting, measuredOf, glyphAt, measuredThen}
+use Rattle.conversion.specs.Reading.{fitting, measuredOf, measuredThen}
 use Rattle.refusal.specs.declared.Reason.the-variants.{Value}
 use Rattle.refusal.specs.Meaning.{refusalAt}
-use mathlib.Core.List.{List}
 use native.Mathlib.Omega.{arith}
 use mathlib.Core.Path.{_≡_, sym, _∙_, ap}
 use Prim.Native.Nat.{ℕ, _+_, _-_}
@@ -51,17 +50,8 @@ enum-known-m-2 c = search needs
 add-refuse-at : tie.Need-add-refuse-at
 add-refuse-at c = let w = rw (c .before .m2 .given .1) at (c .before .before .before .table-len .ensures .1) in let l = rest-length (now (c .before .before .before .before .before .before .args .file)) (c .before .before .before .before .before .before .args .f .end) in omega (arith, w, l, c .before .before .before .before .before .before .pre .0, c .before .before .before .before .before .before .pre .7)
 
-sub-glyph-at : tie.Need-sub-glyph-at
-sub-glyph-at c = search needs
-
-part-glyph-at-start : tie.Need-part-glyph-at-start
-part-glyph-at-start c = search needs
-
-part-glyph-at-end : tie.Need-part-glyph-at-end
-part-glyph-at-end c = search needs
-
 glyph-at-requires : tie.Need-glyph-at-requires
-glyph-at-requires c κs = let w = rw (c .before .before .m2 .given .1) at (c .before .before .before .before .table-len .ensures .1) in let l = rest-length (now (c .before .before .before .before .before .before .before .args .file)) (c .before .before .before .before .before .before .before .args .f .end) in omega (arith, w, l)
+glyph-at-requires c κs = let w = rw (c .before .m2 .given .1) at (c .before .before .before .table-len .ensures .1) in let l = rest-length (now (c .before .before .before .before .before .before .args .file)) (c .before .before .before .before .before .before .args .f .end) in (c .before .before .before .before .before .before .pre, omega (arith, w, l, c .before .before .before .before .before .before .pre .7))
 
 refuse-at-requires : tie.Need-refuse-at-requires
 refuse-at-requires c κs = search needs
@@ -70,7 +60,7 @@ returns : tie.Need-returns
 returns c = c .fit .ensures ∙ ap (λ (x : ℕ). fitting (c .before .before .before .before .before .before .before .before .args .f) (x + c .before .before .before .m .given .0 .0)) (c .before .front-len .ensures .0) ∙ ap (measuredThen (c .before .before .before .before .before .before .before .before .args .c) (c .before .before .before .before .before .before .before .before .args .f) (tailOf (now (c .before .before .before .before .before .before .before .before .args .file)) (c .before .before .before .before .before .before .before .before .args .f))) (sym (c .before .before .before .m .given .1) ∙ told (c .before .before .before .before .before))
 
 returns-2 : tie.Need-returns-2
-returns-2 c = ap Unprepared (c .refuse-at .ensures) ∙ ap (λ (x : ℕ). Unprepared (refusalAt Value (c .before .before .before .before .before .before .before .before .before .args .f .end + c .before .before .before .before .m2 .given .0 .0) x)) (c .before .glyph-at .ensures ∙ ap (λ (x : List ℕ). glyphAt (c .before .before .before .before .before .before .before .before .before .args .f) x (c .before .before .before .before .m2 .given .0 .0)) (rest-all (now (c .before .before .before .before .before .before .before .before .before .args .file)) (c .before .before .before .before .before .before .before .before .before .args .f .end))) ∙ ap (measuredThen (c .before .before .before .before .before .before .before .before .before .args .c) (c .before .before .before .before .before .before .before .before .before .args .f) (tailOf (now (c .before .before .before .before .before .before .before .before .before .args .file)) (c .before .before .before .before .before .before .before .before .before .args .f))) (sym (c .before .before .before .before .m2 .given .1) ∙ told (c .before .before .before .before .before .before))
+returns-2 c = ap Unprepared (c .refuse-at .ensures) ∙ ap (λ (x : ℕ). Unprepared (refusalAt Value (c .before .before .before .before .before .before .before .before .args .f .end + c .before .before .before .m2 .given .0 .0) x)) (c .before .glyph-at .ensures) ∙ ap (measuredThen (c .before .before .before .before .before .before .before .before .args .c) (c .before .before .before .before .before .before .before .before .args .f) (tailOf (now (c .before .before .before .before .before .before .before .before .args .file)) (c .before .before .before .before .before .before .before .before .args .f))) (sym (c .before .before .before .m2 .given .1) ∙ told (c .before .before .before .before .before))
 
 pub measured-spec : {M : Type 1} → statement M
 measured-spec =
@@ -86,9 +76,6 @@ measured-spec =
     fit-requires
     enum-known-m-2
     add-refuse-at
-    sub-glyph-at
-    part-glyph-at-start
-    part-glyph-at-end
     glyph-at-requires
     refuse-at-requires
     returns

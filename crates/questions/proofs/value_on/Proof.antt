@@ -1,19 +1,18 @@
 -- `questions::value_on` meets its contract: the table's refusal, NO TABLE, then ASK, then what the lookup found. Assumes `Placed`.
-use mathlib.Core.Path.{_∙_, refl}
+use mathlib.Core.Path.{_∙_, refl, ap}
 use native.Mathlib.Omega.{arith}
 use denote.Ref.{now}
 use Rattle.base.proofs.Parts.{bytes-of}
+use Rattle.questions.specs.declared.Lookup.the-variants.{Refused as NoLookup}
 use Rattle.questions.specs.Reading.{valueOn}
-use Rattle.questions.proofs.Answers.{value-told, value-high, value-bare, after-tail, place-told, looked-told}
+use Rattle.questions.proofs.Answers.{value-told, value-bare, bare-told, place-told, looked-told}
 use borrow.Author.Needs.{needs}
 use Rattle.questions.proofs.value_on.Statement.{statement}
 use Rattle.questions.proofs.value_on.Tie as tie
-
-refuse-after-requires : tie.Need-refuse-after-requires
-refuse-after-requires c κs = search needs
-
-returns : tie.Need-returns
-returns c = c .refuse-after .ensures ∙ after-tail (now (c .before .before .before .before .args .file)) (c .before .before .before .before .args .f) _ (valueOn (now (c .before .before .before .before .args .file)) (c .before .before .before .before .args .v)) (value-high (now (c .before .before .before .before .args .file)) (c .before .before .before .before .args .f) (c .before .before .before .before .args .v) (c .before .before .if1 .taken) (c .before .if2 .taken))
+use Rattle.lookup.proofs.find_value.Reads as find-value-reads
+use Rattle.questions.proofs.told.Reads as told-reads
+use Rattle.refusal.proofs.refuse.Reads as refuse-reads
+use Rattle.stages.proofs.coding_of.Reads as coding-of-reads
 
 coding-of-requires : tie.Need-coding-of-requires
 coding-of-requires c κs = search needs
@@ -31,29 +30,27 @@ find-value-requires : tie.Need-find-value-requires
 find-value-requires c κs = search needs
 
 told-requires : tie.Need-told-requires
-told-requires c κs = omega (arith, place-told (now (c .before .before .before .before .before .before .args .file)) (c .before .before .before .before .before .before .args .f) _ (c .before .before .coding-of .ensures) _ _ (c .find-value .ensures) (bytes-of (now (c .before .before .before .before .before .before .args .file)) (c .before .before .before .before .before .shared-slice-known .given)) (c .before .before .before .before .before .before .pre))
+told-requires c κs = omega (arith, place-told (now (c .before .before .before .before .before .args .file)) (c .before .before .before .before .before .args .f) _ (c .before .before .coding-of .ensures) _ _ (c .find-value .ensures) (bytes-of (now (c .before .before .before .before .before .args .file)) (c .before .before .before .before .shared-slice-known .given)) (c .before .before .before .before .before .pre))
+
+returns : tie.Need-returns
+returns c = c .told .ensures ∙ looked-told (now (c .before .before .before .before .before .before .args .file)) (c .before .before .before .before .before .before .args .f) _ (c .before .before .before .coding-of .ensures) _ _ (c .before .find-value .ensures) (c .before .before .before .before .if1 .taken) _ (valueOn (now (c .before .before .before .before .before .before .args .file)) (c .before .before .before .before .before .before .args .v)) (value-told (now (c .before .before .before .before .before .before .args .file)) (c .before .before .before .before .before .before .args .f) (c .before .before .before .before .before .before .args .v) (c .before .before .before .before .if1 .taken) _ refl _ (c .before .before .before .coding-of .ensures) _ refl)
+
+refuse-requires : tie.Need-refuse-requires
+refuse-requires c κs = search needs
 
 returns-2 : tie.Need-returns-2
-returns-2 c = c .told .ensures ∙ looked-told (now (c .before .before .before .before .before .before .before .args .file)) (c .before .before .before .before .before .before .before .args .f) _ (c .before .before .before .coding-of .ensures) _ _ (c .before .find-value .ensures) (c .before .before .before .before .before .if1 .taken) (valueOn (now (c .before .before .before .before .before .before .before .args .file)) (c .before .before .before .before .before .before .before .args .v)) (value-told (now (c .before .before .before .before .before .before .before .args .file)) (c .before .before .before .before .before .before .before .args .f) (c .before .before .before .before .before .before .before .args .v) (c .before .before .before .before .before .if1 .taken) (c .before .before .before .before .if2 .left) _ (c .before .before .before .coding-of .ensures) _ refl)
-
-refuse-after-requires-2 : tie.Need-refuse-after-requires-2
-refuse-after-requires-2 c κs = search needs
-
-returns-3 : tie.Need-returns-3
-returns-3 c = c .refuse-after2 .ensures ∙ after-tail (now (c .before .before .before .args .file)) (c .before .before .before .args .f) _ (valueOn (now (c .before .before .before .args .file)) (c .before .before .before .args .v)) (value-bare (now (c .before .before .before .args .file)) (c .before .before .before .args .f) (c .before .before .before .args .v) (c .before .if1 .left))
+returns-2 c = bare-told (now (c .before .before .before .args .file)) (c .before .before .before .args .f) (c .before .if1 .left) _ (valueOn (now (c .before .before .before .args .file)) (c .before .before .before .args .v)) (ap NoLookup (c .refuse .ensures) ∙ value-bare (now (c .before .before .before .args .file)) (c .before .before .before .args .f) (c .before .before .before .args .v) (c .before .if1 .left))
 
 pub value-on-spec : {M : Type 1} → statement M
 value-on-spec =
     tie.close
     (tie.spec
-    refuse-after-requires
-    returns
     coding-of-requires
     sub-find-value
     part-find-value-start
     part-find-value-end
     find-value-requires
     told-requires
-    returns-2
-    refuse-after-requires-2
-    returns-3)
+    returns
+    refuse-requires
+    returns-2)

@@ -2,7 +2,7 @@
 use mathlib.Core.Path.{sym, _∙_}
 use native.Mathlib.Omega.{arith}
 use denote.Ref.{now}
-use Rattle.table.specs.Skipping.{noKey}
+use Rattle.coding.specs.Reading.{noKey}
 use Rattle.table.proofs.Halting.{left-after, halted-after, check-after, no-value-left, answer-there}
 use borrow.Author.Needs.{needs}
 use Rattle.table.proofs.check_from.Statement.{statement}

@@ -11,10 +11,10 @@ use Rattle.table.proofs.skip.Statement.{statement}
 use Rattle.table.proofs.skip.Tie as tie
 
 abbrev Inv-loop : tie.InvT-loop
-Inv-loop c s key at₀ left₀ start₀ at left start = Kept c s key (skipped c key (frontAt c s (cursorOf at₀ left₀ start₀))) at₀ at left start
+Inv-loop c s key from n mark at₀ left₀ start₀ at left start = Kept c s key (skipped c key (frontAt c s (cursorOf from n mark))) from at left start
 
 abbrev μ-loop : tie.MeasureT-loop
-μ-loop c s key at₀ left₀ start₀ at left start = length s - at
+μ-loop c s key from n mark at₀ left₀ start₀ at left start = length s - at
 
 loop-holds : tie.Need-loop-holds Inv-loop μ-loop
 loop-holds c = (c .before .pre .0 .0, c .before .pre .1, c .before .pre .0 .1, refl, omega arith)
