@@ -90,13 +90,19 @@ module _ (s : List ℕ) (f : Font) where
   unfolding tailed
   bare e = rw e
 
-  pub bare-trailing : f .table ≡ false → f .end < length s → Refused (refusal Trailing (f .end)) ≡ tailed s f
+  bytes-after : f .end < length s → Refused (refusal Trailing (f .end)) ≡ bareOf s f
   unfolding bareOf when
-  bare-trailing e h = let g : Refused (refusal Trailing (f .end)) ≡ bareOf s f = rw (lt-ltb (f .end) (length s) h) in g ∙ bare e
+  bytes-after h = rw (lt-ltb (f .end) (length s) h)
+
+  nothing-after : length s ≤ f .end → Sound f ≡ bareOf s f
+  unfolding bareOf when
+  nothing-after h = rw (le-ltb (f .end) (length s) h)
+
+  pub bare-trailing : f .table ≡ false → f .end < length s → Refused (refusal Trailing (f .end)) ≡ tailed s f
+  bare-trailing e h = bytes-after h ∙ bare e
 
   pub bare-sound : f .table ≡ false → length s ≤ f .end → Sound f ≡ tailed s f
-  unfolding bareOf when
-  bare-sound e h = let g : Sound f ≡ bareOf s f = rw (le-ltb (f .end) (length s) h) in g ∙ bare e
+  bare-sound e h = nothing-after h ∙ bare e
 
   -- up to a table, and the table
   with-flag : (b : Bool) → f .table ≡ b → ToSound b f ≡ toTable (Sound f)
@@ -111,12 +117,10 @@ module _ (s : List ℕ) (f : Font) where
   unless-bare e = rw e
 
   pub reached-trailing : f .table ≡ false → f .end < length s → ToRefused (refusal Trailing (f .end)) ≡ toTable (unlessTable s f)
-  unfolding bareOf when
-  reached-trailing e h = let g : Refused (refusal Trailing (f .end)) ≡ bareOf s f = rw (lt-ltb (f .end) (length s) h) in ap toTable (g ∙ unless-bare e)
+  reached-trailing e h = ap toTable (bytes-after h ∙ unless-bare e)
 
   pub reached-end : f .table ≡ false → length s ≤ f .end → ToSound false f ≡ toTable (unlessTable s f)
-  unfolding bareOf when
-  reached-end e h = let g : Sound f ≡ bareOf s f = rw (le-ltb (f .end) (length s) h) in with-flag false e ∙ ap toTable (g ∙ unless-bare e)
+  reached-end e h = with-flag false e ∙ ap toTable (nothing-after h ∙ unless-bare e)
 
   pub tabled-by : (b : Bool) → f .table ≡ b → (a : TailAnswer) → a ≡ pick b (tableTail s f) TailSound → passed f a ≡ tabled s f
   unfolding tabled
