@@ -1,4 +1,6 @@
 // Inner layer: each answer of the public calls as the struct that C reads. Definitions: specs/Meaning.antt.
+#![tactic(auto)]
+
 ghost use Rattle.std.specs.Prelude.{◌≡◌};
 ghost use Rattle.answers.specs.Meaning.{no_refusal, glyph_told, refusal_told, reply_told, kind_number, flag_number, refused_font, font_answer, refused_part, part_answer, refused_metrics, metrics_answer, number_answer, refused_number, pixel_answer, lookup_answer, item_answer, refused_item, walk_answer, converted_answer, edited_answer, compared_answer};
 

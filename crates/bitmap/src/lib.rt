@@ -1,6 +1,8 @@
 // Inner layer: a glyph's bitmap, its rows, its pixels and its metrics, in a font whose parts stand in the file. Definitions:
 // specs/Meaning.antt (where things stand), specs/Reading.antt (what is answered). Each public function asks that the font's parts stand in
 // the file (`Placed`), which the check of the font gives.
+#![tactic(auto)]
+
 ghost use Rattle.std.specs.Prelude.{◌≡◌, ◌+◌, ◌*◌, ◌≤◌, ◌<◌, length};
 ghost use Rattle.header.specs.Bounds.{Placed};
 ghost use Rattle.entries.specs.Reading.{entry_of};

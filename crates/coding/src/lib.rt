@@ -1,4 +1,6 @@
 // Inner layer: the two codings of a table's values, as one, and values and marks written. Definitions: specs/Meaning.antt, specs/Reading.antt.
+#![tactic(auto)]
+
 ghost use Rattle.std.specs.Prelude.{◌≡◌, ◌≤◌, length};
 ghost use Rattle.base.specs.Reading.{over};
 ghost use Rattle.coding.specs.Reading.{mark_len, carries_of, key_of};

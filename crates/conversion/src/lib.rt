@@ -1,5 +1,7 @@
 // Inner layer: the conversions: from which kind to which, what each is refused for before its first byte is written (17 to 20), and how long
 // its output is. Definitions: specs/Meaning.antt, specs/Reading.antt.
+#![tactic(auto)]
+
 ghost use Rattle.std.specs.Prelude.{◌≡◌, ◌+◌, ◌*◌, ◌≤◌, ◌<◌, length};
 ghost use Rattle.header.specs.Meaning.{header_len, entry_len};
 ghost use Rattle.header.specs.Bounds.{Placed};

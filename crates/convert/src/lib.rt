@@ -1,5 +1,7 @@
 // Inner layer: a font written as a file of another kind; `fonts` is the public face. Definitions: specs/Reading.antt (what a call answers
 // and leaves in the buffer), crate `conversion` (the outputs, and what refuses them).
+#![tactic(auto)]
+
 ghost use Rattle.std.specs.Prelude.{◌≡◌, ℕ, ◌+◌, ◌*◌, ◌≤◌, ◌<◌, length};
 ghost use Rattle.base.specs.Reading.{over};
 ghost use Rattle.transcode.specs.declared.Measured.TheVariants.{Length};

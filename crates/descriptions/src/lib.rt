@@ -1,5 +1,7 @@
 // Inner layer: two descriptions compared, item by item, side by side, each in its own coding. Definitions: specs/Reading.antt. They hold on
 // any tails, as far as they can be read.
+#![tactic(auto)]
+
 ghost use Rattle.std.specs.Prelude.{◌≡◌, ◌≤◌, length};
 ghost use Rattle.descriptions.specs.Reading.{code_of, next_of, end_at, ends_of};
 

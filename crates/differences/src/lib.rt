@@ -1,5 +1,7 @@
 // Public: the differences of two fonts, of any kinds, as pairs of kind and glyph in a lent buffer of 32-bit numbers. Definitions:
 // specs/Meaning.antt (pairs as numbers), specs/Reading.antt; what they mean is said in the crate `laws` (proofs/Differences.antt).
+#![tactic(auto)]
+
 ghost use Rattle.std.specs.Prelude.{◌≡◌, ℕ, ◌+◌, ◌-◌, ◌*◌, ◌≤◌, ◌<◌, min, max, length};
 ghost use Rattle.base.specs.Reading.{over};
 ghost use Rattle.header.specs.Bounds.{Placed};

@@ -1,5 +1,7 @@
 // Public: a mapping added to a PSF2 font, or dropped from it, in place: the font stands at the front of a lent buffer. Definitions:
 // specs/Reading.antt; what they mean is said in the crate `laws` (proofs/Edits.antt).
+#![tactic(auto)]
+
 ghost use Rattle.std.specs.Prelude.{◌≡◌, ◌≤◌, ◌<◌, length, take};
 ghost use Rattle.base.specs.Reading.{over};
 ghost use Rattle.utf8.specs.Meaning.{Scalar, utf8_bytes};

@@ -1,5 +1,7 @@
 // Inner layer: the dispatch table of a vfont2 file. Definitions: specs/Meaning.antt (the format and its rules), specs/Reading.antt (what
 // an entry, and all entries, say).
+#![tactic(auto)]
+
 ghost use Rattle.std.specs.Prelude.{◌≡◌, ◌+◌, ◌≤◌, ◌<◌, length, ◌+ℤ◌};
 ghost use Rattle.entries.specs.Meaning.{entry_at, signed16, metrics_at, count_of, rows_at, cols_at};
 ghost use Rattle.entries.specs.Reading.{larger, entry_of, scan_of};

@@ -1,5 +1,7 @@
 // Inner layer: the entries of a vfont2 file, fed part by part. Each entry is read by the reader of the whole-file check, from the part itself
 // where it stands there whole, else from the bytes held. Definitions: specs/Reading.antt.
+#![tactic(auto)]
+
 ghost use Rattle.std.specs.Prelude.{◌≡◌, ◌+◌, ◌*◌, ◌≤◌, ◌<◌, length, drop};
 ghost use Rattle.entryfeed.specs.Reading.{sums_of, entries_read, entries_fed};
 

@@ -1,6 +1,8 @@
 // Reads a file of up to 65,536 bytes from standard input and writes its listing: what the text holds is proved of `listing::list`.
 // One byte more is read, so that a longer file is told. No listing is longer than the buffer (the contract of `listing::list`), so
 // ROOM is never answered; for it nothing would be written.
+#![tactic(auto)]
+
 use listing::Listed;
 
 // The listing of a file, by way of a buffer.

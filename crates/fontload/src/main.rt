@@ -1,6 +1,8 @@
 // Reads lines of hexadecimal from standard input, one piece of a font a line, and writes `sound`, the refusal or `too big`: what is answered
 // is proved of `frames` for any cutting of the input into chunks. 1,024 chunks of 4,096 bytes are the limit, and one more tells whether there
 // is more: nothing behind it changes the answer. A bad line ends the reading.
+#![tactic(auto)]
+
 use frames::Frames;
 
 // The input, fed chunk by chunk.

@@ -1,5 +1,7 @@
 // The public face of Lavandol: every call takes any bytes and any question. Definitions: specs/Reading.antt.
 // A call answers, or gives one refusal of document 01: `refusal::number` tells the number of its reason, and it holds its place.
+#![tactic(auto)]
+
 ghost use Rattle.std.specs.Prelude.{◌≡◌, length};
 ghost use Rattle.stages.specs.Reading.{check_of};
 ghost use Rattle.conversion.specs.declared.Conversion.TheVariants.{Psf1ToPsf2, Psf2ToPsf1, Psf2ToVfont2, Vfont2ToPsf2};

@@ -1,5 +1,7 @@
 // The input of the program `fontload`, fed by chunks and never held whole: lines of hexadecimal, each one piece of a font for the loader.
 // Definitions: specs/Meaning.antt (lines, what is answered), specs/Reading.antt (how the state goes on).
+#![tactic(auto)]
+
 ghost use Rattle.std.specs.Prelude.{◌≡◌, true, ◌≤◌, ◌<◌, length};
 ghost use Rattle.words.specs.Meaning.{refused_text};
 ghost use Rattle.frames.specs.Meaning.{outcome_text, output_of};

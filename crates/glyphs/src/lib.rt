@@ -1,5 +1,7 @@
 // Inner layer: one glyph of two fonts compared, its metrics and then its pixels. Definitions: specs/Reading.antt. Each public function asks
 // that the fonts' parts stand in their files (`Placed`) and that both have the glyph, which the check and the counts give.
+#![tactic(auto)]
+
 ghost use Rattle.std.specs.Prelude.{◌≡◌, ◌+◌, ◌≤◌, ◌<◌, length};
 ghost use Rattle.header.specs.Bounds.{Placed};
 ghost use Rattle.bitmap.specs.Bounds.{Inside};

@@ -1,6 +1,8 @@
 // Inner layer: what the headers of the three kinds have in common: what a header says (`Font`), the fields that PSF2 and vfont2 have at the
 // same places, read and written, and the bytes of a bitmap. Each kind's own header is in crates `psf1`, `psf2` and `vfont2`.
 // Definitions: specs/Meaning.antt (the formats), specs/Reading.antt (the checks in their order, the headers that are written).
+#![tactic(auto)]
+
 ghost use Rattle.std.specs.Prelude.{◌≡◌, ◌≤◌, ◌<◌, length};
 ghost use Rattle.base.specs.Reading.{over};
 ghost use Rattle.header.specs.declared.Kind.TheVariants.{Psf2 as psf2};

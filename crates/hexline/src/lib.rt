@@ -1,5 +1,7 @@
 // Inner layer: one line of hexadecimal as the bytes that it spells. Definitions: specs/Meaning.antt (which lines are frames),
 // specs/Reading.antt (how a line is read).
+#![tactic(auto)]
+
 ghost use Rattle.std.specs.Prelude.{◌≡◌, ◌≤◌, length};
 ghost use Rattle.hexline.specs.Meaning.{bad_frame};
 ghost use Rattle.hexline.specs.Reading.{hex_value, pair_value, frame_of};

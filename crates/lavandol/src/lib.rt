@@ -1,6 +1,8 @@
 // The boundary for C and Rust: every public call on numbers, slices and a loader's record, each answer one struct by value. What is lent is
 // lent for the call only; nothing is allocated or kept. A conversion, an edit or a comparison changes the buffer that it is lent, and a loader's
 // calls the record; no call changes anything else. Definitions: crates/answers/specs/Meaning.antt. The C side: include/lavandol.h.
+#![tactic(auto)]
+
 ghost use Rattle.std.specs.Prelude.{◌≡◌, ◌+◌, ◌≤◌, length};
 ghost use Rattle.stages.specs.Reading.{check_of};
 ghost use Rattle.fonts.specs.Reading.{glyph_part_of, row_part_of, pixel_at, glyph_metrics_of, item_of, value_glyph, sequence_glyph};

@@ -1,5 +1,7 @@
 // Inner layer: writers for the parts of a font, each to the front of the part that it is lent. Definitions: specs/Reading.antt. Each asks
 // for room, and for numbers that its bytes can hold: the callers work out the size from a checked font.
+#![tactic(auto)]
+
 ghost use Rattle.std.specs.Prelude.{◌≡◌, ℕ, ◌+◌, ◌*◌, ◌≤◌, ◌<◌, length};
 ghost use Rattle.base.specs.Reading.{over};
 ghost use Rattle.header.specs.declared.Kind.TheVariants.{Vfont2 as vfont2};

@@ -1,4 +1,6 @@
 // Inner layer: the lines of a listing, one for each glyph, from a font's table. Definitions: specs/Meaning.antt, specs/Reading.antt.
+#![tactic(auto)]
+
 ghost use Rattle.std.specs.Prelude.{◌≡◌, ◌*◌, ◌≤◌, ◌<◌, length};
 ghost use Rattle.base.specs.Reading.{over};
 ghost use Rattle.lines.specs.Reading.{item_text, piece_of, table_text};

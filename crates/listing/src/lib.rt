@@ -1,4 +1,6 @@
 // The text of a font's listing, written to a lent buffer: what the program `fontlist` calls, and anyone may. Definitions: specs/Meaning.antt, specs/Reading.antt.
+#![tactic(auto)]
+
 ghost use Rattle.std.specs.Prelude.{◌≡◌, ◌+◌, ◌≤◌, ◌<◌, length};
 ghost use Rattle.base.specs.Reading.{over};
 ghost use Rattle.header.specs.Bounds.{Placed};

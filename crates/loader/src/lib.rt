@@ -1,6 +1,8 @@
 // A checker that is fed any number of pieces and asked once at the end (document 02, W2). The work is done by value: `fresh`, `fed`, `closed`.
 // `feed` and `close` do the same to a record that is lent to them. Definitions: specs/Reading.antt. What it means: the close answers what
 // the whole-file check answers on the pieces joined (crates/laws/proofs/Loading.antt).
+#![tactic(auto)]
+
 ghost use Rattle.std.specs.Prelude.{◌≡◌, ◌+◌, ◌-◌, ◌≤◌, ◌<◌, true, length};
 ghost use Rattle.header.specs.Bounds.{Parts};
 ghost use Rattle.loader.specs.Reading.{part_of, entries_in, table_in, font_fed, body_fed, head_fed, fresh_of, past_limit, is_open, open_fed, fed_of, feed_answer, entry_number, entries_told, tail_told, font_told, answer_of, closed_of, close_answer};

@@ -1,5 +1,7 @@
 // Inner layer: a table's items by number, by a walk over the tail as far as it can be read; and lookups of values and sequences, each one pass that
 // checks the table too. Definitions: specs/Meaning.antt (what is listed), specs/Reading.antt (what is answered).
+#![tactic(auto)]
+
 ghost use Rattle.std.specs.Prelude.{◌≡◌, ◌≤◌, length};
 ghost use Rattle.table.specs.Reading.{items_in, steps_at, table_of};
 ghost use Rattle.table.specs.Skipping.{phase_of, Stands};

@@ -1,5 +1,7 @@
 // Inner layer: where a glyph's description lists a value as a single, or where its singles end. Definitions: specs/Meaning.antt (a single
 // added and dropped), specs/Reading.antt (the places). They hold on any tail, as far as it can be read.
+#![tactic(auto)]
+
 ghost use Rattle.std.specs.Prelude.{◌≡◌, ◌≤◌, length};
 ghost use Rattle.table.specs.Reading.{steps_at};
 ghost use Rattle.mapping.specs.Reading.{single_from, description_at, mapping_of};

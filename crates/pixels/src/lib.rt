@@ -1,4 +1,6 @@
 // Inner layer: two bitmaps compared by their pixels. Definitions: specs/Reading.antt; what the comparison means: proofs/Meaning.antt.
+#![tactic(auto)]
+
 ghost use Rattle.std.specs.Prelude.{◌≡◌, ◌+◌, ◌-◌, ◌*◌, ◌≤◌, ◌<◌, length};
 ghost use Rattle.header.specs.Meaning.{glyph_bytes};
 ghost use Rattle.pixels.specs.Reading.{same_bytes, same_rows, same_pixels};

@@ -1,4 +1,6 @@
 // Inner layer: PSF1: its constants, its mode byte, its header read and written. Definitions: crates/header/specs.
+#![tactic(auto)]
+
 ghost use Rattle.std.specs.Prelude.{◌≡◌, ◌≤◌, ◌<◌, length};
 ghost use Rattle.base.specs.Reading.{over};
 ghost use Rattle.header.specs.declared.Kind.TheVariants.{Psf1 as psf1};

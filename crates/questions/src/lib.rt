@@ -1,5 +1,7 @@
 // Inner layer: the questions about a table, asked of a font whose parts stand in the file (`Placed`): a walk, and two lookups that check the table in
 // the same pass, with refusals 10 to 15; `fonts` is the public face. Definitions: specs/Reading.antt.
+#![tactic(auto)]
+
 ghost use Rattle.std.specs.Prelude.{◌≡◌, ◌+◌, ◌<◌};
 ghost use Rattle.base.specs.Meaning.{pick};
 ghost use Rattle.refusal.specs.Meaning.{refusal};

@@ -1,4 +1,6 @@
 // Inner layer: every refusal of documents 01 and 02: why, where, and at which glyph. Definitions: specs/Meaning.antt.
+#![tactic(auto)]
+
 ghost use Rattle.std.specs.Prelude.{◌≡◌};
 ghost use Rattle.refusal.specs.Meaning.{number_of, refusal, refusal_at};
 

@@ -1,5 +1,7 @@
 // Inner layer: the check of a font, stage by stage: its size (1), what its header says (2 to 7), its length (8), its
 // entries (9), its tail (10 to 12). Definitions: specs/Reading.antt.
+#![tactic(auto)]
+
 ghost use Rattle.std.specs.Prelude.{◌≡◌, ◌+◌, ◌<◌};
 ghost use Rattle.base.specs.Meaning.{pick};
 ghost use Rattle.header.specs.declared.Kind.TheVariants.{Vfont2 as vfont2};

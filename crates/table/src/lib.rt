@@ -1,5 +1,7 @@
 // Inner layer: the table, n descriptions end to end, in either coding. Definitions: specs/Meaning.antt (what a table is),
 // specs/Reading.antt (its items one by one, and what the check answers), specs/Skipping.antt (going over it without its values).
+#![tactic(auto)]
+
 ghost use Rattle.std.specs.Prelude.{◌≡◌, ◌-◌, ◌≤◌, ◌<◌, length};
 ghost use Rattle.coding.specs.declared.Coding.TheVariants.{Utf8, Ucs2};
 ghost use Rattle.coding.specs.Reading.{no_key};

@@ -1,5 +1,7 @@
 // Inner layer: a Unicode table, fed part by part. Each value and mark is read by the reader of the whole-file check, from the part itself
 // where it stands there whole, else from the bytes held with the first of the part. Definitions: specs/Reading.antt.
+#![tactic(auto)]
+
 ghost use Rattle.std.specs.Prelude.{◌≡◌, ◌+◌, ◌-◌, ◌≤◌, ◌<◌, length};
 ghost use Rattle.table.specs.Reading.{steps_at};
 ghost use Rattle.tablefeed.specs.Reading.{going, stopped, run_of, flag_of, is_set, settled, table_fed};

@@ -1,5 +1,7 @@
 // Inner layer: texts written to the front of a buffer: bytes, and numbers in a radix. Definitions: specs/Meaning.antt, specs/Reading.antt.
 // Each writer asks for room: the callers have measured.
+#![tactic(auto)]
+
 ghost use Rattle.std.specs.Prelude.{◌≡◌, [], ◌∷◌, ◌≤◌, ◌<◌, length};
 ghost use Rattle.base.specs.Reading.{over};
 ghost use Rattle.text.specs.Meaning.{number_text};

@@ -1,5 +1,7 @@
 // Inner layer: one token of a table, whatever the coding, and the numbers that are values in none. Definitions: specs/Meaning.antt. The laws of a
 // coding: proofs/Coded.antt and proofs/Stopping.antt.
+#![tactic(auto)]
+
 ghost use Rattle.std.specs.Prelude.{◌≡◌};
 ghost use Rattle.token.specs.Reading.{is_noncharacter};
 

@@ -1,4 +1,6 @@
 // Inner layer: a table's items written in another coding. Definitions: specs/Meaning.antt, specs/Reading.antt.
+#![tactic(auto)]
+
 ghost use Rattle.std.specs.Prelude.{◌≡◌, ◌≤◌, length};
 ghost use Rattle.base.specs.Reading.{over};
 ghost use Rattle.transcode.specs.Reading.{recoded, table_len};

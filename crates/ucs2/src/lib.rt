@@ -1,5 +1,7 @@
 // Inner layer: one token at the front of some bytes, in PSF1's two-byte coding, and a value written. Definitions: specs/Meaning.antt,
 // specs/Reading.antt.
+#![tactic(auto)]
+
 ghost use Rattle.std.specs.Prelude.{◌≡◌, ◌≤◌, length};
 ghost use Rattle.base.specs.Reading.{over};
 ghost use Rattle.ucs2.specs.Reading.{read_ucs2, is_word};

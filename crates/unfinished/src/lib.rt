@@ -1,4 +1,6 @@
 // Inner layer: the few bytes of an unfinished header, entry or value, with their number. Definitions: specs/Reading.antt.
+#![tactic(auto)]
+
 ghost use Rattle.std.specs.Prelude.{◌≡◌, [], ◌++◌, ◌+◌, ◌≤◌, length};
 ghost use Rattle.unfinished.specs.Reading.{held_bytes, held_of, put_of};
 

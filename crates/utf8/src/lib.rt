@@ -1,5 +1,7 @@
 // Inner layer: one value at the front of some bytes, in UTF-8; its length alone; and a value written. Definitions: specs/Meaning.antt,
 // specs/Reading.antt.
+#![tactic(auto)]
+
 ghost use Rattle.std.specs.Prelude.{◌≡◌, ◌+◌, ◌-◌, ◌*◌, ◌%◌, ◌≤◌, ◌<◌, length, get_or, drop};
 ghost use Rattle.base.specs.Meaning.{pick};
 ghost use Rattle.base.specs.Reading.{within, over};

@@ -1,6 +1,8 @@
 // Answers a script of questions on fonts, read from standard input, by the public calls, and writes a line for each answer.
 // `rt ci` compares the lines with those of the independent second implementation in rust/second, which also wrote the script
 // (rust/vectors/src/script.rs lists the records). Nothing here is trusted: a script that is cut or wrong is read as zeros.
+#![tactic(auto)]
+
 ghost use Rattle.std.specs.Prelude.{◌≡◌, ◌<◌, ◌≤◌, length};
 
 use bitmap::{GlyphMetrics, Part, Pixel};

@@ -1,4 +1,6 @@
 // Inner layer: the line of a refusal, which both programs write. Definitions: specs/Meaning.antt.
+#![tactic(auto)]
+
 ghost use Rattle.std.specs.Prelude.{◌≡◌, ◌≤◌, length};
 ghost use Rattle.base.specs.Reading.{over};
 ghost use Rattle.words.specs.Meaning.{refused_text};
