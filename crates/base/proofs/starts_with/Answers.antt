@@ -1,0 +1,25 @@
+-- `base::starts_with` meets its contract: the bytes passed agree. Assumes nothing.
+use borrow.Author.Rules.{rules}
+use native.Mathlib.Omega.{arith}
+use mathlib.Core.Path.{◌≡◌, ◌∙◌}
+use Prim.Native.Nat.{◌-◌, ◌≤◌}
+use lib.ListN.{length, drop}
+use Rattle.base.specs.Reading.{starts_with}
+use Rattle.base.proofs.Begins.{begins_short, begins_whole, begins_other, begins_next}
+use Rattle.base.proofs.starts_with.Goals as goal
+
+-- src/lib.rt:44:9
+pub returns-then-s-m : goal.returns-then-s-m
+returns-then-s-m c = begins_short c.args.s.now c.args.m.now c.if-s-m.true
+
+-- src/lib.rt:49:13
+pub returns-then-s-i : goal.returns-then-s-i
+returns-then-s-i c = begins_other c.args.s.now c.args.m.now c.loop-i.i (omega arith) (omega arith) c.if-s-i.true ∙ c.loop-i.invariant.1
+
+-- src/lib.rt:47:5
+pub loop-i-preserved : goal.loop-i-preserved
+loop-i-preserved c = (omega arith, begins_next c.args.s.now c.args.m.now c.loop-i.i (omega arith) (omega arith) c.if-s-i.false ∙ c.loop-i.invariant.1)
+
+-- src/lib.rt:40:1
+pub returns : goal.returns
+returns c = begins_whole c.args.s.now c.args.m.now c.loop-i.i (omega arith) ∙ c.loop-i.invariant.1
