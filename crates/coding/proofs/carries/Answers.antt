@@ -8,4 +8,4 @@ pub returns-in-Utf8 : goal.returns-in-Utf8
 returns-in-Utf8 c = c.is_utf8_value.ensures ∙ utf8_carries c.args.c c.args.v c.in-Utf8.is
 
 pub returns-in-Ucs2 : goal.returns-in-Ucs2
-returns-in-Ucs2 c = c.is_IsWord.ensures ∙ ucs2_carries c.args.c c.args.v c.in-Ucs2.is
+returns-in-Ucs2 c = c.is_word.ensures ∙ ucs2_carries c.args.c c.args.v c.in-Ucs2.is
