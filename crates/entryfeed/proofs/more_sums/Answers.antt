@@ -7,17 +7,14 @@ use Rattle.entries.proofs.Meaning.{scan_broken}
 use Rattle.entryfeed.proofs.Feeding.{already, found, taller}
 use Rattle.entryfeed.proofs.more_sums.Goals as goal
 
-within : (c : tie.After-known-told) → c.before.r.given.0.0 < c.before.before.before.before.before.before.before.args.k
-within c = (scan_broken _ _ _ _ _ (sym c.before.before.before.scan-entries.ensures ∙ c.before.r.given.1)).within
-
 pub returns-then-x-ne0 : goal.returns-then-x-ne0
 returns-then-x-ne0 c = already _ _ _ c.args.s.now _ _ c.if-x-ne0.true
 
 pub overflow_mul-result : goal.overflow_mul-result
-overflow_mul-result c = let i = within c in omega arith
+overflow_mul-result c = let i = (scan_broken _ _ _ _ _ (sym c.scan_entries-r.ensures ∙ c.in-BrokenAt.is)).within in omega arith
 
 pub overflow_add-result-in-BrokenAt : goal.overflow_add-result-in-BrokenAt
-overflow_add-result-in-BrokenAt c = let i = within c in omega arith
+overflow_add-result-in-BrokenAt c = let i = (scan_broken _ _ _ _ _ (sym c.scan_entries-r.ensures ∙ c.in-BrokenAt.is)).within in omega arith
 
 pub returns-in-BrokenAt : goal.returns-in-BrokenAt
 returns-in-BrokenAt c = found _ _ _ c.args.s.now _ _ c.if-x-ne0.false _ _ c.in-BrokenAt.is c.scan_entries-r.ensures
