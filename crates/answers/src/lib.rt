@@ -17,7 +17,7 @@ use table::Item;
 // A refusal as C reads it, the first field of every answer: document 01's number and place, both 0 where the call is answered; and the
 // glyph, 4,096 where there is none to name. Only `no_refusal` and `refusal_told` make one.
 #[repr(C)]
-#[derive(Drop)]
+#[derive(Clone, Copy)]
 pub struct LavRefusal {
     pub number: u32,
     pub glyph: u32,
@@ -26,7 +26,7 @@ pub struct LavRefusal {
 
 // What the check says of a sound font.
 #[repr(C)]
-#[derive(Drop)]
+#[derive(Clone, Copy)]
 pub struct LavFont {
     pub refusal: LavRefusal,
     // 1 PSF1, 2 PSF2, 3 vfont2
@@ -48,7 +48,7 @@ pub struct LavFont {
 
 // A part of the file.
 #[repr(C)]
-#[derive(Drop)]
+#[derive(Clone, Copy)]
 pub struct LavPart {
     pub refusal: LavRefusal,
     pub offset: usize,
@@ -57,7 +57,7 @@ pub struct LavPart {
 
 // A glyph's metrics.
 #[repr(C)]
-#[derive(Drop)]
+#[derive(Clone, Copy)]
 pub struct LavMetrics {
     pub refusal: LavRefusal,
     pub up: i32,
@@ -69,7 +69,7 @@ pub struct LavMetrics {
 
 // An item of a description: 1 single, 2 start mark, 3 value in a sequence, 4 end mark.
 #[repr(C)]
-#[derive(Drop)]
+#[derive(Clone, Copy)]
 pub struct LavItem {
     pub refusal: LavRefusal,
     pub kind: u32,
@@ -78,7 +78,7 @@ pub struct LavItem {
 
 // One number: a pixel, a glyph, a length.
 #[repr(C)]
-#[derive(Drop)]
+#[derive(Clone, Copy)]
 pub struct LavNumber {
     pub refusal: LavRefusal,
     pub number: usize,
@@ -86,7 +86,7 @@ pub struct LavNumber {
 
 // The differences of two fonts.
 #[repr(C)]
-#[derive(Drop)]
+#[derive(Clone, Copy)]
 pub struct LavDifferences {
     pub refusal: LavRefusal,
     // whose refusal it is: 1 the first font's, 2 the second's, 0 neither's

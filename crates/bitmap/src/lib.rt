@@ -17,7 +17,7 @@ use refusal::{Reason, Refusal};
 use vfont2::Vfont2;
 
 // A bitmap's place in the file, its length, and how many rows and columns it has.
-#[derive(Drop)]
+#[derive(Clone, Copy)]
 pub struct Bitmap {
     pub start: usize,
     pub len: usize,
@@ -25,28 +25,28 @@ pub struct Bitmap {
     pub width: usize,
 }
 
-#[derive(Drop)]
+#[derive(Clone, Copy)]
 pub enum Located {
     Found(Bitmap),
     Refused(Refusal),
 }
 
 // A part of the file, offset and length; or the refusal.
-#[derive(Drop)]
+#[derive(Clone, Copy)]
 pub enum Part {
     At(usize, usize),
     Refused(Refusal),
 }
 
 // A pixel, 1 is drawn; or the refusal.
-#[derive(Drop)]
+#[derive(Clone, Copy)]
 pub enum Pixel {
     Bit(u8),
     Refused(Refusal),
 }
 
 // A glyph's metrics; or the refusal.
-#[derive(Drop)]
+#[derive(Clone, Copy)]
 pub enum GlyphMetrics {
     Is(Metrics),
     Refused(Refusal),

@@ -23,7 +23,7 @@ use transcode::Measured;
 use vfont2::Vfont2;
 
 // Each conversion, by the kinds it goes between.
-#[derive(Drop)]
+#[derive(Clone, Copy)]
 pub enum Conversion {
     Psf1ToPsf2,
     Psf2ToPsf1,
@@ -32,21 +32,21 @@ pub enum Conversion {
 }
 
 // What a conversion is about to do: the font, and how many bytes the output has; or the refusal.
-#[derive(Drop)]
+#[derive(Clone, Copy)]
 pub enum Prepared {
     Ready(Font, usize),
     Refused(Refusal),
 }
 
 // Whether the target can carry a font's glyphs.
-#[derive(Drop)]
+#[derive(Clone, Copy)]
 pub enum Suits {
     Yes,
     Refused(Refusal),
 }
 
 // Whether all entries have a glyph of the font's greatest height and width, or the number of the first that hasn't.
-#[derive(Drop)]
+#[derive(Clone, Copy)]
 pub enum Evenness {
     Even,
     UnevenAt(usize),

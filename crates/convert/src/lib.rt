@@ -21,7 +21,7 @@ use header::{Font, Kind};
 use refusal::{Reason, Refusal};
 
 // How many bytes were written to the buffer's front; or the refusal, and then the buffer is as it was.
-#[derive(Drop)]
+#[derive(Clone, Copy)]
 pub enum Converted {
     Wrote(usize),
     Refused(Refusal),

@@ -9,7 +9,7 @@ use coding::Coding;
 use table::Step;
 
 // Whether two descriptions have the same items, and the places after them.
-#[derive(Drop)]
+#[derive(Clone, Copy)]
 pub struct Ends {
     pub same: bool,
     pub first: usize,

@@ -16,7 +16,7 @@ use refusal::{Reason, Refusal};
 
 // How many pairs were written to the buffer's front; or the refusal, and whose it is: 1 the first font's, 2 the second's, 0 neither's, for a
 // buffer without room. Then the buffer is as it was.
-#[derive(Drop)]
+#[derive(Clone, Copy)]
 pub enum Compared {
     Pairs(usize),
     Refused(u32, Refusal),

@@ -20,7 +20,7 @@ use refusal::{Reason, Refusal};
 
 // Where a glyph lists a value as a single, and the place after it; or where its singles end, which do not have it: offsets in the file; or the
 // refusal.
-#[derive(Drop)]
+#[derive(Clone, Copy)]
 pub enum Sought {
     Listed(usize, usize),
     Unlisted(usize),
@@ -28,7 +28,7 @@ pub enum Sought {
 }
 
 // The font's new length; or the refusal, and then the buffer is as it was.
-#[derive(Drop)]
+#[derive(Clone, Copy)]
 pub enum Edited {
     Length(usize),
     Refused(Refusal),

@@ -9,7 +9,7 @@ ghost use Rattle.entries.specs.Reading.{larger, entry_of, scan_of};
 use vfont2::Vfont2;
 
 // What an entry says: no glyph, a glyph of so many rows and columns, or that it breaks a rule.
-#[derive(Drop)]
+#[derive(Clone, Copy)]
 pub enum Entry {
     Empty,
     Glyph(usize, usize),
@@ -17,14 +17,14 @@ pub enum Entry {
 }
 
 // What all entries say: the number of the first that breaks a rule, or the greatest numbers of rows and columns.
-#[derive(Drop)]
+#[derive(Clone, Copy)]
 pub enum Scan {
     BrokenAt(usize),
     Greatest(usize, usize),
 }
 
 // A glyph's metrics: how far it reaches up, down, left and right of its origin, and its logical width.
-#[derive(Drop)]
+#[derive(Clone, Copy)]
 pub struct Metrics {
     pub up: i32,
     pub down: i32,

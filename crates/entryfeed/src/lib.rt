@@ -12,7 +12,7 @@ use vfont2::Vfont2;
 // What the entries so far say: the place of the first that breaks a rule, 0 while there is none, and the greatest numbers of rows and
 // columns.
 #[repr(C)]
-#[derive(Drop)]
+#[derive(Clone, Copy)]
 pub struct Sums {
     pub broken: usize,
     pub height: usize,
@@ -20,7 +20,7 @@ pub struct Sums {
 }
 
 // What they say after a part, and the bytes of the entry that it left unfinished.
-#[derive(Drop)]
+#[derive(Clone, Copy)]
 pub struct Fed {
     pub held: Held,
     pub sums: Sums,

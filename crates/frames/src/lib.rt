@@ -16,7 +16,7 @@ use refusal::{Reason, Refusal};
 pub const LIMIT: usize = 4194304;
 
 // The state of the input. Counts go to one more than the limit and stop there.
-#[derive(Drop)]
+#[derive(Clone, Copy)]
 pub struct Frames {
     // the pieces so far
     pub loader: Loader,
@@ -32,7 +32,7 @@ pub struct Frames {
 }
 
 // What the program answers.
-#[derive(Drop)]
+#[derive(Clone, Copy)]
 pub enum Outcome {
     Sound,
     Refused(Refusal),
@@ -40,7 +40,7 @@ pub enum Outcome {
 }
 
 // A line of output: so many bytes, which stand in front with zeros behind them.
-#[derive(Drop)]
+#[derive(Clone, Copy)]
 pub struct Output {
     pub len: usize,
     pub bytes: [u8; 96],

@@ -14,7 +14,7 @@ use header::{Font, Kind};
 use vfont2::Vfont2;
 
 // A glyph's five metrics, each as the number of 16 bits that a vfont2 entry has for it.
-#[derive(Drop)]
+#[derive(Clone, Copy)]
 pub struct Words {
     pub up: u32,
     pub down: u32,

@@ -12,7 +12,7 @@ ghost use Rattle.header.specs.Bounds.{HeadWithin};
 
 use refusal::{Reason, Refusal};
 
-#[derive(Drop)]
+#[derive(Clone, Copy)]
 pub enum Kind {
     Psf1,
     Psf2,
@@ -23,14 +23,14 @@ pub enum Kind {
 pub const LIMIT: usize = 1048576;
 
 // The kind that a file's first bytes name.
-#[derive(Drop)]
+#[derive(Clone, Copy)]
 pub enum Named {
     Is(Kind),
     Unknown,
 }
 
 // What an accepted font's header says: all that any other call needs. Offsets are in the file.
-#[derive(Drop)]
+#[derive(Clone, Copy)]
 pub struct Font {
     pub kind: Kind,
     pub count: usize,
@@ -49,14 +49,14 @@ pub struct Font {
     pub table: bool,
 }
 
-#[derive(Drop)]
+#[derive(Clone, Copy)]
 pub enum Checked {
     Sound(Font),
     Refused(Refusal),
 }
 
 // The fields that PSF2 and vfont2 have at the same places.
-#[derive(Drop)]
+#[derive(Clone, Copy)]
 pub struct Fields {
     pub header: usize,
     pub count: usize,
@@ -66,7 +66,7 @@ pub struct Fields {
     pub table: bool,
 }
 
-#[derive(Drop)]
+#[derive(Clone, Copy)]
 pub enum Head {
     Read(Fields),
     Refused(Refusal),

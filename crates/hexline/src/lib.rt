@@ -7,7 +7,7 @@ ghost use Rattle.hexline.specs.Meaning.{bad_frame};
 ghost use Rattle.hexline.specs.Reading.{hex_value, pair_value, frame_of};
 
 // A line as it was read: a frame of so many bytes, which stand in front with zeros behind them, or a bad line.
-#[derive(Drop)]
+#[derive(Clone, Copy)]
 pub struct Frame {
     pub good: bool,
     pub len: usize,

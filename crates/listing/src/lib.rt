@@ -12,7 +12,7 @@ use header::{Checked, Font, Kind};
 use refusal::{Reason, Refusal};
 
 // How many bytes of text stand in front of the buffer; or ROOM with the bytes needed, and the buffer is untouched.
-#[derive(Drop)]
+#[derive(Clone, Copy)]
 pub enum Listed {
     Wrote(usize),
     Refused(Refusal),

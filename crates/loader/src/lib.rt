@@ -19,7 +19,7 @@ use vfont2::Vfont2;
 // bytes, the unfinished bytes of header, entry or value, what the entries said so far, and how far the Unicode table has been read.
 // Numbers and bytes alone, so that whatever stands in a caller's memory is a record.
 #[repr(C)]
-#[derive(Drop)]
+#[derive(Clone, Copy)]
 pub struct Loader {
     pub total: usize,
     pub closed: usize,
@@ -30,7 +30,7 @@ pub struct Loader {
 }
 
 // What feeding answers: neither sound nor refused, or LATE.
-#[derive(Drop)]
+#[derive(Clone, Copy)]
 pub enum Reply {
     Taken,
     Refused(Refusal),

@@ -11,21 +11,21 @@ use coding::Coding;
 use table::{Cursor, Item, Step, TableAnswer};
 
 // The item asked for, or Nothing where the glyph or the item is not there.
-#[derive(Drop)]
+#[derive(Clone, Copy)]
 pub enum Walked {
     Found(Item),
     Nothing,
 }
 
 // The lowest glyph, or Nothing where none lists it.
-#[derive(Drop)]
+#[derive(Clone, Copy)]
 pub enum Found {
     At(usize),
     Nothing,
 }
 
 // The lowest glyph of a table that is complete; else what the check of the table says: where that is complete too, no glyph lists it.
-#[derive(Drop)]
+#[derive(Clone, Copy)]
 pub enum Looked {
     At(usize),
     Not(TableAnswer),

@@ -11,7 +11,7 @@ use coding::Coding;
 use table::Step;
 
 // Where a value is listed as a single, and the place after it; or where the singles end, which do not have it.
-#[derive(Drop)]
+#[derive(Clone, Copy)]
 pub enum Mapping {
     Listed(usize, usize),
     Unlisted(usize),

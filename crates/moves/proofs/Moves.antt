@@ -2,7 +2,7 @@
 -- loop that moves or clears; and a piece put in or taken out by moves.
 use mathlib.Core.Path.{◌≡◌, refl, sym, ◌∙◌, ap}
 use mathlib.Core.List.{List, [], ◌∷◌, ◌++◌, append_assoc, append-nil}
-use Prim.Native.Nat.{ℕ, suc, ◌+◌, ◌-◌, ◌≤◌, ◌<◌}
+use Prim.Native.Nat.{ℕ, zero, suc, ◌+◌, ◌-◌, ◌≤◌, ◌<◌}
 use native.Mathlib.Numerals.{add-one}
 use native.Mathlib.Omega.{arith}
 use borrow.Rule.Slice.PartMut.{mid_of, put_mid}
@@ -112,6 +112,7 @@ part_laid a q w ys h e =
 
 -- one turn of a move up, from the end down
 pub up_turn : (s w : List ℕ) (i end by : ℕ) → 1 ≤ i → i ≤ end → end + by ≤ length s → w ≡ laid (i + by) (slice i end s) s → set w (i - 1 + by) (get_or w (i - 1) 0) ≡ laid (i - 1 + by) (slice (i - 1) end s) s
+up_turn s w zero end by g h k e = absurd (omega arith)
 up_turn s w (suc j) end by g h k e = by_suc s w j end by h k e
   where
     by_suc : (s w : List ℕ) (j end by : ℕ) → suc j ≤ end → end + by ≤ length s → w ≡ laid (suc j + by) (slice (suc j) end s) s → set w (suc j - 1 + by) (get_or w (suc j - 1) 0) ≡ laid (suc j - 1 + by) (slice (suc j - 1) end s) s

@@ -10,7 +10,7 @@ ghost use Rattle.header.specs.Reading.{mode_of, header_bytes, psf1_says};
 use header::{Checked, Font, Kind};
 use refusal::Reason;
 
-#[derive(Drop)]
+#[derive(Clone, Copy)]
 pub struct Psf1;
 
 impl Psf1 {

@@ -9,7 +9,7 @@ ghost use Rattle.header.specs.Reading.{head_of, psf2_shaped, on_fields, header_b
 use header::{Checked, Fields, Font, Head, Kind};
 use refusal::Reason;
 
-#[derive(Drop)]
+#[derive(Clone, Copy)]
 pub struct Psf2;
 
 impl Psf2 {

@@ -19,14 +19,14 @@ use stages::TailAnswer;
 use table::Item;
 
 // An item of a glyph's description; or the refusal.
-#[derive(Drop)]
+#[derive(Clone, Copy)]
 pub enum Walk {
     Is(Item),
     Refused(Refusal),
 }
 
 // The glyph found; or the refusal.
-#[derive(Drop)]
+#[derive(Clone, Copy)]
 pub enum Lookup {
     Glyph(usize),
     Refused(Refusal),

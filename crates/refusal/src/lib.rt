@@ -5,7 +5,7 @@ ghost use Rattle.std.specs.Prelude.{◌≡◌};
 ghost use Rattle.refusal.specs.Meaning.{number_of, refusal, refusal_at};
 
 // Why a call is refused: the rows of document 01's table, then those that document 02 adds.
-#[derive(Drop)]
+#[derive(Clone, Copy)]
 pub enum Reason {
     TooLong,
     Kind,
@@ -39,7 +39,7 @@ pub const NO_GLYPH: usize = 4096;
 
 // A refusal: the reason; its place: an offset in the file, 0 where there is nothing to point at, the size needed (ROOM), a line's
 // number (LINE); and the glyph that the place belongs to, 4,096 where it belongs to none.
-#[derive(Drop)]
+#[derive(Clone, Copy)]
 pub struct Refusal {
     pub reason: Reason,
     pub place: usize,

@@ -137,7 +137,7 @@ pub fn check_entries(file: &[u8], f: Font) -> Checked
 }
 
 // What refusals 10 to 12 say of a tail.
-#[derive(Drop)]
+#[derive(Clone, Copy)]
 pub enum TailAnswer {
     Sound,
     Refused(Refusal),
@@ -190,7 +190,7 @@ pub fn check_tail(file: &[u8], f: Font, table: bool) -> TailAnswer
 
 // A font whose check has come to its table, and whether it has one; or the refusal. The flag stands beside the font, so that a call reads no field
 // of it before its table is checked (docs/DECISIONS.md, "Speed").
-#[derive(Drop)]
+#[derive(Clone, Copy)]
 pub enum ToTable {
     Sound(bool, Font),
     Refused(Refusal),

@@ -15,7 +15,7 @@ use token::Token;
 use utf8::Read;
 
 // What stands in a description, one after the other: a single value, a start mark, a value in a sequence, the end mark.
-#[derive(Drop)]
+#[derive(Clone, Copy)]
 pub enum Item {
     Single(u32),
     Start,
@@ -24,7 +24,7 @@ pub enum Item {
 }
 
 // What stands at a place of a tail, and the place after it; Cut where it is not all there, Bad with the first wrong place.
-#[derive(Drop)]
+#[derive(Clone, Copy)]
 pub enum Step {
     Value(u32, usize),
     Start(usize),
@@ -108,7 +108,7 @@ pub fn value_item(inside: bool, v: u32) -> Item
 
 // What the check of a table says. Places are counted from the table's first byte; Cut and Bad also tell how many descriptions are
 // complete before the place, which is the glyph whose description is being read there.
-#[derive(Drop)]
+#[derive(Clone, Copy)]
 pub enum TableAnswer {
     Complete,
     Cut(usize, usize),
@@ -118,7 +118,7 @@ pub enum TableAnswer {
 
 // What plainly stands at a place, and the place after it; Other where reading has to look closer: at a value with a key that is asked for, and where
 // nothing can be read.
-#[derive(Drop)]
+#[derive(Clone, Copy)]
 pub enum Plain {
     Value(usize),
     Start(usize),
@@ -189,7 +189,7 @@ fn plain_at(c: Coding, s: &[u8], at: usize, key: u32) -> Plain
 
 // Where a walk over a table stands: at a place, with so many descriptions still to end, and behind the last start mark of its description at
 // `start`, NO_START where it has none yet. So it stands just after that mark where the two places are one, and a value needs to move nothing else.
-#[derive(Drop)]
+#[derive(Clone, Copy)]
 pub struct Cursor {
     pub at: usize,
     pub left: usize,

@@ -14,7 +14,7 @@ use unfinished::Held;
 // How far a table has been read: the descriptions complete, 1 just after a start mark (else 0); 0, or the number of the refusal that it has
 // met; and its place in the file, or that of the first byte that is read with those that follow.
 #[repr(C)]
-#[derive(Drop)]
+#[derive(Clone, Copy)]
 pub struct Standing {
     pub ended: usize,
     pub opened: usize,
@@ -23,7 +23,7 @@ pub struct Standing {
 }
 
 // The same within some bytes, its place counted there.
-#[derive(Drop)]
+#[derive(Clone, Copy)]
 pub struct Run {
     pub ended: usize,
     pub opened: bool,
@@ -32,7 +32,7 @@ pub struct Run {
 }
 
 // How far it has been read after a part, and the bytes of the value or mark that it left unfinished.
-#[derive(Drop)]
+#[derive(Clone, Copy)]
 pub struct Fed {
     pub held: Held,
     pub standing: Standing,

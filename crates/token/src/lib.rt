@@ -7,7 +7,7 @@ ghost use Rattle.token.specs.Reading.{is_noncharacter};
 
 // What stands at the front of some bytes: a value and how many bytes it has, a start mark, an end mark, the beginning
 // of a value or mark whose end is missing, or bytes that begin none, the place of the first wrong byte with it.
-#[derive(Drop)]
+#[derive(Clone, Copy)]
 pub enum Token {
     Value(u32, usize),
     Start,

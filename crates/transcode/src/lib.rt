@@ -12,7 +12,7 @@ use table::Step;
 
 // How many bytes a table's items are in another coding, or the place of the first value that the coding can't carry. Which glyph lists that
 // value is left to the caller.
-#[derive(Drop)]
+#[derive(Clone, Copy)]
 pub enum Measured {
     Length(usize),
     Uncarried(usize),

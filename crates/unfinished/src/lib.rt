@@ -6,7 +6,7 @@ ghost use Rattle.unfinished.specs.Reading.{held_bytes, held_of, put_of};
 
 // Bytes that are still to be read with those that follow: the first `len` of `bytes`.
 #[repr(C)]
-#[derive(Drop)]
+#[derive(Clone, Copy)]
 pub struct Held {
     pub len: usize,
     pub bytes: [u8; 32],

@@ -14,7 +14,7 @@ use base::wide;
 
 // What the first byte of a value says: the value's length (0: no value begins so), the modulus that
 // leaves the first byte's bits, and the bounds of the second byte.
-#[derive(Drop)]
+#[derive(Clone, Copy)]
 pub struct Lead {
     pub len: usize,
     pub modulus: u8,
@@ -119,7 +119,7 @@ fn four_lead(b: u8) -> Lead
 
 // What stands at the front of some bytes: a value and how many bytes it has, the beginning of one whose end is missing, or bytes that
 // begin none, the place of the first wrong byte with it.
-#[derive(Drop)]
+#[derive(Clone, Copy)]
 pub enum Read {
     Value(u32, usize),
     Cut,

@@ -18,7 +18,7 @@ use std::io::{self, Read};
 use table::Item;
 
 // Where the script is read, how long the current file is, and how long the last good conversion's output, or the file kept since.
-#[derive(Drop)]
+#[derive(Clone, Copy)]
 struct Cursor {
     at: usize,
     len: usize,

@@ -10,7 +10,7 @@ ghost use Rattle.header.specs.Reading.{head_of, vfont2_shaped, on_fields, header
 use header::{Checked, Fields, Font, Head, Kind};
 use refusal::Reason;
 
-#[derive(Drop)]
+#[derive(Clone, Copy)]
 pub struct Vfont2;
 
 impl Vfont2 {

@@ -1,0 +1,14 @@
+-- `bitmap::entry_located` meets its contract: what the entry says. Assumes that it stands in the file.
+use mathlib.Core.Path.{sym, ◌∙◌, ap}
+use Rattle.bitmap.specs.declared.Located.TheVariants.{Refused as NotLocated}
+use borrow.Author.Rules.{rules}
+use Rattle.bitmap.proofs.entry_located.Goals as goal
+
+pub returns-in-Empty : goal.returns-in-Empty
+returns-in-Empty c = ap NotLocated c.refuse.ensures ∙ rw (sym c.entry_at-e.ensures ∙ c.in-Empty.is)
+
+pub returns-in-Glyph : goal.returns-in-Glyph
+returns-in-Glyph c = rw (sym c.entry_at-e.ensures ∙ c.in-Glyph.is, c.size.ensures, c.size-in-Glyph.ensures, c.get32.ensures, c.get32-in-Glyph.ensures)
+
+pub returns-in-Broken : goal.returns-in-Broken
+returns-in-Broken c = ap NotLocated c.refuse_at.ensures ∙ rw (sym c.entry_at-e.ensures ∙ c.in-Broken.is)

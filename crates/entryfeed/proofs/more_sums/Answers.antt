@@ -1,0 +1,23 @@
+-- `entryfeed::more_sums` meets its contract. Assumes that the entries stand in the slice, and the slice within the file limit.
+use borrow.Author.Rules.{rules}
+use native.Mathlib.Omega.{arith}
+use mathlib.Core.Path.{sym, ◌∙◌}
+use Prim.Native.Nat.{◌<◌}
+use Rattle.entries.proofs.Meaning.{scan_broken}
+use Rattle.entryfeed.proofs.Feeding.{already, found, taller}
+use Rattle.entryfeed.proofs.more_sums.Goals as goal
+
+pub returns-then-x-ne0 : goal.returns-then-x-ne0
+returns-then-x-ne0 c = already _ _ _ c.args.s.now _ _ c.if-x-ne0.true
+
+pub overflow_mul-result : goal.overflow_mul-result
+overflow_mul-result c = let i = (scan_broken _ _ _ _ _ (sym c.scan_entries-r.ensures ∙ c.in-BrokenAt.is)).within in omega arith
+
+pub overflow_add-result-in-BrokenAt : goal.overflow_add-result-in-BrokenAt
+overflow_add-result-in-BrokenAt c = let i = (scan_broken _ _ _ _ _ (sym c.scan_entries-r.ensures ∙ c.in-BrokenAt.is)).within in omega arith
+
+pub returns-in-BrokenAt : goal.returns-in-BrokenAt
+returns-in-BrokenAt c = found _ _ _ c.args.s.now _ _ c.if-x-ne0.false _ _ c.in-BrokenAt.is c.scan_entries-r.ensures
+
+pub returns-in-Greatest : goal.returns-in-Greatest
+returns-in-Greatest c = taller _ _ _ c.args.s.now _ _ c.if-x-ne0.false _ _ _ _ _ c.in-Greatest.is c.scan_entries-r.ensures c.larger_of.ensures c.larger_of-in-Greatest.ensures

@@ -1,0 +1,16 @@
+-- `stages::check_bare` meets its contract: a table is left, or nothing follows the bitmaps. Assumes nothing.
+use mathlib.Core.Path.{◌∙◌, ap}
+use Rattle.stages.specs.declared.ToTable.TheVariants.{Refused as ToRefused}
+use Rattle.stages.proofs.Cases as cases
+use borrow.Author.Rules.{rules}
+use Rattle.refusal.proofs.refuse.Reads as refuse-reads
+use Rattle.stages.proofs.check_bare.Goals as goal
+
+pub returns-then-f : goal.returns-then-f
+returns-then-f c = cases.reached_table c.args.file.now c.args.f c.if-f.true
+
+pub returns-then-f-file : goal.returns-then-f-file
+returns-then-f-file c = ap ToRefused c.refuse.ensures ∙ cases.reached_trailing c.args.file.now c.args.f c.if-f.false c.if-f-file.true
+
+pub returns : goal.returns
+returns c = cases.reached_end c.args.file.now c.args.f c.if-f.false c.if-f-file.false

@@ -1,0 +1,34 @@
+-- `table::utf8_step` meets its contract: the first byte decides the step, or it is a value's. Assumes nothing.
+use mathlib.Core.Path.{sym, ◌∙◌}
+use native.Mathlib.Omega.{arith}
+use Rattle.table.proofs.Firsts.{first_one, first_start, first_end, value_step}
+use Rattle.table.proofs.Stepping.{past_end}
+use borrow.Author.Rules.{rules}
+use Rattle.table.proofs.utf8_step.Goals as goal
+
+pub returns-then-s-at : goal.returns-then-s-at
+returns-then-s-at c = past_end _ _ _ c.if-s-at.true
+
+pub returns-then-b-lt128 : goal.returns-then-b-lt128
+returns-then-b-lt128 c = first_one c.args.s.now c.args.at c.if-s-at.false c.if-b-lt128.true _ c.wide.ensures.0
+
+pub returns-then-b : goal.returns-then-b
+returns-then-b c = first_end c.args.s.now c.args.at c.if-s-at.false c.if-b.true
+
+pub returns-then-b-2 : goal.returns-then-b-2
+returns-then-b-2 c = first_start c.args.s.now c.args.at c.if-s-at.false c.if-b-2.true
+
+pub overflow_add-result-in-Value : goal.overflow_add-result-in-Value
+overflow_add-result-in-Value c = let w = value_step c.args.s.now c.args.at c.if-s-at.false c.if-b-2.false c.if-b.false _ (sym c.in-Value.is ∙ c.read_value-r.ensures) in omega (arith, w.1.1)
+
+pub overflow_add-result-in-Bad : goal.overflow_add-result-in-Bad
+overflow_add-result-in-Bad c = let w = value_step c.args.s.now c.args.at c.if-s-at.false c.if-b-2.false c.if-b.false _ (sym c.in-Bad.is ∙ c.read_value-r.ensures) in omega (arith, w.1.1)
+
+pub returns-in-Value : goal.returns-in-Value
+returns-in-Value c = value_step c.args.s.now c.args.at c.if-s-at.false c.if-b-2.false c.if-b.false _ (sym c.in-Value.is ∙ c.read_value-r.ensures)
+
+pub returns-in-Cut : goal.returns-in-Cut
+returns-in-Cut c = value_step c.args.s.now c.args.at c.if-s-at.false c.if-b-2.false c.if-b.false _ (sym c.in-Cut.is ∙ c.read_value-r.ensures)
+
+pub returns-in-Bad : goal.returns-in-Bad
+returns-in-Bad c = value_step c.args.s.now c.args.at c.if-s-at.false c.if-b-2.false c.if-b.false _ (sym c.in-Bad.is ∙ c.read_value-r.ensures)

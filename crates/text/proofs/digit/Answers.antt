@@ -1,0 +1,13 @@
+-- `text::digit` meets its contract: ten digits, then the letters. Assumes nothing.
+use borrow.Author.Tests.{lt-ltb, le-ltb}
+use Rattle.text.specs.Reading.{digit_of}
+use borrow.Author.Rules.{rules}
+use Rattle.text.proofs.digit.Goals as goal
+
+pub returns-then-d-lt10 : goal.returns-then-d-lt10
+unfolding digit_of
+returns-then-d-lt10 c = rw (lt-ltb _ _ c.if-d-lt10.true)
+
+pub returns : goal.returns
+unfolding digit_of
+returns c = rw (le-ltb _ _ c.if-d-lt10.false)

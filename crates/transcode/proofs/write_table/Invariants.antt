@@ -1,0 +1,22 @@
+use Rattle.transcode.proofs.Turns.{value_more, value_carried, start_more, end_more, value_bytes_lem, start_bytes_lem, end_bytes_lem, cut_bytes, bad_bytes, past_bytes, recoded_from, length_from}
+use Rattle.transcode.specs.declared.Measured.TheVariants.{Length}
+use Rattle.transcode.specs.Reading.{recoded, measure}
+use Rattle.coding.proofs.Written.{carries_exactly, start_len, end_len}
+use Rattle.coding.specs.Meaning.{value_bytes, start_bytes, end_bytes}
+use Rattle.table.specs.Reading.{steps_at, step_items}
+use Rattle.table.specs.Meaning.{bytes}
+use Rattle.base.proofs.Over.{over_none, turn_within, turn_left, turn_over, turn_length, turn_room, all_over}
+use Rattle.base.specs.Reading.{over}
+use lib.ListN.{length, take, drop}
+use Prim.Native.Nat.{◌-◌, ◌≤◌}
+use mathlib.Core.Bool.{false}
+use mathlib.Core.Path.{◌≡◌, sym, ◌∙◌, refl}
+use native.Mathlib.Omega.{arith}
+use borrow.Author.Rules.{rules}
+use Rattle.transcode.proofs.write_table.Given as goal
+
+abbrev pub invariant-loop-at : goal.invariant-loop-at
+invariant-loop-at l = (l.at ≤ length l.tail) × (l.n ≤ length (recoded l.from l.to l.tail)) × (length (recoded l.from l.to l.tail) ≤ length l.initial.out) × (length l.out ≡ length l.initial.out) × (l.out ≡ over (take l.n (recoded l.from l.to l.tail)) l.initial.out) × (drop l.n (recoded l.from l.to l.tail) ≡ bytes l.to (step_items false (steps_at l.from l.tail l.at))) × (measure l.to l.at l.n (steps_at l.from l.tail l.at) ≡ Length (length (recoded l.from l.to l.tail)))
+
+abbrev pub decreases-loop-at : goal.decreases-loop-at
+decreases-loop-at l = length l.tail - l.at

@@ -1,0 +1,16 @@
+-- `vfont2::Vfont2::shaped` meets its contract: each return is one case of the definition. Assumes nothing.
+use borrow.Author.Rules.{rules}
+use native.Mathlib.Omega.{arith}
+use mathlib.Core.Path.{◌∙◌, ap}
+use Rattle.header.proofs.Cases as cases
+use Rattle.header.specs.declared.Checked.TheVariants.{Refused}
+use Rattle.vfont2.proofs.Vfont2.shaped.Goals as goal
+
+pub returns-then-f-gt255 : goal.returns-then-f-gt255
+returns-then-f-gt255 c = ap Refused c.refuse.ensures ∙ cases.tall c.args.f (omega arith)
+
+pub returns-then-f-gt255-2 : goal.returns-then-f-gt255-2
+returns-then-f-gt255-2 c = ap Refused c.refuse-then-f-gt255-2.ensures ∙ cases.broad c.args.f (omega arith)
+
+pub returns : goal.returns
+returns c = cases.vfont2_read c.args.f _ c.first_bitmap-bitmaps.ensures (omega arith)
