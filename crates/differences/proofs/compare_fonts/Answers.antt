@@ -1,7 +1,6 @@
 -- `differences::compare_fonts` meets its contract: counted where the buffer may be too short, refused for room, or written. Assumes `Placed` of both
 -- fonts.
 use mathlib.Core.Path.{◌≡◌, refl, sym, ◌∙◌, ap}
-use mathlib.Core.Logic.{⊎_elim}
 use Prim.Native.Nat.{ℕ, ◌*◌, ◌/◌, ◌≤◌}
 use native.Mathlib.Omega.{arith}
 use lib.ListN.{length}
@@ -13,6 +12,7 @@ use Rattle.differences.proofs.Pairs.{numbers_length}
 use Rattle.differences.proofs.Cases.{no_room, has_room, none_over, pairs_most}
 use borrow.Author.Rules.{rules}
 use Rattle.differences.proofs.compare_fonts.Goals as goal
+use Rattle.differences.proofs.compare_fonts.Goals.{then-out-most+else-out-need+else-n-eq0, else-out-most}
 
 pub returns-then-out-need : goal.returns-then-out-need
 returns-then-out-need c = let e : c.count_pairs-n.result ≡ length (pairs_of c.args.a.now c.args.f c.args.b.now c.args.h) = c.count_pairs-n.ensures.0 in
@@ -23,10 +23,10 @@ returns-then-n-eq0 c = let e : c.count_pairs-n.result ≡ length (pairs_of c.arg
     record { answer = ap Pairs (sym c.if-n-eq0.true ∙ e) ∙ has_room (length c.args.out.now) (length (pairs_of c.args.a.now c.args.f c.args.b.now c.args.h)) (omega (arith, e, c.if-out-need.false)); buffer = none_over (pairs_of c.args.a.now c.args.f c.args.b.now c.args.h) c.args.out.now (sym e ∙ c.if-n-eq0.true) }
 
 pub put_pairs-used-requires : goal.put_pairs-used-requires
-put_pairs-used-requires c = let l : 2 * length (pairs_of c.args.a.now c.args.f c.args.b.now c.args.h) ≤ length c.args.out.now = ⊎_elim {C = 2 * length (pairs_of c.args.a.now c.args.f c.args.b.now c.args.h) ≤ length c.args.out.now} (λ w. omega (arith, w.1.ensures.0, w.2.left)) (λ w. omega (arith, pairs_most c.args.a.now c.args.f c.args.b.now c.args.h c.requires.0.1 c.requires.1.1, w.left)) c.if-out-most.branch in
+put_pairs-used-requires c = let l : 2 * length (pairs_of c.args.a.now c.args.f c.args.b.now c.args.h) ≤ length c.args.out.now = elim c.if-out-most.branch [ then-out-most+else-out-need+else-n-eq0 w ↦ omega (arith, w.count_pairs-n.ensures.0, w.if-out-need.false) | else-out-most w ↦ omega (arith, pairs_most c.args.a.now c.args.f c.args.b.now c.args.h c.requires.0.1 c.requires.1.1, w.if-out-most.false) ] in
     (c.requires.0, c.requires.1, omega (arith, l, numbers_length (pairs_of c.args.a.now c.args.f c.args.b.now c.args.h)))
 
 pub returns : goal.returns
-returns c = let l : 2 * length (pairs_of c.args.a.now c.args.f c.args.b.now c.args.h) ≤ length c.args.out.now = ⊎_elim {C = 2 * length (pairs_of c.args.a.now c.args.f c.args.b.now c.args.h) ≤ length c.args.out.now} (λ w. omega (arith, w.1.ensures.0, w.2.left)) (λ w. omega (arith, pairs_most c.args.a.now c.args.f c.args.b.now c.args.h c.requires.0.1 c.requires.1.1, w.left)) c.if-out-most.branch in
+returns c = let l : 2 * length (pairs_of c.args.a.now c.args.f c.args.b.now c.args.h) ≤ length c.args.out.now = elim c.if-out-most.branch [ then-out-most+else-out-need+else-n-eq0 w ↦ omega (arith, w.count_pairs-n.ensures.0, w.if-out-need.false) | else-out-most w ↦ omega (arith, pairs_most c.args.a.now c.args.f c.args.b.now c.args.h c.requires.0.1 c.requires.1.1, w.if-out-most.false) ] in
     let e : c.put_pairs-used.result / 2 ≡ length (pairs_of c.args.a.now c.args.f c.args.b.now c.args.h) = omega (arith, c.put_pairs-used.ensures.0, numbers_length (pairs_of c.args.a.now c.args.f c.args.b.now c.args.h)) in
     record { answer = ap Pairs e ∙ has_room (length c.args.out.now) (length (pairs_of c.args.a.now c.args.f c.args.b.now c.args.h)) l; buffer = c.put_pairs-used.ensures.1 }

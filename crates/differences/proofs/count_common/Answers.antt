@@ -23,7 +23,7 @@ compare-e-requires c = (c.loop-g.invariant.3, c.loop-g.invariant.4)
 pub loop-g-preserved : goal.loop-g-preserved
 loop-g-preserved c = let l = c.loop-g in
     let e = c.compare-e in
-    (omega arith, omega arith, omega arith, e.ensures.1.0, e.ensures.1.1, count_next (glyph_kind c.args.a.now c.args.f c.args.b.now c.args.h) c.coding_of-c.result c.args.s.now c.coding_of-d.result c.args.t.now c.args.n l.g l.x l.y _ _ e.result c.loop-g-test.true c.compare.ensures e.ensures.0 c.item_kind.ensures l.total _ _ _ c.pair_count-total.ensures.0 c.pair_count-total-in-loop-g.ensures.0 l.invariant.5)
+    (omega arith, omega arith, omega arith, e.ensures.bounded.0, e.ensures.bounded.1, count_next (glyph_kind c.args.a.now c.args.f c.args.b.now c.args.h) c.coding_of-c.result c.args.s.now c.coding_of-d.result c.args.t.now c.args.n l.g l.x l.y _ _ e.result c.loop-g-test.true c.compare.ensures e.ensures.equal c.item_kind.ensures l.total _ _ _ c.pair_count-total.ensures.0 c.pair_count-total-in-loop-g.ensures.0 l.invariant.5)
 
 pub returns : goal.returns
 returns c = let l = c.loop-g in

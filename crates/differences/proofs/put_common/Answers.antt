@@ -34,13 +34,13 @@ compare-e-requires c = (c.loop-g.invariant.3, c.loop-g.invariant.4)
 pub put_glyph-at-requires : goal.put_glyph-at-requires
 put_glyph-at-requires c = let l = c.loop-g in
     let e = c.compare-e in
-    (omega (arith, c.loop-g-test.true, l.invariant.1), room _ (numbers (glyph_pairs c.compare-kind.result c.item_kind.result l.g)) _ _ _ l.at (subst (λ (y : List ℕ). Written (numbers (common_from (glyph_kind c.args.a.now c.args.f c.args.b.now c.args.h) c.coding_of-c.result c.args.s.now c.coding_of-d.result c.args.t.now c.args.n 0 0 0)) c.args.out.now l.at l.out y) (numbers_next (glyph_kind c.args.a.now c.args.f c.args.b.now c.args.h) c.coding_of-c.result c.args.s.now c.coding_of-d.result c.args.t.now c.args.n l.g l.x l.y _ _ e.result c.loop-g-test.true c.compare-kind.ensures e.ensures.0 c.item_kind.ensures) l.invariant.5))
+    (omega (arith, c.loop-g-test.true, l.invariant.1), room _ (numbers (glyph_pairs c.compare-kind.result c.item_kind.result l.g)) _ _ _ l.at (subst (λ (y : List ℕ). Written (numbers (common_from (glyph_kind c.args.a.now c.args.f c.args.b.now c.args.h) c.coding_of-c.result c.args.s.now c.coding_of-d.result c.args.t.now c.args.n 0 0 0)) c.args.out.now l.at l.out y) (numbers_next (glyph_kind c.args.a.now c.args.f c.args.b.now c.args.h) c.coding_of-c.result c.args.s.now c.coding_of-d.result c.args.t.now c.args.n l.g l.x l.y _ _ e.result c.loop-g-test.true c.compare-kind.ensures e.ensures.equal c.item_kind.ensures) l.invariant.5))
 
 pub loop-g-preserved : goal.loop-g-preserved
 loop-g-preserved c = let l = c.loop-g in
     let e = c.compare-e in
     let p = c.put_glyph-at in
-    (omega arith, omega arith, omega arith, e.ensures.1.0, e.ensures.1.1, goes_on _ _ _ _ _ _ _ l.at p.result refl p.ensures.0 p.ensures.2 (subst (λ (y : List ℕ). Written (numbers (common_from (glyph_kind c.args.a.now c.args.f c.args.b.now c.args.h) c.coding_of-c.result c.args.s.now c.coding_of-d.result c.args.t.now c.args.n 0 0 0)) c.args.out.now l.at l.out y) (numbers_next (glyph_kind c.args.a.now c.args.f c.args.b.now c.args.h) c.coding_of-c.result c.args.s.now c.coding_of-d.result c.args.t.now c.args.n l.g l.x l.y _ _ e.result c.loop-g-test.true c.compare-kind.ensures e.ensures.0 c.item_kind.ensures) l.invariant.5))
+    (omega arith, omega arith, omega arith, e.ensures.bounded.0, e.ensures.bounded.1, goes_on _ _ _ _ _ _ _ l.at p.result refl p.ensures.0 p.ensures.2 (subst (λ (y : List ℕ). Written (numbers (common_from (glyph_kind c.args.a.now c.args.f c.args.b.now c.args.h) c.coding_of-c.result c.args.s.now c.coding_of-d.result c.args.t.now c.args.n 0 0 0)) c.args.out.now l.at l.out y) (numbers_next (glyph_kind c.args.a.now c.args.f c.args.b.now c.args.h) c.coding_of-c.result c.args.s.now c.coding_of-d.result c.args.t.now c.args.n l.g l.x l.y _ _ e.result c.loop-g-test.true c.compare-kind.ensures e.ensures.equal c.item_kind.ensures) l.invariant.5))
 
 pub returns : goal.returns
 returns c = let l = c.loop-g in
