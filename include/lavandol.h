@@ -1,7 +1,7 @@
 /*
  * lavandol.h: bitmap fonts in the formats PSF1, PSF2 and vfont2, read from memory.
  *
- * Link with target/staticlib/liblavandol.a, which `rt staticlib lavandol` makes: x86-64 ELF, its functions called by the System V
+ * Link with crates/lavandol/out/liblavandol.a, which `tools/built lavandol` makes: x86-64 ELF, its functions called by the System V
  * calling convention. Every function is proved to answer as its comment says on any bytes and any numbers, to end, and to read and
  * write nothing outside the slices that it is lent. The proof ends at this header: nothing checks the declarations below against the
  * library, and the caller must keep the three rules that follow.

@@ -1,8 +1,8 @@
 /*
  * Tells what differs between two fonts, of any kinds:
  *   target/changes examples/fonts/small.psf2 examples/fonts/letters.psf1
- * Build, in the repository's folder after `rt staticlib lavandol`:
- *   gcc -O2 -Wall -Wextra -Iinclude -o target/changes examples/c/changes.c target/staticlib/liblavandol.a
+ * Build, in the repository's folder after `tools/built lavandol` and `mkdir -p target`:
+ *   gcc -O2 -Wall -Wextra -Iinclude -o target/changes examples/c/changes.c crates/lavandol/out/liblavandol.a
  * A line for each difference, and one for their count.
  */
 #include "shared.h"

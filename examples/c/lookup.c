@@ -1,7 +1,7 @@
 /*
  * Looks a letter up in a font and draws its glyph:  target/lookup examples/fonts/small.psf2 C5  (the letter's code point, hexadecimal).
- * Build, in the repository's folder after `rt staticlib lavandol`:
- *   gcc -O2 -Wall -Wextra -Iinclude -o target/lookup examples/c/lookup.c target/staticlib/liblavandol.a
+ * Build, in the repository's folder after `tools/built lavandol` and `mkdir -p target`:
+ *   gcc -O2 -Wall -Wextra -Iinclude -o target/lookup examples/c/lookup.c crates/lavandol/out/liblavandol.a
  */
 #include "shared.h"
 

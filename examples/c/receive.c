@@ -1,8 +1,8 @@
 /*
  * Checks a font while it arrives on standard input, in frames as a serial line would bring them:
  *   target/receive 64 < examples/fonts/small.psf2      (frames of up to 64 bytes; 1 to 4,096)
- * Build, in the repository's folder after `rt staticlib lavandol`:
- *   gcc -O2 -Wall -Wextra -Iinclude -o target/receive examples/c/receive.c target/staticlib/liblavandol.a
+ * Build, in the repository's folder after `tools/built lavandol` and `mkdir -p target`:
+ *   gcc -O2 -Wall -Wextra -Iinclude -o target/receive examples/c/receive.c crates/lavandol/out/liblavandol.a
  * Only one frame and the loader are in memory. A font that is to be used afterwards would be stored frame by frame beside the feeding.
  */
 #include <inttypes.h>

@@ -1,8 +1,8 @@
 /*
  * Adds a letter to a glyph of a PSF2 font, or drops it, and writes the font anew:
  *   target/remap examples/fonts/small.psf2 add 1 212B target/more.psf2      (glyph, and the letter's code point, hexadecimal)
- * Build, in the repository's folder after `rt staticlib lavandol`:
- *   gcc -O2 -Wall -Wextra -Iinclude -o target/remap examples/c/remap.c target/staticlib/liblavandol.a
+ * Build, in the repository's folder after `tools/built lavandol` and `mkdir -p target`:
+ *   gcc -O2 -Wall -Wextra -Iinclude -o target/remap examples/c/remap.c crates/lavandol/out/liblavandol.a
  * The font is edited in memory, where a letter needs up to 4 bytes more. A refused edit leaves it as it was, and nothing is written.
  */
 #include "shared.h"

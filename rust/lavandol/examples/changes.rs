@@ -1,4 +1,4 @@
-//! Tells what differs between two fonts, of any kinds, in the folder rust/lavandol after `rt staticlib lavandol`:
+//! Tells what differs between two fonts, of any kinds, in the folder rust/lavandol after `tools/built lavandol`:
 //! `cargo run --offline --example changes -- ../../examples/fonts/small.psf2 ../../examples/fonts/letters.psf1`
 //! A line for each difference, and one for their count.
 

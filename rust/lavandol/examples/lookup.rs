@@ -1,4 +1,4 @@
-//! Looks a letter up in a font and draws its glyph, in the folder rust/lavandol after `rt staticlib lavandol`:
+//! Looks a letter up in a font and draws its glyph, in the folder rust/lavandol after `tools/built lavandol`:
 //! `cargo run --offline --example lookup -- ../../examples/fonts/small.psf2 Å`
 //! Several letters are looked up as one sequence.
 

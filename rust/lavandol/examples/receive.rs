@@ -1,5 +1,5 @@
 //! Checks a font while it arrives on standard input, in frames as a serial line would bring them, in the folder rust/lavandol after
-//! `rt staticlib lavandol`:  `cargo run --offline --example receive -- 64 < ../../examples/fonts/small.psf2`
+//! `tools/built lavandol`:  `cargo run --offline --example receive -- 64 < ../../examples/fonts/small.psf2`
 //! Only one frame and the loader are in memory. A font that is to be used afterwards would be stored frame by frame beside the feeding.
 
 use std::error::Error;

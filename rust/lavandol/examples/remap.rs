@@ -1,5 +1,5 @@
 //! Adds a letter to a glyph of a PSF2 font, or drops it, and writes the font anew, in the folder rust/lavandol after
-//! `rt staticlib lavandol`:
+//! `tools/built lavandol`:
 //! `cargo run --offline --example remap -- ../../examples/fonts/small.psf2 add 1 212B ../../target/more.psf2`
 //! The font is edited in memory, where a letter needs up to 4 bytes more. A refused edit leaves it as it was, and nothing is written.
 
