@@ -11,8 +11,7 @@ use std::io::{self, Read};
 fn input(reader: &mut impl Read, alloc: Global) -> io::Result<Frames> {
     let mut buf = Vec::new(alloc);
     let mut state = frames::fresh();
-    let mut left: usize = 1025;
-    while 0 < left {
+    for _ in 0..1025 {
         buf.clear();
         let n = reader.by_ref().take(4096).read_to_end(&mut buf)?;
         state = frames::fed(state, &buf);
@@ -22,7 +21,6 @@ fn input(reader: &mut impl Read, alloc: Global) -> io::Result<Frames> {
         if 0 < state.bad {
             return Ok(state);
         }
-        left -= 1;
     }
     Ok(state)
 }
