@@ -129,6 +129,7 @@ fn feed_table(f: Font, total: usize, h: Held, t: Standing, piece: &[u8]) -> tabl
 }
 
 // A piece of a font that the header describes. Asks for what `feed_body` asks for.
+#[inline(always)]
 fn feed_font(l: Loader, f: Font, piece: &[u8]) -> Loader
     requires { Parts f × Fitting l.total l.held piece.now × (l.total < 32 → l.held.len ≡ 0) }
     ensures { result ≡ font_fed f l piece.now }
@@ -151,6 +152,7 @@ fn feed_font(l: Loader, f: Font, piece: &[u8]) -> Loader
 
 // A piece of a file whose header is known. Asks for a piece within the file limit, for fewer bytes held than an entry has, and for none where
 // the header has just been read: the callers have tested it.
+#[inline(always)]
 fn feed_body(l: Loader, piece: &[u8]) -> Loader
     requires { Fitting l.total l.held piece.now × (l.total < 32 → l.held.len ≡ 0) }
     ensures { result ≡ body_fed l piece.now }

@@ -1,0 +1,7 @@
+-- `answers::reply_told` meets its contract: by cases on the answer. Assumes nothing.
+use mathlib.Core.Path.{◌∙◌}
+use borrow.Author.Rules.{rules}
+use Rattle.answers.proofs.reply_told.Goals as goal
+
+pub returns-in-Refused : goal.returns-in-Refused
+returns-in-Refused c = c.refusal_told.ensures ∙ rw c.in-Refused.is

@@ -1,0 +1,16 @@
+-- `fonts::row_part` meets its contract: the font's own refusal, or the bitmap's answer. Assumes nothing.
+use Rattle.fonts.specs.Reading.{row_part_of}
+use mathlib.Core.Path.{sym, ◌∙◌}
+use borrow.Author.Rules.{rules}
+use Rattle.fonts.proofs.row_part.Goals as goal
+
+pub row_part-requires : goal.row_part-requires
+row_part-requires c = rw c.in-Sound.is at c.check-a.ensures.bounded
+
+pub returns-in-Sound : goal.returns-in-Sound
+unfolding row_part_of
+returns-in-Sound c = record { equal = c.row_part.ensures.equal ∙ rw (sym c.check-a.ensures.equal ∙ c.in-Sound.is); bounded = c.row_part.ensures.bounded }
+
+pub returns-in-Refused : goal.returns-in-Refused
+unfolding row_part_of
+returns-in-Refused c = record { equal = rw (sym c.check-a.ensures.equal ∙ c.in-Refused.is); bounded = tt }
