@@ -139,11 +139,9 @@ fn value(rt: &(impl Print + AllocGlobal), v: u32) -> io::Result<()> {
 }
 
 fn letters(rt: &impl Print, text: &[u8]) -> io::Result<()> {
-    let mut i = 0;
-    while i < text.len() {
-        let one = [upper(text[i])];
+    for b in text {
+        let one = [upper(*b)];
         say(rt, &one)?;
-        i += 1;
     }
     Ok(())
 }
@@ -161,12 +159,9 @@ fn bytes(rt: &impl Print, p: &[u8]) -> io::Result<()> {
     if p.len() == 0 {
         say(rt, b"-")?;
     }
-    let mut i = 0;
-    while i < p.len() {
-        let b = p[i];
-        let two = [digit(b / 16), digit(b % 16)];
+    for b in p {
+        let two = [digit(*b / 16), digit(*b % 16)];
         say(rt, &two)?;
-        i += 1;
     }
     Ok(())
 }
@@ -396,11 +391,9 @@ fn sequence_text(rt: &(impl Print + AllocGlobal), vs: &[u32]) -> io::Result<()> 
     if vs.len() == 0 {
         say(rt, b"-")?;
     }
-    let mut i = 0;
-    while i < vs.len() {
+    for v in vs {
         say(rt, b"+")?;
-        value(rt, vs[i])?;
-        i += 1;
+        value(rt, *v)?;
     }
     Ok(())
 }
@@ -741,11 +734,9 @@ fn differing(which: u8, file: &[u8], kept: &[u8], out: &mut [u32]) -> Compared {
 
 // Numbers, each after a blank.
 fn numbers(rt: &impl Print, ns: &[u32]) -> io::Result<()> {
-    let mut i = 0;
-    while i < ns.len() {
+    for n in ns {
         say(rt, b" ")?;
-        decimal(rt, base::size(ns[i]))?;
-        i += 1;
+        decimal(rt, base::size(*n))?;
     }
     Ok(())
 }
@@ -946,10 +937,8 @@ fn play(
         len: 0,
         last: 0,
     };
-    let mut i = 0;
-    while i < script.len() {
+    for _ in script {
         c = step(rt, script, file, out, c)?;
-        i += 1;
     }
     Ok(())
 }
