@@ -149,6 +149,7 @@ fn is_psf1_count(n: usize) -> bool
 }
 
 // Refusal 18 to PSF1.
+#[tactic(auto, using(crate::proofs::Cases::width_other))]
 fn suits_psf1(f: Font) -> Suits
     ensures { result ≡ suits_psf1 f }
 {
@@ -256,6 +257,7 @@ fn front_len(c: Conversion, f: Font) -> usize
 }
 
 // Refusal 20, or that the output fits in a file.
+#[tactic(auto, using(crate::proofs::Cases::too_large))]
 fn fit(f: Font, need: usize) -> Prepared
     ensures { result ≡ fitting f need }
 {

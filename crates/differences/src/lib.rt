@@ -231,6 +231,7 @@ fn put_pairs(a: &[u8], f: Font, b: &[u8], h: Font, out: &mut [u32]) -> usize
 
 // The differences of two sound fonts: written at once where the buffer has room for any pairs of fonts of so many glyphs, which are no more than
 // they have glyphs together; else counted first, since a refused call writes nothing. Asks for fonts whose parts stand in the files.
+#[tactic(auto, using(crate::proofs::Cases::no_room))]
 fn compare_fonts(a: &[u8], f: Font, b: &[u8], h: Font, out: &mut [u32]) -> Compared
     requires { Placed a.now f × Placed b.now h }
     ensures answer { result ≡ fitted (length out.old) (length (pairs_of a.now f b.now h)) }

@@ -71,6 +71,7 @@ pub fn fresh() -> Frames
 }
 
 // The line that is held as a frame.
+#[tactic(auto, using(crate::proofs::Held::held_long, hexline::proofs::Steps::bad_bounded))]
 fn held_frame(line: [u8; 128], len: usize) -> Frame
     ensures equal { result ≡ held_frame line len }
     ensures bounded { (result.len ≤ 64) × (length result.bytes ≡ 64) }
@@ -117,6 +118,7 @@ fn with_char(f: Frames, b: u8) -> Frames
 }
 
 // One byte of input. Behind a bad line nothing is read, and behind the limit it is only counted.
+#[tactic(auto, using(crate::proofs::Ended::took_as, crate::proofs::Feeding::byte_full, crate::proofs::Feeding::byte_newline))]
 fn byte(f: Frames, b: u8) -> Frames
     ensures { result ≡ byte_of f b }
 {
@@ -204,6 +206,7 @@ fn last(f: Frames) -> Outcome
 }
 
 // The answer where the input ends. Refusals: LINE, place the first bad line's number, and those of the loader.
+#[tactic(auto, using(crate::proofs::Feeding::closed_full))]
 pub fn close(f: Frames) -> Outcome
     ensures { result ≡ closed_of f }
 {

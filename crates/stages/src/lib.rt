@@ -197,6 +197,7 @@ pub enum ToTable {
 }
 
 // Refusal 12 of a font without a table.
+#[tactic(auto, using(crate::proofs::Cases::reached_trailing))]
 fn check_bare(file: &[u8], f: Font) -> ToTable
     ensures { result ≡ to_table (unless_table file.now f) }
 {

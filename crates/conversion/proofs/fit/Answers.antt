@@ -6,8 +6,5 @@ use Rattle.conversion.specs.declared.Prepared.TheVariants.{Refused as Unprepared
 use borrow.Author.Rules.{rules}
 use Rattle.conversion.proofs.fit.Goals as goal
 
-pub returns-then-need-gt-LIMIT : goal.returns-then-need-gt-LIMIT
-returns-then-need-gt-LIMIT c = ap Unprepared c.refuse.ensures ∙ cases.too_large _ _ (omega arith)
-
 pub returns : goal.returns
 returns c = cases.fits _ _ (omega arith)

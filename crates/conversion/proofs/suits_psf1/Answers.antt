@@ -9,8 +9,5 @@ use Rattle.conversion.proofs.suits_psf1.Goals as goal
 pub returns-then-not-is_psf1_count : goal.returns-then-not-is_psf1_count
 returns-then-not-is_psf1_count c = ap Unsuited c.refuse.ensures ∙ cases.count_wrong c.args.f (sym c.is_psf1_count.ensures ∙ c.if-not-is_psf1_count.true)
 
-pub returns-then-f-ne8 : goal.returns-then-f-ne8
-returns-then-f-ne8 c = ap Unsuited c.refuse-then-f-ne8.ensures ∙ cases.width_other c.args.f (sym c.is_psf1_count.ensures ∙ c.if-not-is_psf1_count.false) c.if-f-ne8.true
-
 pub returns : goal.returns
 returns c = cases.width_eight c.args.f (sym c.is_psf1_count.ensures ∙ c.if-not-is_psf1_count.false) c.if-f-ne8.false

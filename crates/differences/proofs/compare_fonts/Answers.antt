@@ -14,10 +14,6 @@ use borrow.Author.Rules.{rules}
 use Rattle.differences.proofs.compare_fonts.Goals as goal
 use Rattle.differences.proofs.compare_fonts.Goals.{then-out-most+else-out-need+else-n-eq0, else-out-most}
 
-pub returns-then-out-need : goal.returns-then-out-need
-returns-then-out-need c = let e : c.count_pairs-n.result ≡ length (pairs_of c.args.a.now c.args.f c.args.b.now c.args.h) = c.count_pairs-n.ensures.0 in
-    record { answer = ap (Refused 0) c.refuse.ensures ∙ ap (λ (n : ℕ). Refused 0 (refusal Room (2 * n))) e ∙ no_room (length c.args.out.now) (length (pairs_of c.args.a.now c.args.f c.args.b.now c.args.h)) (omega (arith, e, c.if-out-need.true)); buffer = refl }
-
 pub returns-then-n-eq0 : goal.returns-then-n-eq0
 returns-then-n-eq0 c = let e : c.count_pairs-n.result ≡ length (pairs_of c.args.a.now c.args.f c.args.b.now c.args.h) = c.count_pairs-n.ensures.0 in
     record { answer = ap Pairs (sym c.if-n-eq0.true ∙ e) ∙ has_room (length c.args.out.now) (length (pairs_of c.args.a.now c.args.f c.args.b.now c.args.h)) (omega (arith, e, c.if-out-need.false)); buffer = none_over (pairs_of c.args.a.now c.args.f c.args.b.now c.args.h) c.args.out.now (sym e ∙ c.if-n-eq0.true) }

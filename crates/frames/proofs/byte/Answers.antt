@@ -10,11 +10,5 @@ use Rattle.frames.proofs.byte.Goals as goal
 pub returns-then-f-gt0 : goal.returns-then-f-gt0
 returns-then-f-gt0 c = sym (byte_bad c.args.f c.args.b c.if-f-gt0.true)
 
-pub returns-then-f-ge-LIMIT : goal.returns-then-f-ge-LIMIT
-returns-then-f-ge-LIMIT c = took_as c.args.f _ c.counted.ensures ∙ sym (byte_full c.args.f c.args.b c.if-f-gt0.false c.if-f-ge-LIMIT.true)
-
-pub returns-then-b-eq10 : goal.returns-then-b-eq10
-returns-then-b-eq10 c = c.end_line.ensures ∙ ap ended_of (took_as c.args.f _ c.counted.ensures) ∙ sym (byte_newline c.args.f c.args.b c.if-f-gt0.false c.if-f-ge-LIMIT.false c.if-b-eq10.true)
-
 pub returns : goal.returns
 returns c = c.with_char.ensures ∙ ap (λ (g : Frames). with_of g c.args.b) (took_as c.args.f _ c.counted.ensures) ∙ sym (byte_char c.args.f c.args.b c.if-f-gt0.false c.if-f-ge-LIMIT.false c.if-b-eq10.false)

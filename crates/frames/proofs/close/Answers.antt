@@ -8,8 +8,5 @@ use Rattle.frames.proofs.close.Goals as goal
 pub returns-then-f-gt0 : goal.returns-then-f-gt0
 returns-then-f-gt0 c = c.last.ensures ∙ sym (closed_bad c.args.f c.if-f-gt0.true)
 
-pub returns-then-f-gt-LIMIT : goal.returns-then-f-gt-LIMIT
-returns-then-f-gt-LIMIT c = sym (closed_full c.args.f c.if-f-gt0.false c.if-f-gt-LIMIT.true)
-
 pub returns : goal.returns
 returns c = c.last-2.ensures ∙ ap last_of c.end_line.ensures ∙ sym (closed_last c.args.f c.if-f-gt0.false c.if-f-gt-LIMIT.false)

@@ -7,9 +7,6 @@ use Rattle.frames.proofs.Held.{held_long, held_short}
 use borrow.Author.Rules.{rules}
 use Rattle.frames.proofs.held_frame.Goals as goal
 
-pub returns-then-len-gt128 : goal.returns-then-len-gt128
-returns-then-len-gt128 c = record { equal = c.bad.ensures ∙ sym (held_long _ _ c.if-len-gt128.true); bounded = bad_bounded _ c.bad.ensures }
-
 pub slice_bounds-read_line-end : goal.slice_bounds-read_line-end
 slice_bounds-read_line-end c = sym (length-take-le _ _ (omega arith))
 

@@ -9,8 +9,5 @@ use Rattle.stages.proofs.check_bare.Goals as goal
 pub returns-then-f : goal.returns-then-f
 returns-then-f c = cases.reached_table c.args.file.now c.args.f c.if-f.true
 
-pub returns-then-f-file : goal.returns-then-f-file
-returns-then-f-file c = ap ToRefused c.refuse.ensures ∙ cases.reached_trailing c.args.file.now c.args.f c.if-f.false c.if-f-file.true
-
 pub returns : goal.returns
 returns c = cases.reached_end c.args.file.now c.args.f c.if-f.false c.if-f-file.false

@@ -9,21 +9,14 @@ use Rattle.utf8.specs.declared.Read.TheVariants.{Value}
 use Rattle.utf8.specs.Reading.{permitted_at, read_value}
 use Rattle.utf8.proofs.First.{no_bytes, no_value, long_value}
 use Rattle.utf8.proofs.Permitted.{permitted_low}
-use Rattle.utf8.proofs.Ascii.{ascii_value}
+use Rattle.utf8.proofs.Ascii.{itself}
 use Rattle.utf8.proofs.Rows.{Fine, all_fine, longer}
 use borrow.Author.Rules.{rules}
 use Rattle.utf8.proofs.read_value.Goals as goal
 
 -- the value of a first byte below 80
-itself : (s : List ℕ) → 0 < length s → get_or s 0 0 < 0x80 → (v : ℕ) → v ≡ get_or s 0 0 → Value v 1 ≡ read_value s
-itself [] h k v e = absurd (omega arith)
-itself (b ∷ s) h k v e = rw e (sym (ascii_value b s k))
-
 pub returns-then-s-eq0 : goal.returns-then-s-eq0
 returns-then-s-eq0 c = no_bytes _ c.if-s-eq0.true
-
-pub returns-then-b-lt128 : goal.returns-then-b-lt128
-returns-then-b-lt128 c = itself c.args.s.now (omega arith) (omega (arith, c.if-b-lt128.true)) _ c.wide.ensures.0
 
 pub nonzero_rem-b : goal.nonzero_rem-b
 nonzero_rem-b c = let f : Fine c.lead_of-l.result = rw c.lead_of-l.ensures (all_fine _ (omega (arith, c.type_inv.s 0))) in omega arith
@@ -47,4 +40,4 @@ pub four-r-requires : goal.four-r-requires
 four-r-requires c = let f : Fine c.lead_of-l.result = rw c.lead_of-l.ensures (all_fine _ (omega (arith, c.type_inv.s 0))) in let w = c.wide-v.ensures.0 in (omega (arith, mod-lt (get_or c.args.s.now 0 0) f.some), omega arith)
 
 pub returns-in_default : goal.returns-in_default
-returns-in_default c = let h : get_or c.args.s.now 0 0 < 256 = omega (arith, c.type_inv.s 0) in let f : Fine c.lead_of-l.result = rw c.lead_of-l.ensures (all_fine _ h) in let o : c.lead_of-l.result.len ≡ 1 → ⊥ = rw c.lead_of-l.ensures (longer _ (omega (arith, c.if-b-lt128.false)) h) in let m = c.in_default.in_default-own.rest in let n : c.lead_of-l.result.len ≡ 4 = omega (arith, f.few, o, m.0.0.1, m.0.1, m.1) in c.permitted_at-in_default.ensures ∙ ap (permitted_at 3) c.four-r.ensures ∙ long_value _ (omega arith) _ c.lead_of-l.ensures 3 n _ c.wide-v.ensures.0
+returns-in_default c = let h : get_or c.args.s.now 0 0 < 256 = omega (arith, c.type_inv.s 0) in let f : Fine c.lead_of-l.result = rw c.lead_of-l.ensures (all_fine _ h) in let o : c.lead_of-l.result.len ≡ 1 → ⊥ = rw c.lead_of-l.ensures (longer _ (omega arith) h) in let m = c.in_default.in_default-own.rest in let n : c.lead_of-l.result.len ≡ 4 = omega (arith, f.few, o, m.0.0.1, m.0.1, m.1) in c.permitted_at-in_default.ensures ∙ ap (permitted_at 3) c.four-r.ensures ∙ long_value _ (omega arith) _ c.lead_of-l.ensures 3 n _ c.wide-v.ensures.0
