@@ -3,6 +3,8 @@
 // ROOM is never answered; for it nothing would be written.
 #![tactic(auto)]
 
+ghost use Rattle.std.specs.Prelude.{◌≤◌, length, IfOk};
+
 use listing::Listed;
 use std::io::{self, Read};
 
@@ -20,9 +22,25 @@ fn run(rt: &impl Print, file: &[u8], out: &mut [u8; 917600]) -> io::Result<()> {
     show(rt, file, out)
 }
 
+// Reads until buf is full or the input ends, and returns how many bytes it put at the start of buf. A read that a signal interrupts counts
+// as one that failed.
+fn read_full(reader: &mut impl Read, buf: &mut [u8]) -> io::Result<usize>
+    ensures { IfOk result (λ n. n ≤ length buf.new) }
+{
+    let mut done = 0;
+    while done < buf.len() {
+        let n = reader.read(&mut buf[done..])?;
+        if n == 0 {
+            break;
+        }
+        done += n;
+    }
+    Ok(done)
+}
+
 fn main(rt: HostRuntime) -> io::Result<()> {
-    let mut file = Vec::new(rt.alloc());
-    rt.stdin().take(65537).read_to_end(&mut file)?;
+    let mut file = [0u8; 65537];
+    let n = read_full(&mut rt.stdin(), &mut file)?;
     let mut out = [0u8; 917600];
-    run(&rt, &file, &mut out)
+    run(&rt, &file[..n], &mut out)
 }

@@ -3,7 +3,7 @@
 // (rust/vectors/src/script.rs lists the records). Nothing here is trusted: a script that is cut or wrong is read as zeros.
 #![tactic(auto)]
 
-ghost use Rattle.std.specs.Prelude.{◌≡◌, ◌<◌, ◌≤◌, length};
+ghost use Rattle.std.specs.Prelude.{◌≡◌, ◌<◌, ◌≤◌, length, IfOk};
 
 use bitmap::{GlyphMetrics, Part, Pixel};
 use convert::Converted;
@@ -133,9 +133,18 @@ fn upper(b: u8) -> u8 {
 }
 
 // A value: upper-case hexadecimal without leading zeros.
-fn value(rt: &(impl Print + AllocGlobal), v: u32) -> io::Result<()> {
-    let text = format!(in rt.alloc(); "{v:x}")?;
-    letters(rt, text.as_bytes())
+fn value(rt: &impl Print, v: u32) -> io::Result<()> {
+    let mut text = [0u8; 8];
+    let mut from = 7;
+    let mut rest = v;
+    for i in 0..8 {
+        text[7 - i] = digit((rest % 16) as u8);
+        if 0 < rest {
+            from = 7 - i;
+        }
+        rest /= 16;
+    }
+    letters(rt, &text[from..])
 }
 
 fn letters(rt: &impl Print, text: &[u8]) -> io::Result<()> {
@@ -327,7 +336,7 @@ fn ask_metrics(rt: &impl Print, file: &[u8], g: usize, a: &[u8]) -> io::Result<(
     }
 }
 
-fn item_text(rt: &(impl Print + AllocGlobal), i: Item) -> io::Result<()> {
+fn item_text(rt: &impl Print, i: Item) -> io::Result<()> {
     match i {
         Item::Single(v) => {
             say(rt, b"single ")?;
@@ -342,7 +351,7 @@ fn item_text(rt: &(impl Print + AllocGlobal), i: Item) -> io::Result<()> {
     }
 }
 
-fn ask_item(rt: &(impl Print + AllocGlobal), file: &[u8], g: usize, k: usize) -> io::Result<()> {
+fn ask_item(rt: &impl Print, file: &[u8], g: usize, k: usize) -> io::Result<()> {
     say(rt, b"item ")?;
     decimal(rt, g)?;
     say(rt, b" ")?;
@@ -365,7 +374,7 @@ fn looked_up(rt: &impl Print, l: Lookup) -> io::Result<()> {
     }
 }
 
-fn ask_value(rt: &(impl Print + AllocGlobal), file: &[u8], v: u32) -> io::Result<()> {
+fn ask_value(rt: &impl Print, file: &[u8], v: u32) -> io::Result<()> {
     say(rt, b"value ")?;
     value(rt, v)?;
     say(rt, b" ")?;
@@ -387,7 +396,7 @@ fn sequence_at(script: &[u8], at: usize) -> [u32; 255]
     out
 }
 
-fn sequence_text(rt: &(impl Print + AllocGlobal), vs: &[u32]) -> io::Result<()> {
+fn sequence_text(rt: &impl Print, vs: &[u32]) -> io::Result<()> {
     if vs.len() == 0 {
         say(rt, b"-")?;
     }
@@ -398,7 +407,7 @@ fn sequence_text(rt: &(impl Print + AllocGlobal), vs: &[u32]) -> io::Result<()> 
     Ok(())
 }
 
-fn ask_sequence(rt: &(impl Print + AllocGlobal), file: &[u8], vs: &[u32]) -> io::Result<()> {
+fn ask_sequence(rt: &impl Print, file: &[u8], vs: &[u32]) -> io::Result<()> {
     say(rt, b"sequence ")?;
     sequence_text(rt, vs)?;
     say(rt, b" ")?;
@@ -491,13 +500,7 @@ fn ask_loader(rt: &impl Print, op: u8, a: &[u8], file: &[u8]) -> io::Result<usiz
 }
 
 // The questions: each prints its line; the answer is the record's length.
-fn ask(
-    rt: &(impl Print + AllocGlobal),
-    script: &[u8],
-    at: usize,
-    op: u8,
-    file: &[u8],
-) -> io::Result<usize> {
+fn ask(rt: &impl Print, script: &[u8], at: usize, op: u8, file: &[u8]) -> io::Result<usize> {
     let a = part(script, at, 25);
     match op {
         0x10 => {
@@ -669,7 +672,7 @@ fn edit_name(rt: &impl Print, op: u8) -> io::Result<()> {
 
 // An edit of the font in the first `len` bytes of a buffer, with A5s from `old` on: its line; the answer is the font's new length, or `old`.
 fn ask_edit(
-    rt: &(impl Print + AllocGlobal),
+    rt: &impl Print,
     op: u8,
     buf: &mut [u8],
     len: usize,
@@ -706,7 +709,7 @@ fn ask_edit(
 
 // The records of edits: the current file in a buffer of so many bytes.
 fn change(
-    rt: &(impl Print + AllocGlobal),
+    rt: &impl Print,
     script: &[u8],
     op: u8,
     file: &mut [u8],
@@ -888,7 +891,7 @@ fn is_comparison(op: u8) -> bool {
 
 // One record, if one is left.
 fn step(
-    rt: &(impl Print + AllocGlobal),
+    rt: &impl Print,
     script: &[u8],
     file: &mut [u8],
     out: &mut [u8],
@@ -926,12 +929,7 @@ fn step(
 }
 
 // Each record is at least a byte long, so there are no more records than bytes.
-fn play(
-    rt: &(impl Print + AllocGlobal),
-    script: &[u8],
-    file: &mut [u8],
-    out: &mut [u8],
-) -> io::Result<()> {
+fn play(rt: &impl Print, script: &[u8], file: &mut [u8], out: &mut [u8]) -> io::Result<()> {
     let mut c = Cursor {
         at: 0,
         len: 0,
@@ -945,7 +943,7 @@ fn play(
 
 // The script on a file and a buffer that have room a little over the limit.
 fn run(
-    rt: &(impl Print + AllocGlobal),
+    rt: &impl Print,
     script: &[u8],
     file: &mut [u8; 1048640],
     out: &mut [u8; 1048640],
@@ -953,10 +951,26 @@ fn run(
     play(rt, script, file, out)
 }
 
+// Reads until buf is full or the input ends, and returns how many bytes it put at the start of buf. A read that a signal interrupts counts
+// as one that failed.
+fn read_full(reader: &mut impl Read, buf: &mut [u8]) -> io::Result<usize>
+    ensures { IfOk result (λ n. n ≤ length buf.new) }
+{
+    let mut done = 0;
+    while done < buf.len() {
+        let n = reader.read(&mut buf[done..])?;
+        if n == 0 {
+            break;
+        }
+        done += n;
+    }
+    Ok(done)
+}
+
 fn main(rt: HostRuntime) -> io::Result<()> {
-    let mut script = Vec::new(rt.alloc());
-    rt.stdin().take(294912).read_to_end(&mut script)?;
+    let mut script = [0u8; 294912];
+    let n = read_full(&mut rt.stdin(), &mut script)?;
     let mut file = [0u8; 1048640];
     let mut out = [0u8; 1048640];
-    run(&rt, &script, &mut file, &mut out)
+    run(&rt, &script[..n], &mut file, &mut out)
 }
