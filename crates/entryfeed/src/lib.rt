@@ -39,6 +39,7 @@ pub fn no_sums() -> Sums
 
 // The sums with k entries more, which stand in s from `start` on; the first byte of s stands at `at` in the file. Asks that they stand in s
 // and that s lies within the file limit: each caller has counted.
+#[tactic(auto, using(crate::proofs::Feeding::already))]
 fn more_sums(size: usize, at: usize, x: Sums, s: &[u8], start: usize, k: usize) -> Sums
     requires { (start + k * 18 ≤ length s.now) × (at + length s.now ≤ 1048576) }
     ensures { result ≡ sums_of size (at + start) x (drop start s.now) k }

@@ -90,6 +90,7 @@ pub fn glyph_bytes(height: usize, width: usize) -> usize
 
 // The fields that PSF2 and vfont2 have at the same places: refusals 3 to 6; and their bounds, for the sums that follow. Asks for the
 // kind's header length.
+#[tactic(auto, using(crate::proofs::Cases::head_high))]
 pub fn head_of(file: &[u8], fixed: usize) -> Head
     requires { fixed ≡ header_len psf2 }
     ensures equal { result ≡ head_of file.now }

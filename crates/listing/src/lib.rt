@@ -120,6 +120,7 @@ fn list_font(file: &[u8], f: Font, out: &mut [u8]) -> Listed
 }
 
 // The listing of a file, whatever it holds, to the front of a buffer. Refusal: ROOM, place the bytes needed; 917,600 always suffice.
+#[tactic(auto, using(crate::proofs::Answers::listing_big, crate::proofs::Answers::same_text))]
 pub fn list(file: &[u8], out: &mut [u8]) -> Listed
     ensures equal { (result ≡ listed_of (listing_of file.now) (length out.old)) × (out.new ≡ left_of (listing_of file.now) out.old) }
     ensures bounded { length (listing_of file.now) ≤ 917600 }

@@ -109,6 +109,7 @@ fn sequence_at(c: Coding, tail: &[u8], start: usize, vs: &[u32]) -> bool
 
 // Whether what is asked for begins with the value w, where a walk stands: the first of vs as a single, or the sequence vs. Asks for some value, and
 // for a cursor within the table.
+#[tactic(auto, using(crate::proofs::Looking::begins_single))]
 fn begins(sequence: bool, vs: &[u32], c: Coding, tail: &[u8], p: Cursor, w: u32) -> bool
     requires { (1 ≤ length vs.now) × Stands tail.now p }
     ensures { result ≡ begins_at sequence vs.now (phase_of p.start p.at) w (steps_at c tail.now p.at) }

@@ -18,6 +18,7 @@ pub enum Mapping {
 }
 
 // Where description g starts.
+#[tactic(auto, using(crate::proofs::Walking::here))]
 fn description_start(c: Coding, tail: &[u8], g: usize) -> usize
     ensures { (result ≡ description_at c g tail.now) × (result ≤ length tail.now) }
 {

@@ -49,6 +49,7 @@ impl Psf1 {
     }
 
     // What the header of a PSF1 file says: refusals 3, 4 and 7.
+    #[tactic(auto, using(header::proofs::Cases::psf1_mode))]
     pub fn says(file: &[u8]) -> Checked
         ensures { result ≡ psf1_says file.now }
     {

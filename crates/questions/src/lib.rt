@@ -95,6 +95,7 @@ pub fn value_on(file: &[u8], f: Font, v: u32) -> Lookup
 }
 
 // Whether some value is above 10FFFF.
+#[tactic(auto, using(crate::proofs::Answers::high_here))]
 fn any_high(vs: &[u32]) -> bool
     ensures { result ≡ any_high vs.now }
 {
@@ -109,6 +110,7 @@ fn any_high(vs: &[u32]) -> bool
 }
 
 // Whether a sequence may be asked.
+#[tactic(auto, using(crate::proofs::Answers::ask_empty))]
 fn may_ask(vs: &[u32]) -> bool
     ensures { result ≡ askable vs.now }
 {

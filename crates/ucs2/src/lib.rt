@@ -21,6 +21,7 @@ pub fn is_word(v: u32) -> bool
 
 // The token at the front of some bytes: a value of two bytes, or a mark, FFFE that starts a sequence, FFFF that ends a
 // description; Cut where fewer than two bytes are left; a noncharacter is Bad at its second byte, since its first begins other values.
+#[tactic(auto, using(crate::proofs::Pairs::as_end, crate::proofs::Words::word_mark, crate::proofs::Pairs::as_bad, crate::proofs::Words::word_among))]
 pub fn read_ucs2(s: &[u8]) -> Token
     ensures { result ≡ read_ucs2 s.now }
 {

@@ -29,6 +29,7 @@ impl Vfont2 {
     }
 
     // The font that these fields describe: refusal 7. Asks for small numbers: `header::head_of` has bounded them.
+    #[tactic(auto, using(header::proofs::Cases::broad))]
     fn shaped(f: Fields) -> Checked
         requires { (f.header ≤ 4096) × (f.count ≤ 4096) × (f.size < 4294967296) }
         ensures { result ≡ vfont2_shaped f }

@@ -8,10 +8,6 @@ use Rattle.base.specs.Reading.{starts_with}
 use Rattle.base.proofs.Begins.{begins_short, begins_whole, begins_other, begins_next}
 use Rattle.base.proofs.starts_with.Goals as goal
 
--- src/lib.rt:44:9
-pub returns-then-s-m : goal.returns-then-s-m
-returns-then-s-m c = begins_short c.args.s.now c.args.m.now c.if-s-m.true
-
 -- src/lib.rt:49:13
 pub returns-then-s-i : goal.returns-then-s-i
 returns-then-s-i c = begins_other c.args.s.now c.args.m.now c.loop-i.i (omega arith) (omega arith) c.if-s-i.true ∙ c.loop-i.invariant.1

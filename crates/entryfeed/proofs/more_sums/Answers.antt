@@ -7,9 +7,6 @@ use Rattle.entries.proofs.Meaning.{scan_broken}
 use Rattle.entryfeed.proofs.Feeding.{already, found, taller}
 use Rattle.entryfeed.proofs.more_sums.Goals as goal
 
-pub returns-then-x-ne0 : goal.returns-then-x-ne0
-returns-then-x-ne0 c = already _ _ _ c.args.s.now _ _ c.if-x-ne0.true
-
 pub overflow_mul-result : goal.overflow_mul-result
 overflow_mul-result c = let i = (scan_broken _ _ _ _ _ (sym c.scan_entries-r.ensures ∙ c.in-BrokenAt.is)).within in omega arith
 

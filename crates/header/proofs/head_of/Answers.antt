@@ -18,9 +18,6 @@ returns-then-flags-gt1 c = record { equal = ap NoHead c.refuse-then-flags-gt1.en
 pub returns-then-header-fixed : goal.returns-then-header-fixed
 returns-then-header-fixed c = record { equal = ap NoHead c.refuse-then-header-fixed.ensures ∙ cases.head_low c.args.file.now (omega arith); bounded = tt }
 
-pub returns-then-header-gt4096 : goal.returns-then-header-gt4096
-returns-then-header-gt4096 c = record { equal = ap NoHead c.refuse-then-header-gt4096.ensures ∙ cases.head_high c.args.file.now (omega arith); bounded = tt }
-
 pub returns-then-count-eq0 : goal.returns-then-count-eq0
 returns-then-count-eq0 c = record { equal = ap NoHead c.refuse-then-count-eq0.ensures ∙ cases.head_none c.args.file.now (omega arith); bounded = tt }
 

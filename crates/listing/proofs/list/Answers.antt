@@ -6,9 +6,6 @@ use Rattle.listing.proofs.Answers.{same_text, listing_big, listing_answer}
 use borrow.Author.Rules.{rules}
 use Rattle.listing.proofs.list.Goals as goal
 
-pub returns-then-file-gt65536 : goal.returns-then-file-gt65536
-returns-then-file-gt65536 c = let e = listing_big c.args.file.now c.if-file-gt65536.true in record { equal = same_text _ _ _ _ _ e c.list_text.ensures; bounded = omega (arith, ap length e) }
-
 pub list_font-requires : goal.list_font-requires
 list_font-requires c = (rw c.in-Sound.is at c.check-a.ensures.bounded, omega arith)
 

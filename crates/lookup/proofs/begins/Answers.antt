@@ -12,8 +12,5 @@ returns-then-p c = rw c.if-sequence.true (begins_sequence c.args.vs.now c.args.p
 pub returns-then-sequence : goal.returns-then-sequence
 returns-then-sequence c = rw c.if-sequence.true (begins_later c.args.vs.now c.args.p.start c.args.p.at c.args.w (steps_at c.args.c c.args.tail.now c.args.p.at) c.if-p.false)
 
-pub returns-then-p-eq-NO_START : goal.returns-then-p-eq-NO_START
-returns-then-p-eq-NO_START c = rw c.if-sequence.false (begins_single c.args.vs.now c.args.p.start c.args.p.at c.args.w (steps_at c.args.c c.args.tail.now c.args.p.at) _ refl c.if-p-eq-NO_START.true)
-
 pub returns : goal.returns
 returns c = rw c.if-sequence.false (begins_inside c.args.vs.now c.args.p.start c.args.p.at c.args.w (steps_at c.args.c c.args.tail.now c.args.p.at) c.if-p-eq-NO_START.false)

@@ -12,9 +12,6 @@ use Rattle.mapping.proofs.description_start.Goals as goal
 pub loop-at-init : goal.loop-at-init
 loop-at-init c = (omega arith, from_front c.args.c c.args.tail.now c.args.g)
 
-pub returns-then-left-eq0 : goal.returns-then-left-eq0
-returns-then-left-eq0 c = (here _ _ _ c.if-left-eq0.true ∙ c.loop-at.invariant.1, c.loop-at.invariant.0)
-
 pub loop-at-smaller-in-Value : goal.loop-at-smaller-in-Value
 loop-at-smaller-in-Value c = let w = rw c.in-Value.is at c.step_at-t.ensures.1 in
     omega (arith, w.0, w.1)

@@ -8,9 +8,6 @@ use borrow.Author.Rules.{rules}
 use native.Mathlib.Omega.{arith}
 use Rattle.questions.proofs.any_high.Goals as goal
 
-pub returns-then-vs-i-gt1114111 : goal.returns-then-vs-i-gt1114111
-returns-then-vs-i-gt1114111 c = sym (high_here c.args.vs.now c.loop-i.i (omega arith) c.if-vs-i-gt1114111.true) ∙ c.loop-i.invariant.1
-
 pub loop-i-preserved : goal.loop-i-preserved
 loop-i-preserved c = (omega arith, sym (high_later c.args.vs.now c.loop-i.i (omega arith) c.if-vs-i-gt1114111.false) ∙ c.loop-i.invariant.1)
 

@@ -3,8 +3,5 @@ use Rattle.questions.proofs.Answers.{ask_empty, ask_some}
 use borrow.Author.Rules.{rules}
 use Rattle.questions.proofs.may_ask.Goals as goal
 
-pub returns-then-vs-eq0 : goal.returns-then-vs-eq0
-returns-then-vs-eq0 c = ask_empty c.args.vs.now c.if-vs-eq0.true
-
 pub returns : goal.returns
 returns c = ask_some c.args.vs.now c.if-vs-eq0.false _ c.any_high.ensures

@@ -11,14 +11,8 @@ returns-then-s-lt2 c = short _ c.if-s-lt2.true
 pub returns-then-v-lt64976 : goal.returns-then-v-lt64976
 returns-then-v-lt64976 c = as_value _ (omega arith) _ c.get16-v.ensures.0 (word_under _ (omega arith))
 
-pub returns-then-v-eq65535 : goal.returns-then-v-eq65535
-returns-then-v-eq65535 c = as_end _ (omega arith) _ c.get16-v.ensures.0 (word_mark _ (omega arith) (omega arith)) (omega arith) (omega arith)
-
 pub returns-then-v-eq65534 : goal.returns-then-v-eq65534
 returns-then-v-eq65534 c = as_start _ (omega arith) _ c.get16-v.ensures.0 (word_mark _ (omega arith) (omega arith)) (omega arith) (omega arith)
-
-pub returns-then-v-lt65008 : goal.returns-then-v-lt65008
-returns-then-v-lt65008 c = as_bad _ (omega arith) _ c.get16-v.ensures.0 (word_among _ (omega arith) (omega arith)) (omega arith)
 
 pub returns : goal.returns
 returns c = as_value _ (omega arith) _ c.get16-v.ensures.0 (word_above _ (omega arith) (omega (arith, c.get16-v.ensures.1)))

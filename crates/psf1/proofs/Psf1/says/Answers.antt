@@ -11,9 +11,6 @@ use Rattle.psf1.proofs.Psf1.says.Goals as goal
 pub returns-then-len-lt-HEADER_LEN : goal.returns-then-len-lt-HEADER_LEN
 returns-then-len-lt-HEADER_LEN c = ap Refused c.refuse.ensures ∙ cases.psf1_cut c.args.file.now (omega arith)
 
-pub returns-then-mode-gt5 : goal.returns-then-mode-gt5
-returns-then-mode-gt5 c = ap Refused c.refuse-then-mode-gt5.ensures ∙ cases.psf1_mode c.args.file.now (omega arith)
-
 pub returns-then-size-eq0 : goal.returns-then-size-eq0
 returns-then-size-eq0 c = ap Refused c.refuse-then-size-eq0.ensures ∙ cases.psf1_shape c.args.file.now (omega arith)
 

@@ -9,8 +9,5 @@ use Rattle.vfont2.proofs.Vfont2.shaped.Goals as goal
 pub returns-then-f-gt255 : goal.returns-then-f-gt255
 returns-then-f-gt255 c = ap Refused c.refuse.ensures ∙ cases.tall c.args.f (omega arith)
 
-pub returns-then-f-gt255-2 : goal.returns-then-f-gt255-2
-returns-then-f-gt255-2 c = ap Refused c.refuse-then-f-gt255-2.ensures ∙ cases.broad c.args.f (omega arith)
-
 pub returns : goal.returns
 returns c = cases.vfont2_read c.args.f _ c.first_bitmap-bitmaps.ensures (omega arith)
