@@ -1,5 +1,5 @@
 -- A lookup in one pass: going over what plainly stands in a table changes nothing of what is found, and a value with the key is looked at closer.
-use mathlib.Core.Path.{◌≡◌, refl, sym, ◌∙◌, ap, subst}
+use mathlib.Core.Path.{◌≡◌, refl, sym, ◌∙◌, ap}
 use mathlib.Core.Bool.{Bool, true, false}
 use mathlib.Core.Logic.{◌⊎◌, inl, inr}
 use mathlib.Core.List.{List, [], ◌∷◌}
@@ -15,11 +15,9 @@ use Rattle.coding.specs.declared.Coding.{Coding}
 use Rattle.coding.specs.Reading.{key_of}
 use Rattle.table.specs.declared.Step.{Step}
 use Rattle.table.specs.declared.Step.TheVariants.{Value as StepValue, Start as StepStart, End as StepEnd, Cut as StepCut, Bad as StepBad}
-use Rattle.table.specs.declared.TableAnswer.{TableAnswer}
-use Rattle.table.specs.declared.TableAnswer.TheVariants.{Complete, Cut as TableCut, Bad as TableBad, Trailing}
 use Rattle.table.specs.Reading.{steps_from, steps_at, value_item, step_items}
-use Rattle.table.specs.Skipping.{Phase, singles, opened, filled, is_opened, is_inside, after_value, Front, front, skip_from, no_start, phase_of, ended_of, NoValue, refused_of}
-use Rattle.table.proofs.Skipping.{phase_none, phase_here, ended_trailing, ended_complete}
+use Rattle.table.specs.Skipping.{Phase, singles, opened, filled, after_value, Front, front, skip_from, no_start, phase_of, ended_of, NoValue, refused_of}
+use Rattle.table.proofs.Skipping.{phase_none, phase_here, ended_trailing}
 use Rattle.lookup.specs.declared.Found.{Found}
 use Rattle.lookup.specs.declared.Found.TheVariants.{At, Nothing}
 use Rattle.lookup.specs.Reading.{find_value, goes_on, is_whole, rest, find_sequence_from, find_from, sequence_in, begins_at, looked_of}

@@ -18,7 +18,7 @@ use Rattle.table.specs.contracts.Step.{the_type}
 use Rattle.table.specs.declared.Cursor.{Cursor}
 use Rattle.table.specs.declared.TableAnswer.{TableAnswer}
 use Rattle.table.specs.Reading.{step_at, steps_at, items_in, check_steps, table_of}
-use Rattle.table.specs.Skipping.{Phase, singles, is_opened, after_value, Front, front, skipped, no_start, phase_of, cursor_of, front_at, Stands, ended_of, NoValue, refused_of, check_at}
+use Rattle.table.specs.Skipping.{Phase, singles, is_opened, after_value, front, skipped, no_start, phase_of, cursor_of, front_at, Stands, ended_of, NoValue, refused_of, check_at}
 use Rattle.table.proofs.Skipping.{HaltedAt, phase_none, phase_value, next_phase}
 use Rattle.table.proofs.Halting.{ended_there, refused_there, left_after, halted_after, check_after, fresh_check}
 use Rattle.lookup.specs.declared.Found.{Found}

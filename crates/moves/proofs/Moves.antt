@@ -7,7 +7,7 @@ use native.Mathlib.Numerals.{add-one}
 use native.Mathlib.Omega.{arith}
 use borrow.Rule.Slice.PartMut.{mid_of, put_mid}
 use lib.ListN.{length, take, drop, set, get_or, replicate, length-append, length-replicate, replicate-append-replicate, take-append-drop, get_or-append}
-use lib.Seq.{set-get_or, take-suc, drop-cons, set_at, take_at, drop_at, drop-drop, take-take, get_or-take, get_or-drop, length-take-le, take-append-le, drop-append-le, slice, slice-cons, slice_empty, length-slice}
+use lib.Seq.{take-suc, drop-cons, set_at, take_at, drop_at, drop-drop, take-take, get_or-take, get_or-drop, length-take-le, take-append-le, drop-append-le, slice, slice-cons, slice_empty, length-slice}
 use Rattle.base.specs.Reading.{over}
 use Rattle.base.proofs.Over.{length_over, behind}
 use Rattle.moves.specs.Reading.{laid, inserted, removed}

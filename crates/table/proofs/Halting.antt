@@ -1,14 +1,12 @@
 -- Where going over a table came to an end, and no value was asked for: the answer there is that of the check.
 use mathlib.Core.Path.{◌≡◌, refl, sym, ◌∙◌, ap, subst}
-use mathlib.Core.Bool.{Bool, true, false}
+use mathlib.Core.Bool.{Bool}
 use mathlib.Core.Logic.{◌⊎◌, inl, inr}
-use mathlib.Core.List.{List, [], ◌∷◌}
-use Prim.Native.Nat.{ℕ, zero, suc, ◌-◌, ◌≤◌, ◌<◌}
+use mathlib.Core.List.{List, ◌∷◌}
+use Prim.Native.Nat.{ℕ, suc, ◌-◌, ◌≤◌, ◌<◌}
 use native.Mathlib.Omega.{arith}
 use lib.ListN.{length, drop_of_length-le}
-use lib.Dec.{eqb}
 use borrow.Author.Tests.{eq-eqb, ne_eqb}
-use Rattle.base.specs.Meaning.{pick}
 use Rattle.base.proofs.Tests.{below, same, nonzero}
 use Rattle.coding.specs.declared.Coding.{Coding}
 use Rattle.coding.specs.Reading.{no_key}
@@ -16,10 +14,9 @@ use Rattle.coding.proofs.Codings.{no_key_lem}
 use Rattle.table.specs.declared.Step.{Step}
 use Rattle.table.specs.declared.Step.TheVariants.{Value as StepValue, Start as StepStart, End as StepEnd, Cut as StepCut, Bad as StepBad}
 use Rattle.table.specs.declared.Cursor.{Cursor}
-use Rattle.table.specs.declared.TableAnswer.{TableAnswer}
-use Rattle.table.specs.declared.TableAnswer.TheVariants.{Complete, Cut as TableCut, Bad as TableBad, Trailing}
+use Rattle.table.specs.declared.TableAnswer.TheVariants.{Cut as TableCut}
 use Rattle.table.specs.Reading.{step_at, steps_from, steps_at, check_steps, table_of}
-use Rattle.table.specs.Skipping.{Phase, is_opened, Front, front, skip_from, skipped, no_start, phase_of, cursor_of, front_at, Stands, ended_of, NoValue, refused_of, answer_at, check_front, check_at}
+use Rattle.table.specs.Skipping.{Phase, is_opened, Front, front, skipped, no_start, phase_of, cursor_of, front_at, Stands, ended_of, NoValue, refused_of, answer_at, check_front, check_at}
 use Rattle.table.proofs.Stepping.{step_says, says_first, past_end}
 use Rattle.table.proofs.Skipping.{check_skip, skip_left, skip_halts, Halted, HaltedAt, ended_trailing, ended_complete, phase_none}
 

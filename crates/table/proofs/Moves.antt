@@ -1,7 +1,6 @@
 -- How an item leads from one phase of a description to another: what the check, the telling of items and the grammar make of
 -- it. Every induction over a table goes by these moves.
 use mathlib.Core.Path.{◌≡◌, refl}
-use mathlib.Core.Bool.{Bool, true, false}
 use mathlib.Core.List.{List, [], ◌∷◌}
 use Prim.Native.Nat.{ℕ, zero, suc, ◌+◌}
 use native.Mathlib.Omega.{arith}

@@ -1,11 +1,10 @@
 -- Going over what plainly stands in a table: what a turn does, what is found where it ends, and that the check goes on from there.
-use mathlib.Core.Path.{◌≡◌, refl, sym, ◌∙◌, ap, subst}
+use mathlib.Core.Path.{◌≡◌, refl, sym, ◌∙◌, ap}
 use mathlib.Core.Bool.{Bool, true, false}
 use mathlib.Core.Logic.{◌⊎◌, inl, inr}
 use mathlib.Core.List.{List, [], ◌∷◌}
-use Prim.Native.Nat.{ℕ, zero, suc, ◌+◌, ◌-◌, ◌≤◌, ◌<◌}
+use Prim.Native.Nat.{ℕ, zero, suc, ◌-◌, ◌≤◌, ◌<◌}
 use native.Mathlib.Omega.{arith}
-use lib.ListN.{length}
 use lib.Dec.{eqb}
 use borrow.Author.Tests.{eq-eqb, ne_eqb, eqb-true, lt-ltb, le-ltb}
 use Rattle.base.specs.Meaning.{pick}
@@ -14,7 +13,6 @@ use Rattle.coding.specs.declared.Coding.{Coding}
 use Rattle.coding.specs.Reading.{key_of}
 use Rattle.table.specs.declared.Step.{Step}
 use Rattle.table.specs.declared.Step.TheVariants.{Value as StepValue, Start as StepStart, End as StepEnd, Cut as StepCut, Bad as StepBad}
-use Rattle.table.specs.declared.Plain.{Plain}
 use Rattle.table.specs.declared.Plain.TheVariants.{Value as PlainValue, Start as PlainStart, End as PlainEnd, Other}
 use Rattle.table.specs.declared.TableAnswer.TheVariants.{Complete, Trailing}
 use Rattle.table.specs.Reading.{check_steps}

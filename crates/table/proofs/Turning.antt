@@ -1,18 +1,17 @@
 -- A turn of going over a table, one law for each way that it can go, at a cursor in a list of bytes.
 use mathlib.Core.Path.{◌≡◌, refl, sym, ◌∙◌, ap, subst}
 use mathlib.Core.Logic.{◌⊎◌, inl, inr}
-use mathlib.Core.List.{List, [], ◌∷◌}
+use mathlib.Core.List.{List, ◌∷◌}
 use Prim.Native.Nat.{ℕ, suc, ◌-◌, ◌*◌, ◌≤◌, ◌<◌}
 use native.Mathlib.Omega.{arith}
 use lib.ListN.{length, drop_of_length-le}
 use Rattle.coding.specs.declared.Coding.{Coding}
-use Rattle.table.specs.declared.Step.{Step}
 use Rattle.table.specs.declared.Step.TheVariants.{Value as StepValue, Start as StepStart, End as StepEnd}
 use Rattle.table.specs.declared.Cursor.{Cursor}
 use Rattle.table.specs.declared.Plain.TheVariants.{Value as PlainValue, Start as PlainStart, End as PlainEnd, Other}
 use Rattle.table.specs.Reading.{step_at, steps_from, steps_at}
 use Rattle.table.specs.Bounds.{StepSays}
-use Rattle.table.specs.Skipping.{Phase, singles, opened, after_value, plain_of, Front, front, skip_from, no_start, phase_of, cursor_of, front_at, Stands}
+use Rattle.table.specs.Skipping.{Phase, plain_of, Front, front, skip_from, no_start, phase_of, cursor_of, front_at, Stands}
 use Rattle.table.proofs.Stepping.{says_first}
 use Rattle.table.proofs.Skipping.{ValueAt, plain_value, plain_start, plain_end, skip_other, skip_value, skip_start, halt_start, skip_end, skip_last, halt_end, skip_past, phase_none, phase_here, phase_opened, phase_other, phase_value}
 

@@ -5,15 +5,13 @@ use mathlib.Core.List.{List}
 use mathlib.Core.Logic.{◌⊎◌, inl, inr}
 use Prim.Native.Nat.{ℕ, ◌+◌, ◌-◌, ◌*◌, ◌%◌, ◌≤◌, ◌<◌}
 use native.Mathlib.Omega.{arith}
-use lib.Dec.{eqb}
 use lib.ListN.{length, get_or}
-use borrow.Author.Tests.{lt-ltb, le-ltb, le-leb, lt-leb, eq-eqb, eqb-true, eqb-false, ne_eqb}
+use borrow.Author.Tests.{lt-ltb, le-ltb, le-leb, lt-leb, eq-eqb, ne_eqb}
 use Rattle.base.specs.Meaning.{pick}
 use Rattle.base.proofs.Tests.{below}
 use Rattle.token.specs.Reading.{is_noncharacter}
 use Rattle.token.proofs.Noncharacters.{under, among, in_plane}
-use Rattle.utf8.specs.declared.Read.{Read}
-use Rattle.utf8.specs.declared.Read.TheVariants.{Value, Cut, Bad}
+use Rattle.utf8.specs.declared.Read.TheVariants.{Value, Bad}
 use Rattle.utf8.specs.Reading.{lead_row, permitted_at, read_value, utf8_key, plain_len}
 use Rattle.utf8.proofs.Rows.{row_y}
 use Rattle.utf8.proofs.First.{no_value}

@@ -1,9 +1,9 @@
 -- `base::copy` meets its contract: at each turn the bytes copied so far stand in front. Assumes room.
 use native.Mathlib.Omega.{arith}
 use mathlib.Core.Path.{◌≡◌, refl, ◌∙◌, ap}
-use Prim.Native.Nat.{ℕ, ◌≤◌, ◌-◌}
+use Prim.Native.Nat.{ℕ}
 use mathlib.Core.List.{List}
-use lib.ListN.{length, take, length-set}
+use lib.ListN.{take, length-set}
 use lib.Seq.{take_all}
 use Rattle.base.specs.Reading.{over}
 use Rattle.base.proofs.Over.{over_take}

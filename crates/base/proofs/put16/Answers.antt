@@ -2,7 +2,6 @@
 use native.Mathlib.Omega.{arith}
 use Rattle.base.specs.Reading.{bytes16}
 use Rattle.base.proofs.Over.{stores}
-use borrow.Author.Rules.{rules}
 use Rattle.base.proofs.put16.Goals as goal
 
 pub returns : goal.returns

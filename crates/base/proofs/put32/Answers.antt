@@ -3,7 +3,6 @@ use native.Mathlib.Omega.{arith}
 use lib.ListN.{length-set}
 use Rattle.base.specs.Reading.{bytes32}
 use Rattle.base.proofs.Over.{stores}
-use borrow.Author.Rules.{rules}
 use Rattle.base.proofs.put32.Goals as goal
 
 pub bounds-out-1 : goal.bounds-out-1

@@ -1,11 +1,7 @@
 -- `base::starts_with` meets its contract: the bytes passed agree. Assumes nothing.
-use borrow.Author.Rules.{rules}
 use native.Mathlib.Omega.{arith}
-use mathlib.Core.Path.{◌≡◌, ◌∙◌}
-use Prim.Native.Nat.{◌-◌, ◌≤◌}
-use lib.ListN.{length, drop}
-use Rattle.base.specs.Reading.{starts_with}
-use Rattle.base.proofs.Begins.{begins_short, begins_whole, begins_other, begins_next}
+use mathlib.Core.Path.{◌∙◌}
+use Rattle.base.proofs.Begins.{begins_whole, begins_other, begins_next}
 use Rattle.base.proofs.starts_with.Goals as goal
 
 -- src/lib.rt:49:13

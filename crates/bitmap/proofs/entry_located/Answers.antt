@@ -1,7 +1,6 @@
 -- `bitmap::entry_located` meets its contract: what the entry says. Assumes that it stands in the file.
 use mathlib.Core.Path.{sym, ◌∙◌, ap}
 use Rattle.bitmap.specs.declared.Located.TheVariants.{Refused as NotLocated}
-use borrow.Author.Rules.{rules}
 use Rattle.bitmap.proofs.entry_located.Goals as goal
 
 pub returns-in-Empty : goal.returns-in-Empty

@@ -1,6 +1,5 @@
 -- `bitmap::glyph_part` meets its contract: where the bitmap was found. Assumes nothing.
 use mathlib.Core.Path.{sym, ◌∙◌}
-use borrow.Author.Rules.{rules}
 use Rattle.bitmap.proofs.glyph_part.Goals as goal
 
 pub returns-in-Found : goal.returns-in-Found

@@ -2,7 +2,6 @@
 use mathlib.Core.Path.{sym, ◌∙◌, ap}
 use Rattle.bitmap.specs.Meaning.{kind_metrics}
 use Rattle.bitmap.proofs.Places.{entry_inside}
-use borrow.Author.Rules.{rules}
 use Rattle.bitmap.proofs.kind_metrics.Goals as goal
 
 pub metrics_at-requires : goal.metrics_at-requires

@@ -5,7 +5,6 @@ use Rattle.bitmap.specs.declared.Located.TheVariants.{Found, Refused as NotLocat
 use Rattle.header.specs.declared.Kind.TheVariants.{Psf1, Psf2, Vfont2}
 use Rattle.bitmap.specs.Bounds.{LocatedInside}
 use Rattle.bitmap.proofs.Places.{known, located_inside, even_start, entry_inside, too_high}
-use borrow.Author.Rules.{rules}
 use Rattle.bitmap.proofs.locate.Goals as goal
 
 pub even_bitmap-requires : goal.even_bitmap-requires

@@ -3,7 +3,6 @@ use mathlib.Core.Path.{sym, ◌∙◌, ap}
 use Rattle.bitmap.specs.declared.GlyphMetrics.TheVariants.{Is}
 use Rattle.bitmap.specs.Reading.{metrics_of}
 use Rattle.bitmap.proofs.Places.{found_below}
-use borrow.Author.Rules.{rules}
 use Rattle.bitmap.proofs.metrics.Goals as goal
 
 pub kind_metrics-requires : goal.kind_metrics-requires

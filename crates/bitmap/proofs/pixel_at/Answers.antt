@@ -1,6 +1,5 @@
 -- `bitmap::pixel_at` meets its contract: where the bitmap was found, its pixel. Assumes nothing.
 use mathlib.Core.Path.{sym, ◌∙◌}
-use borrow.Author.Rules.{rules}
 use Rattle.bitmap.proofs.pixel_at.Goals as goal
 
 pub pixel_of-requires : goal.pixel_of-requires

@@ -3,7 +3,6 @@ use native.Mathlib.Omega.{arith}
 use mathlib.Core.Path.{◌∙◌, ap}
 use Rattle.bitmap.specs.declared.Pixel.TheVariants.{Refused as NoPixel}
 use Rattle.bitmap.proofs.Places.{row_fits, pixel_inside, pixel_read, pixel_beside, pixel_below}
-use borrow.Author.Rules.{rules}
 use Rattle.bitmap.proofs.pixel_of.Goals as goal
 
 pub overflow_mul-at : goal.overflow_mul-at

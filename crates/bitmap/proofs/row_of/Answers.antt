@@ -3,7 +3,6 @@ use native.Mathlib.Omega.{arith}
 use mathlib.Core.Path.{◌∙◌, ap}
 use Rattle.bitmap.specs.declared.Part.TheVariants.{Refused as NoPart}
 use Rattle.bitmap.proofs.Places.{row_fits, row_read, row_below}
-use borrow.Author.Rules.{rules}
 use Rattle.bitmap.proofs.row_of.Goals as goal
 
 pub overflow_mul-result : goal.overflow_mul-result

@@ -1,6 +1,5 @@
 -- `bitmap::row_part` meets its contract: where the bitmap was found, its row. Assumes nothing.
 use mathlib.Core.Path.{sym, ◌∙◌}
-use borrow.Author.Rules.{rules}
 use Rattle.bitmap.proofs.row_part.Goals as goal
 
 pub row_of-requires : goal.row_of-requires

@@ -1,7 +1,6 @@
 -- `coding::carries` meets its contract: each coding's test. Assumes nothing.
 use Rattle.coding.proofs.Written.{utf8_carries, ucs2_carries}
 use mathlib.Core.Path.{◌∙◌}
-use borrow.Author.Rules.{rules}
 use Rattle.coding.proofs.carries.Goals as goal
 
 pub returns-in-Utf8 : goal.returns-in-Utf8

@@ -1,7 +1,6 @@
 -- `coding::key_of` meets its contract: each coding's key. Assumes nothing.
 use Rattle.coding.proofs.Written.{utf8_key_lem, ucs2_key}
 use mathlib.Core.Path.{◌∙◌}
-use borrow.Author.Rules.{rules}
 use Rattle.coding.proofs.key_of.Goals as goal
 
 pub returns-in-Utf8 : goal.returns-in-Utf8

@@ -1,5 +1,4 @@
 -- `coding::mark_len` meets its contract: by cases on the coding.
-use borrow.Author.Rules.{rules}
 use Rattle.coding.specs.Reading.{mark_len}
 use Rattle.coding.proofs.mark_len.Goals as goal
 

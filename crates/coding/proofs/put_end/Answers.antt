@@ -3,7 +3,6 @@ use Rattle.coding.proofs.Written.{stored, utf8_end, ucs2_end}
 use lib.ListN.{length, length-set}
 use mathlib.Core.Path.{ap}
 use native.Mathlib.Omega.{arith}
-use borrow.Author.Rules.{rules}
 use Rattle.coding.proofs.put_end.Goals as goal
 
 pub bounds-out-0 : goal.bounds-out-0

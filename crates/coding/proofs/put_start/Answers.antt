@@ -3,7 +3,6 @@ use Rattle.coding.proofs.Written.{stored, utf8_start, ucs2_start}
 use lib.ListN.{length, length-set}
 use mathlib.Core.Path.{ap}
 use native.Mathlib.Omega.{arith}
-use borrow.Author.Rules.{rules}
 use Rattle.coding.proofs.put_start.Goals as goal
 
 pub bounds-out-0 : goal.bounds-out-0

@@ -3,7 +3,6 @@ use Rattle.coding.proofs.Written.{utf8_value, ucs2_value, utf8_scalar, ucs2_word
 use lib.ListN.{length}
 use mathlib.Core.Path.{ap, refl}
 use native.Mathlib.Omega.{arith}
-use borrow.Author.Rules.{rules}
 use Rattle.coding.proofs.put_value.Goals as goal
 
 pub put_utf8-requires : goal.put_utf8-requires

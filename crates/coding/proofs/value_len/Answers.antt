@@ -3,7 +3,6 @@ use Rattle.coding.proofs.Written.{utf8_value, ucs2_value}
 use lib.ListN.{length}
 use mathlib.Core.Path.{ap, ◌∙◌}
 use native.Mathlib.Omega.{arith}
-use borrow.Author.Rules.{rules}
 use Rattle.coding.proofs.value_len.Goals as goal
 
 pub returns-in-Utf8 : goal.returns-in-Utf8

@@ -1,6 +1,5 @@
 -- `descriptions::code_of` meets its contract: each step as its number. Assumes nothing.
 use mathlib.Core.Path.{ap, sym}
-use borrow.Author.Rules.{rules}
 use Rattle.descriptions.specs.Reading.{code_of}
 use Rattle.descriptions.proofs.code_of.Goals as goal
 

@@ -1,11 +1,8 @@
 -- `descriptions::compare` meets its contract: what the steps from the two places on give is, at each turn, what those from the starts give.
 -- Assumes that the starts are places of the tails.
 use mathlib.Core.Path.{◌≡◌, refl, sym, ◌∙◌}
-use Prim.Native.Nat.{◌-◌, ◌≤◌}
 use native.Mathlib.Omega.{arith}
-use lib.ListN.{length}
-use borrow.Author.Rules.{rules}
-use Rattle.descriptions.specs.Reading.{code_of, ends_of}
+use Rattle.descriptions.specs.Reading.{code_of}
 use Rattle.descriptions.proofs.Stepping.{ends_first, ends_second, ends_other, ends_here, ends_later}
 use Rattle.descriptions.proofs.compare.Goals as goal
 

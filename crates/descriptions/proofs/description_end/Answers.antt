@@ -1,10 +1,8 @@
 -- `descriptions::description_end` meets its contract: the steps from the place on end, at each turn, where those from the start end. Assumes that
 -- the start is a place of the tail.
 use mathlib.Core.Path.{◌≡◌, refl, sym, ◌∙◌, ap}
-use Prim.Native.Nat.{ℕ, ◌-◌, ◌≤◌}
+use Prim.Native.Nat.{ℕ}
 use native.Mathlib.Omega.{arith}
-use lib.ListN.{length}
-use borrow.Author.Rules.{rules}
 use Rattle.table.specs.Reading.{steps_at}
 use Rattle.descriptions.specs.Reading.{code_of, end_from}
 use Rattle.descriptions.proofs.Stepping.{goes, front, no_steps, end_here, end_later, end_none}

@@ -1,11 +1,8 @@
-use mathlib.Core.Path.{◌≡◌, refl, sym, ◌∙◌, ap}
-use Prim.Native.Nat.{ℕ, ◌-◌, ◌≤◌}
-use native.Mathlib.Omega.{arith}
+use mathlib.Core.Path.{◌≡◌}
+use Prim.Native.Nat.{◌-◌, ◌≤◌}
 use lib.ListN.{length}
-use borrow.Author.Rules.{rules}
 use Rattle.table.specs.Reading.{steps_at}
-use Rattle.descriptions.specs.Reading.{code_of, end_from}
-use Rattle.descriptions.proofs.Stepping.{goes, front, no_steps, end_here, end_later, end_none}
+use Rattle.descriptions.specs.Reading.{end_from}
 use Rattle.descriptions.proofs.description_end.Given as goal
 
 abbrev pub invariant-loop-at : goal.invariant-loop-at

@@ -2,7 +2,6 @@
 use mathlib.Core.Path.{◌∙◌}
 use native.Mathlib.Omega.{arith}
 use Rattle.entries.specs.Meaning.{cols_at}
-use borrow.Author.Rules.{rules}
 use Rattle.entries.proofs.cols_at.Goals as goal
 
 pub returns : goal.returns

@@ -1,7 +1,6 @@
 -- `entries::metrics_at` meets its contract: five numbers of two bytes. Assumes that the entry stands in the file.
 use Rattle.entries.specs.Meaning.{metrics_at}
 use Rattle.entries.proofs.Machine.{field_kept}
-use borrow.Author.Rules.{rules}
 use Rattle.entries.proofs.metrics_at.Goals as goal
 
 pub returns : goal.returns

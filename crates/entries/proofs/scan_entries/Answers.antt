@@ -1,12 +1,8 @@
 -- `entries::scan_entries` meets its contract: the entries from `at` on, with the greatest so far, scan as all of them do. Assumes nothing.
 use Rattle.entries.proofs.Cases as cases
-use Rattle.entries.specs.Meaning.{entry_at}
-use Rattle.entries.specs.Reading.{scan_of}
-use lib.ListN.{length}
 use native.Mathlib.Nat.{sub-zero}
-use Prim.Native.Nat.{◌+◌, ◌-◌, ◌≤◌}
+use Prim.Native.Nat.{◌+◌, ◌-◌}
 use mathlib.Core.Path.{◌≡◌, sym, ◌∙◌}
-use borrow.Author.Rules.{rules}
 use native.Mathlib.Omega.{arith}
 use Rattle.entries.proofs.scan_entries.Goals as goal
 

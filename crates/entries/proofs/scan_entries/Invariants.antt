@@ -1,12 +1,8 @@
-use Rattle.entries.proofs.Cases as cases
 use Rattle.entries.specs.Meaning.{entry_at}
 use Rattle.entries.specs.Reading.{scan_of}
 use lib.ListN.{length}
-use native.Mathlib.Nat.{sub-zero}
-use Prim.Native.Nat.{◌+◌, ◌-◌, ◌≤◌}
-use mathlib.Core.Path.{◌≡◌, sym, ◌∙◌}
-use borrow.Author.Rules.{rules}
-use native.Mathlib.Omega.{arith}
+use Prim.Native.Nat.{◌-◌, ◌≤◌}
+use mathlib.Core.Path.{◌≡◌}
 use Rattle.entries.proofs.scan_entries.Given as goal
 
 abbrev pub invariant-loop-i : goal.invariant-loop-i

@@ -5,7 +5,6 @@ use mir.Syntax.{w32}
 use mir.Facts.{to_z-of_z, to_z_pos}
 use Rattle.entries.proofs.Sums.{low, high}
 use Rattle.entries.proofs.Machine.{minus, minus_fits}
-use borrow.Author.Rules.{rules}
 use Rattle.entries.proofs.signed.Goals as goal
 
 pub overflow_sub-result : goal.overflow_sub-result

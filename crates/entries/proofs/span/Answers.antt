@@ -1,7 +1,6 @@
 -- `entries::span` meets its contract: moved up, the two numbers are summed with nothing below zero, and the sum is moved down again. Assumes nothing.
 use Rattle.entries.proofs.Sums.{sum_count, sum_none}
 use native.Mathlib.Omega.{arith}
-use borrow.Author.Rules.{rules}
 use Rattle.entries.proofs.span.Goals as goal
 
 pub returns-then-sum-lt65536 : goal.returns-then-sum-lt65536

@@ -3,11 +3,10 @@ use native.Mathlib.Omega.{arith}
 use mathlib.Core.Path.{◌≡◌, sym, ◌∙◌}
 use mathlib.Core.List.{◌++◌}
 use Prim.Native.Nat.{◌-◌}
-use lib.ListN.{length, take, length-map}
+use lib.ListN.{length, take}
 use lib.Seq.{length-take-le}
 use Rattle.unfinished.specs.Reading.{held_bytes}
 use Rattle.entryfeed.proofs.Feeding.{none_held, still, joined}
-use borrow.Author.Rules.{rules}
 use Rattle.entryfeed.proofs.feed.Goals as goal
 
 pub returns-then-k-eq0 : goal.returns-then-k-eq0

@@ -4,7 +4,6 @@ use mathlib.Core.Path.{◌∙◌, ap}
 use Rattle.base.proofs.Parts.{rest_all}
 use Rattle.unfinished.specs.Reading.{held_of}
 use Rattle.entryfeed.proofs.Feeding.{from_start}
-use borrow.Author.Rules.{rules}
 use Rattle.entryfeed.proofs.from_entry.Goals as goal
 
 pub returns : goal.returns

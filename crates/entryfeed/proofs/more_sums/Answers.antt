@@ -1,10 +1,8 @@
 -- `entryfeed::more_sums` meets its contract. Assumes that the entries stand in the slice, and the slice within the file limit.
-use borrow.Author.Rules.{rules}
 use native.Mathlib.Omega.{arith}
 use mathlib.Core.Path.{sym, ◌∙◌}
-use Prim.Native.Nat.{◌<◌}
 use Rattle.entries.proofs.Meaning.{scan_broken}
-use Rattle.entryfeed.proofs.Feeding.{already, found, taller}
+use Rattle.entryfeed.proofs.Feeding.{found, taller}
 use Rattle.entryfeed.proofs.more_sums.Goals as goal
 
 pub overflow_mul-result : goal.overflow_mul-result

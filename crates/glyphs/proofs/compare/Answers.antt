@@ -1,7 +1,6 @@
 -- `glyphs::compare` meets its contract: by what is located in both fonts. Assumes `Placed` of both, and that both have the glyph.
 use mathlib.Core.Path.{refl, sym, ◌∙◌}
 use Rattle.glyphs.proofs.Cases.{glyph_kind_lem}
-use borrow.Author.Rules.{rules}
 use Rattle.glyphs.proofs.compare.Goals as goal
 
 pub drawn_kind-requires : goal.drawn_kind-requires

@@ -1,7 +1,6 @@
 -- `glyphs::drawn_kind` meets its contract: metrics first, then pixels. Assumes the bitmaps that were located.
 use mathlib.Core.Path.{sym, ◌∙◌}
 use Rattle.glyphs.proofs.Cases.{other_metrics, same_metrics, same_sizes}
-use borrow.Author.Rules.{rules}
 use Rattle.glyphs.proofs.drawn_kind.Goals as goal
 
 pub pixel_kind-requires : goal.pixel_kind-requires

@@ -1,5 +1,4 @@
 -- `glyphs::entry_words` meets its contract: the five fields of an entry. Assumes that the entry stands in the file.
-use borrow.Author.Rules.{rules}
 use Rattle.glyphs.proofs.entry_words.Goals as goal
 
 pub returns : goal.returns

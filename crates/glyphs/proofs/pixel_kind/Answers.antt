@@ -3,7 +3,6 @@
 use mathlib.Core.Path.{◌≡◌, sym, ◌∙◌}
 use Rattle.glyphs.proofs.Cases.{part_length, no_pixel, some_pixel}
 use Rattle.header.specs.Meaning.{glyph_bytes}
-use borrow.Author.Rules.{rules}
 use Rattle.glyphs.proofs.pixel_kind.Goals as goal
 
 pub same_bitmaps-requires : goal.same_bitmaps-requires

@@ -2,7 +2,6 @@
 use mathlib.Core.Path.{sym, ◌∙◌, ap}
 use Rattle.bitmap.proofs.Places.{entry_inside}
 use Rattle.glyphs.specs.Reading.{words_of}
-use borrow.Author.Rules.{rules}
 use Rattle.glyphs.proofs.words_of.Goals as goal
 
 pub entry_words-requires : goal.entry_words-requires

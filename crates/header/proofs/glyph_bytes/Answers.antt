@@ -3,7 +3,6 @@ use Rattle.header.specs.Meaning.{glyph_bytes}
 use Prim.Native.Nat.{◌≤◌}
 use native.Mathlib.Nat.{mul-le-mul}
 use native.Mathlib.Omega.{arith}
-use borrow.Author.Rules.{rules}
 use Rattle.header.proofs.glyph_bytes.Goals as goal
 
 pub overflow_mul-result : goal.overflow_mul-result

@@ -1,5 +1,4 @@
 -- `header::put_fields` meets its contract: four numbers, one behind the other. Assumes room.
-use borrow.Author.Rules.{rules}
 use mathlib.Core.Path.{refl}
 use mathlib.Core.List.{[], ◌++◌}
 use Rattle.base.specs.Reading.{bytes32}

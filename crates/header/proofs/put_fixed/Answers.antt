@@ -1,5 +1,4 @@
 -- `header::put_fixed` meets its contract: three numbers, one behind the other. Assumes the kind's header length, and room.
-use borrow.Author.Rules.{rules}
 use mathlib.Core.Path.{refl, ◌∙◌, ap}
 use Prim.Native.Nat.{ℕ}
 use native.Mathlib.Omega.{arith}

@@ -1,7 +1,6 @@
 -- `hexline::hex_value` meets its contract: the characters in their ranges. Assumes nothing.
 use native.Mathlib.Omega.{arith}
-use Rattle.hexline.proofs.Digits.{value_below, value_low, value_between, value_high, value_above}
-use borrow.Author.Rules.{rules}
+use Rattle.hexline.proofs.Digits.{value_below, value_low, value_between, value_above}
 use Rattle.hexline.proofs.hex_value.Goals as goal
 
 pub returns-then-b-lt48 : goal.returns-then-b-lt48

@@ -1,7 +1,6 @@
 -- `hexline::pair_value` meets its contract: both digits are tested. Assumes nothing.
 use native.Mathlib.Omega.{arith}
 use Rattle.hexline.proofs.Digits.{pair_both, pair_first, pair_second}
-use borrow.Author.Rules.{rules}
 use Rattle.hexline.proofs.pair_value.Goals as goal
 
 pub returns-then-high-gt15 : goal.returns-then-high-gt15

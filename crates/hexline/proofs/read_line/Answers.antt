@@ -1,11 +1,8 @@
 -- `hexline::read_line` meets its contract: at each turn what is left of the line is read behind the bytes so far. Assumes nothing.
 use native.Mathlib.Omega.{arith}
-use mathlib.Core.Path.{◌≡◌, refl, sym, ◌∙◌}
-use Prim.Native.Nat.{◌≤◌, ◌-◌, ◌+◌}
-use lib.ListN.{length, drop, length-set}
-use Rattle.hexline.specs.Reading.{bytes_from, frame_of}
-use Rattle.hexline.proofs.Steps.{goes_on, no_byte, alone, ended, too_long, not_long, bad_bounded}
-use borrow.Author.Rules.{rules}
+use mathlib.Core.Path.{refl, sym, ◌∙◌}
+use lib.ListN.{length-set}
+use Rattle.hexline.proofs.Steps.{goes_on, alone, ended, not_long, bad_bounded}
 use Rattle.hexline.proofs.read_line.Goals as goal
 
 pub loop-at-init : goal.loop-at-init

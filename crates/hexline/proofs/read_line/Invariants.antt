@@ -1,10 +1,7 @@
-use native.Mathlib.Omega.{arith}
-use mathlib.Core.Path.{◌≡◌, refl, sym, ◌∙◌}
+use mathlib.Core.Path.{◌≡◌}
 use Prim.Native.Nat.{◌≤◌, ◌-◌, ◌+◌}
-use lib.ListN.{length, drop, length-set}
+use lib.ListN.{length, drop}
 use Rattle.hexline.specs.Reading.{bytes_from, frame_of}
-use Rattle.hexline.proofs.Steps.{goes_on, no_byte, alone, ended, too_long, not_long, bad_bounded}
-use borrow.Author.Rules.{rules}
 use Rattle.hexline.proofs.read_line.Given as goal
 
 abbrev pub invariant-loop-at : goal.invariant-loop-at

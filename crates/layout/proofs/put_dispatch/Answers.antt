@@ -5,7 +5,6 @@ use Rattle.base.specs.Reading.{over}
 use Rattle.base.proofs.Over.{over_none}
 use Rattle.header.specs.declared.Kind.{Kind}
 use Rattle.layout.specs.Reading.{dispatch_bytes, evenly}
-use borrow.Author.Rules.{rules}
 use Rattle.layout.proofs.put_dispatch.Goals as goal
 
 pub put_entries-requires : goal.put_entries-requires

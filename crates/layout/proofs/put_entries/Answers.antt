@@ -1,8 +1,7 @@
 -- `layout::put_entries` meets its contract: at each turn the entries written so far stand in front, and the others are left. Assumes room.
-use borrow.Author.Rules.{rules}
 use native.Mathlib.Omega.{arith}
-use mathlib.Core.Path.{◌≡◌, refl, sym, ap, subst}
-use Prim.Native.Nat.{ℕ, ◌+◌, ◌-◌, ◌*◌, ◌≤◌}
+use mathlib.Core.Path.{refl, sym, ap, subst}
+use Prim.Native.Nat.{ℕ, ◌+◌, ◌-◌}
 use mathlib.Core.List.{◌++◌}
 use Rattle.base.proofs.Written.{Written, begins_as, room, goes_on, ends}
 use native.Mathlib.Nat.{mul-le-mul_right}

@@ -1,12 +1,7 @@
-use borrow.Author.Rules.{rules}
-use native.Mathlib.Omega.{arith}
-use mathlib.Core.Path.{◌≡◌, refl, sym, ap, subst}
-use Prim.Native.Nat.{ℕ, ◌+◌, ◌-◌, ◌*◌, ◌≤◌}
-use mathlib.Core.List.{◌++◌}
-use Rattle.base.proofs.Written.{Written, begins_as, room, goes_on, ends}
-use native.Mathlib.Nat.{mul-le-mul_right}
-use Rattle.layout.specs.Reading.{entry_bytes, entries_at, evenly}
-use Rattle.layout.proofs.Parts.{entry_length, entries_length, evenly_length, entries_next, entries_done, all_left, next_multiple}
+use mathlib.Core.Path.{◌≡◌}
+use Prim.Native.Nat.{◌-◌, ◌*◌, ◌≤◌}
+use Rattle.base.proofs.Written.{Written}
+use Rattle.layout.specs.Reading.{entries_at, evenly}
 use Rattle.layout.proofs.put_entries.Given as goal
 
 abbrev pub invariant-loop-i : goal.invariant-loop-i

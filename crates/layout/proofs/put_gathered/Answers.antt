@@ -1,8 +1,7 @@
 -- `layout::put_gathered` meets its contract: at each turn the bitmaps written so far stand in front, and the others are left. Assumes room, and that each glyph stands in the file.
-use borrow.Author.Rules.{rules}
 use native.Mathlib.Omega.{arith}
-use mathlib.Core.Path.{◌≡◌, refl, sym, ◌∙◌, ap, subst}
-use Prim.Native.Nat.{◌+◌, ◌-◌, ◌*◌, ◌≤◌}
+use mathlib.Core.Path.{refl, sym, ◌∙◌, ap, subst}
+use Prim.Native.Nat.{◌+◌, ◌-◌}
 use mathlib.Core.List.{◌++◌}
 use lib.ListN.{length, take, drop, length-take, length-drop}
 use Rattle.base.proofs.Written.{Written, begins_as, room, goes_on, ends}

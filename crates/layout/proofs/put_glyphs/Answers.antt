@@ -10,7 +10,6 @@ use Rattle.header.specs.Bounds.{Even, Dispatched}
 use Rattle.entries.specs.Meaning.{entry_at, address_at}
 use Rattle.layout.specs.Reading.{gathered}
 use Rattle.layout.proofs.Parts.{even_glyphs, glyphs_of}
-use borrow.Author.Rules.{rules}
 use Rattle.layout.proofs.put_glyphs.Goals as goal
 
 pub copy-requires : goal.copy-requires

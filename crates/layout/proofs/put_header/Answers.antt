@@ -7,7 +7,6 @@ use Rattle.header.specs.Reading.{header_bytes}
 use Rattle.layout.proofs.Parts.{psf1_header}
 use native.Mathlib.Omega.{arith}
 use mathlib.Core.Path.{sym, ◌∙◌, ap}
-use borrow.Author.Rules.{rules}
 use Rattle.layout.proofs.put_header.Goals as goal
 
 pub put_header-requires : goal.put_header-requires

@@ -4,7 +4,6 @@ use Rattle.base.proofs.Over.{over_none, behind}
 use Rattle.base.specs.Reading.{bytes16}
 use mathlib.Core.List.{[], ◌++◌}
 use mathlib.Core.Path.{refl}
-use borrow.Author.Rules.{rules}
 use Rattle.layout.proofs.put_metrics.Goals as goal
 
 pub returns : goal.returns

@@ -1,9 +1,7 @@
 -- `lookup::begins` meets its contract: by what is asked for and where the cursor stands. Assumes nothing.
-use mathlib.Core.Path.{refl}
 use native.Mathlib.Omega.{arith}
 use Rattle.table.specs.Reading.{steps_at}
-use Rattle.lookup.proofs.Looking.{begins_sequence, begins_later, begins_single, begins_inside}
-use borrow.Author.Rules.{rules}
+use Rattle.lookup.proofs.Looking.{begins_sequence, begins_later, begins_inside}
 use Rattle.lookup.proofs.begins.Goals as goal
 
 pub returns-then-p : goal.returns-then-p

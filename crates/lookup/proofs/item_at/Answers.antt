@@ -1,10 +1,6 @@
 -- `lookup::item_at` meets its contract: the items from the place on give at each turn what all items give.
-use mathlib.Core.Path.{◌≡◌, sym, ◌∙◌, ap}
-use Prim.Native.Nat.{◌-◌, ◌≤◌}
+use mathlib.Core.Path.{sym, ◌∙◌, ap}
 use native.Mathlib.Omega.{arith}
-use lib.ListN.{length}
-use borrow.Author.Rules.{rules}
-use Rattle.table.specs.Reading.{steps_at, step_items, items_in}
 use Rattle.table.proofs.Telling.{told_value, told_start, told_end, told_cut, told_bad, told_past}
 use Rattle.lookup.specs.declared.Walked.TheVariants.{Found}
 use Rattle.lookup.specs.Reading.{item_at}

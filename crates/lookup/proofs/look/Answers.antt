@@ -1,12 +1,9 @@
 -- `lookup::look` meets its contract: the check and what is found go on together at each turn.
-use mathlib.Core.Path.{◌≡◌, sym, ◌∙◌, subst}
-use Prim.Native.Nat.{◌-◌}
+use mathlib.Core.Path.{subst}
 use native.Mathlib.Omega.{arith}
-use lib.ListN.{length}
 use borrow.Enum.Refused.{opened}
 use Rattle.table.specs.Skipping.{NoValue}
-use Rattle.lookup.proofs.Passing.{Goes, goes_fresh, goes_stands, goes_skipped, goes_halted, told_ended, told_refused, goes_next, next_stands, told_found, no_value}
-use borrow.Author.Rules.{rules}
+use Rattle.lookup.proofs.Passing.{goes_fresh, goes_stands, goes_skipped, goes_halted, told_ended, told_refused, goes_next, next_stands, told_found, no_value}
 use Rattle.lookup.proofs.look.Goals as goal
 
 pub loop-left-init : goal.loop-left-init

@@ -1,5 +1,4 @@
 -- `lookup::looked_by` meets its contract: by the table's answer. Assumes nothing.
-use borrow.Author.Rules.{rules}
 use Rattle.lookup.proofs.looked_by.Goals as goal
 
 pub returns-in-At : goal.returns-in-At

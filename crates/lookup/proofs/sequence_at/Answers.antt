@@ -1,12 +1,8 @@
 -- `lookup::sequence_at` meets its contract: what is left of the values against the steps from the place on gives at each turn what all of them give.
-use mathlib.Core.Path.{◌≡◌, refl, sym, ◌∙◌}
-use Prim.Native.Nat.{◌-◌, ◌≤◌}
+use mathlib.Core.Path.{refl, sym, ◌∙◌}
 use native.Mathlib.Omega.{arith}
-use lib.ListN.{length, drop}
 use Rattle.table.specs.Reading.{steps_at}
-use Rattle.lookup.specs.Reading.{sequence_in}
 use Rattle.lookup.proofs.Looking.{over_long, differs, alike, at_start, at_end, at_cut, at_bad, past_all}
-use borrow.Author.Rules.{rules}
 use Rattle.lookup.proofs.sequence_at.Goals as goal
 
 pub loop-at-init : goal.loop-at-init

@@ -1,11 +1,8 @@
-use mathlib.Core.Path.{◌≡◌, refl, sym, ◌∙◌}
+use mathlib.Core.Path.{◌≡◌}
 use Prim.Native.Nat.{◌-◌, ◌≤◌}
-use native.Mathlib.Omega.{arith}
 use lib.ListN.{length, drop}
 use Rattle.table.specs.Reading.{steps_at}
 use Rattle.lookup.specs.Reading.{sequence_in}
-use Rattle.lookup.proofs.Looking.{over_long, differs, alike, at_start, at_end, at_cut, at_bad, past_all}
-use borrow.Author.Rules.{rules}
 use Rattle.lookup.proofs.sequence_at.Given as goal
 
 abbrev pub invariant-loop-at : goal.invariant-loop-at

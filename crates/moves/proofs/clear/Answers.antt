@@ -1,8 +1,8 @@
 -- `moves::clear` meets its contract: at each turn the bytes before the place are 0. Assumes that they stand in the buffer, at places of 32 bits.
 use native.Mathlib.Omega.{arith}
 use mathlib.Core.Path.{◌≡◌, ◌∙◌, ap}
-use Prim.Native.Nat.{ℕ, ◌-◌, ◌%◌, ◌≤◌, ◌<◌}
-use lib.ListN.{length, length-set, set, replicate}
+use Prim.Native.Nat.{ℕ, ◌-◌, ◌%◌}
+use lib.ListN.{length-set, set, replicate}
 use Rattle.moves.specs.Reading.{laid}
 use Rattle.moves.proofs.Moves.{clear_start, clear_turn}
 use Rattle.moves.proofs.clear.Goals as goal

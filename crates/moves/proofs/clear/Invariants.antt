@@ -1,9 +1,7 @@
-use native.Mathlib.Omega.{arith}
-use mathlib.Core.Path.{◌≡◌, ◌∙◌, ap}
-use Prim.Native.Nat.{ℕ, ◌-◌, ◌%◌, ◌≤◌, ◌<◌}
-use lib.ListN.{length, length-set, set, replicate}
+use mathlib.Core.Path.{◌≡◌}
+use Prim.Native.Nat.{◌-◌, ◌≤◌, ◌<◌}
+use lib.ListN.{length, replicate}
 use Rattle.moves.specs.Reading.{laid}
-use Rattle.moves.proofs.Moves.{clear_start, clear_turn}
 use Rattle.moves.proofs.clear.Given as goal
 
 abbrev pub invariant-loop-k : goal.invariant-loop-k

@@ -1,8 +1,8 @@
 -- `moves::move_down` meets its contract: at each turn the bytes before the place stand where they go. Assumes that they stand in the buffer.
 use native.Mathlib.Omega.{arith}
 use mathlib.Core.Path.{◌≡◌, ◌∙◌, ap}
-use Prim.Native.Nat.{ℕ, ◌-◌, ◌≤◌}
-use lib.ListN.{length, length-set}
+use Prim.Native.Nat.{ℕ, ◌-◌}
+use lib.ListN.{length-set}
 use lib.Seq.{slice}
 use Rattle.moves.specs.Reading.{laid}
 use Rattle.moves.proofs.Moves.{down_start, down_turn}

@@ -1,8 +1,8 @@
 -- `moves::move_up` meets its contract: at each turn the bytes from the place on stand where they go. Assumes room.
 use native.Mathlib.Omega.{arith}
 use mathlib.Core.Path.{◌≡◌, ◌∙◌, ap}
-use Prim.Native.Nat.{ℕ, ◌+◌, ◌-◌, ◌≤◌}
-use lib.ListN.{length, length-set}
+use Prim.Native.Nat.{ℕ, ◌+◌}
+use lib.ListN.{length-set}
 use lib.Seq.{slice}
 use Rattle.moves.specs.Reading.{laid}
 use Rattle.moves.proofs.Moves.{up_start, up_turn}

@@ -1,7 +1,6 @@
 -- `moves::remove` meets its contract: moved down, then cleared behind. Assumes that the bytes stand in the buffer.
 use native.Mathlib.Omega.{arith}
 use Prim.Native.Nat.{◌+◌}
-use borrow.Author.Rules.{rules}
 use Rattle.moves.proofs.Moves.{down_cleared, taken_out}
 use Rattle.moves.proofs.remove.Goals as goal
 

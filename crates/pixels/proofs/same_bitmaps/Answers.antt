@@ -1,9 +1,7 @@
 -- `pixels::same_bitmaps` meets its contract: without fillers all bytes decide, else the rows. Assumes two bitmaps of the height and width.
-use borrow.Author.Rules.{rules}
 use native.Mathlib.Omega.{arith}
 use mathlib.Core.Path.{◌∙◌}
 use Rattle.pixels.proofs.Turns.{whole_bytes, by_rows, all_rows}
-use borrow.Author.Rules.{rules}
 use Rattle.pixels.proofs.same_bitmaps.Goals as goal
 
 pub returns-then-width-eq0 : goal.returns-then-width-eq0

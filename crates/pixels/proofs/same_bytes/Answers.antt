@@ -1,10 +1,6 @@
 -- `pixels::same_bytes` meets its contract: the bytes passed are the same. Assumes that the bytes stand in both slices.
-use borrow.Author.Rules.{rules}
 use native.Mathlib.Omega.{arith}
-use mathlib.Core.Path.{◌≡◌, ◌∙◌}
-use Prim.Native.Nat.{◌-◌, ◌≤◌}
-use lib.ListN.{length}
-use Rattle.pixels.specs.Reading.{same_bytes}
+use mathlib.Core.Path.{◌∙◌}
 use Rattle.pixels.proofs.Turns.{bytes_done, bytes_differ, bytes_next}
 use Rattle.pixels.proofs.same_bytes.Goals as goal
 

@@ -1,10 +1,6 @@
 -- `pixels::same_rows` meets its contract: the rows passed are the same. Assumes that the rows stand in both slices.
-use borrow.Author.Tests.{not-true, not-false}
 use native.Mathlib.Omega.{arith}
-use mathlib.Core.Path.{◌≡◌, ◌∙◌}
-use Prim.Native.Nat.{◌+◌, ◌-◌, ◌*◌, ◌≤◌, ◌<◌}
-use lib.ListN.{length}
-use Rattle.pixels.specs.Reading.{same_rows}
+use mathlib.Core.Path.{◌∙◌}
 use Rattle.pixels.proofs.Turns.{rows_start, rows_stand, rows_done, rows_bytes, rows_whole, rows_last, rows_next}
 use Rattle.pixels.proofs.same_rows.Goals as goal
 

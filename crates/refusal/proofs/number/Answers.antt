@@ -1,5 +1,4 @@
 -- `refusal::number` meets its contract: the number of each reason is the one of the papers' tables. Assumes nothing.
-use borrow.Author.Rules.{rules}
 use Rattle.refusal.proofs.number.Goals as goal
 
 pub returns-in-TooLong : goal.returns-in-TooLong

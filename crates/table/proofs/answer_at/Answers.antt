@@ -1,7 +1,5 @@
 -- `table::answer_at` meets its contract: behind the last description, or refused. Assumes nothing.
-use mathlib.Core.Path.{◌≡◌, sym, ◌∙◌}
 use borrow.Author.Tests.{eq-eqb, ne_eqb}
-use borrow.Author.Rules.{rules}
 use Rattle.table.proofs.answer_at.Goals as goal
 
 pub returns-then-p-eq0 : goal.returns-then-p-eq0

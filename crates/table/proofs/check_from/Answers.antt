@@ -1,9 +1,8 @@
 -- `table::check_from` meets its contract: what is gone over changes nothing for the check, and it answers where that ends. Assumes nothing.
-use mathlib.Core.Path.{sym, ◌∙◌}
+use mathlib.Core.Path.{◌∙◌}
 use native.Mathlib.Omega.{arith}
 use Rattle.coding.specs.Reading.{no_key}
 use Rattle.table.proofs.Halting.{left_after, halted_after, check_after, no_value_left, answer_there}
-use borrow.Author.Rules.{rules}
 use Rattle.table.proofs.check_from.Goals as goal
 
 pub answer_at-requires : goal.answer_at-requires

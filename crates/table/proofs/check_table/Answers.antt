@@ -2,7 +2,6 @@
 use mathlib.Core.Path.{◌∙◌}
 use mathlib.Core.Bool.{false}
 use Rattle.table.proofs.Halting.{ended_there, fresh_stands, fresh_check}
-use borrow.Author.Rules.{rules}
 use Rattle.table.proofs.check_table.Goals as goal
 
 pub returns-then-n-eq0 : goal.returns-then-n-eq0

@@ -1,9 +1,4 @@
 -- `table::refused` meets its contract: by the coding. Assumes nothing.
-use mathlib.Core.Path.{subst}
-use Rattle.coding.specs.declared.Coding.{Coding}
-use Rattle.table.specs.Reading.{step_at}
-use Rattle.table.specs.Skipping.{NoValue}
-use borrow.Author.Rules.{rules}
 use Rattle.table.proofs.refused.Goals as goal
 
 pub utf8_refused-requires : goal.utf8_refused-requires

@@ -1,11 +1,7 @@
 -- `table::skip` meets its contract: at each turn it is gone as far from the place on as from the first.
-use mathlib.Core.Path.{◌≡◌, refl, sym, ◌∙◌}
-use Prim.Native.Nat.{◌-◌}
+use mathlib.Core.Path.{refl, sym, ◌∙◌}
 use native.Mathlib.Omega.{arith}
-use lib.ListN.{length}
-use Rattle.table.specs.Skipping.{skipped, cursor_of, front_at}
-use Rattle.table.proofs.Turning.{Kept, turns_value, turns_start, turns_end, stops_start, stops_end, stops_last, stops_other, stops_past}
-use borrow.Author.Rules.{rules}
+use Rattle.table.proofs.Turning.{turns_value, turns_start, turns_end, stops_start, stops_end, stops_last, stops_other, stops_past}
 use Rattle.table.proofs.skip.Goals as goal
 
 pub loop-at-init : goal.loop-at-init

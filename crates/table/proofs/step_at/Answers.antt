@@ -1,5 +1,4 @@
 -- `table::step_at` meets its contract: by the coding. Assumes nothing.
-use borrow.Author.Rules.{rules}
 use Rattle.table.proofs.step_at.Goals as goal
 
 pub returns-in-Utf8 : goal.returns-in-Utf8

@@ -1,6 +1,5 @@
 -- `table::step_of` meets its contract: each token's step. Assumes nothing but that the place fits.
 use native.Mathlib.Omega.{arith}
-use borrow.Author.Rules.{rules}
 use Rattle.table.proofs.step_of.Goals as goal
 
 pub overflow_add-result : goal.overflow_add-result

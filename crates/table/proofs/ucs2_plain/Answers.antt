@@ -1,9 +1,8 @@
 -- `table::ucs2_plain` meets its contract: by the step. Assumes nothing.
-use mathlib.Core.Path.{◌≡◌, refl, sym, ◌∙◌, ap}
+use mathlib.Core.Path.{sym, ◌∙◌, ap}
 use Rattle.coding.specs.declared.Coding.TheVariants.{Ucs2}
 use Rattle.table.specs.Skipping.{plain_of}
 use Rattle.table.proofs.Plainly.{plained}
-use borrow.Author.Rules.{rules}
 use Rattle.table.proofs.ucs2_plain.Goals as goal
 
 pub returns-in-Value : goal.returns-in-Value

@@ -1,7 +1,6 @@
 -- `table::ucs2_refused` meets its contract: cut where a byte is missing, else bad at the second. Assumes nothing.
 use native.Mathlib.Omega.{arith}
 use Rattle.table.proofs.Plainly.{ucs2_cut, ucs2_bad}
-use borrow.Author.Rules.{rules}
 use Rattle.table.proofs.ucs2_refused.Goals as goal
 
 pub returns-then-s-at-lt2 : goal.returns-then-s-at-lt2

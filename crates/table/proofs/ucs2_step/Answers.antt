@@ -4,7 +4,6 @@ use Rattle.coding.specs.declared.Coding.TheVariants.{Ucs2}
 use Rattle.table.proofs.Firsts.{ucs2_step, fits, stepped}
 use Rattle.table.specs.Reading.{step_of}
 use Rattle.table.proofs.Stepping.{past_end}
-use borrow.Author.Rules.{rules}
 use Rattle.table.proofs.ucs2_step.Goals as goal
 
 pub returns-then-s-at : goal.returns-then-s-at

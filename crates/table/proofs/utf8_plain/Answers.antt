@@ -1,10 +1,9 @@
 -- `table::utf8_plain` meets its contract: the first byte decides, or the plain length of a value. Assumes nothing.
-use mathlib.Core.Path.{◌≡◌, refl, sym, ◌∙◌}
+use mathlib.Core.Path.{refl, sym, ◌∙◌}
 use native.Mathlib.Omega.{arith}
 use Rattle.coding.specs.declared.Coding.TheVariants.{Utf8}
 use Rattle.table.proofs.Firsts.{first_one, first_start, first_end}
 use Rattle.table.proofs.Plainly.{plained, with_key, without_key, one_key, length_none, length_some}
-use borrow.Author.Rules.{rules}
 use Rattle.table.proofs.utf8_plain.Goals as goal
 
 pub returns-then-wide-key : goal.returns-then-wide-key

@@ -1,13 +1,11 @@
 -- `table::utf8_refused` meets its contract: the reader of a value says why. Assumes nothing.
-use mathlib.Core.Path.{◌≡◌, sym, ◌∙◌, ap}
-use Prim.Native.Nat.{◌-◌, ◌<◌}
+use mathlib.Core.Path.{sym, ◌∙◌, ap}
 use native.Mathlib.Omega.{arith}
 use lib.ListN.{length, drop, length-drop}
 use Rattle.base.proofs.Parts.{rest_all}
 use Rattle.utf8.specs.Reading.{read_value}
-use Rattle.utf8.proofs.Sizes.{Within, bad_within}
+use Rattle.utf8.proofs.Sizes.{bad_within}
 use Rattle.table.proofs.Plainly.{said, utf8_said}
-use borrow.Author.Rules.{rules}
 use Rattle.table.proofs.utf8_refused.Goals as goal
 
 pub overflow_add-result : goal.overflow_add-result

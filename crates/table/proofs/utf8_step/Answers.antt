@@ -3,7 +3,6 @@ use mathlib.Core.Path.{sym, ◌∙◌}
 use native.Mathlib.Omega.{arith}
 use Rattle.table.proofs.Firsts.{first_one, first_start, first_end, value_step}
 use Rattle.table.proofs.Stepping.{past_end}
-use borrow.Author.Rules.{rules}
 use Rattle.table.proofs.utf8_step.Goals as goal
 
 pub returns-then-s-at : goal.returns-then-s-at

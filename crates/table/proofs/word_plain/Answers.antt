@@ -2,7 +2,6 @@
 use mathlib.Core.Path.{sym, ◌∙◌}
 use Rattle.coding.specs.declared.Coding.TheVariants.{Ucs2}
 use Rattle.table.proofs.Plainly.{with_key, without_key}
-use borrow.Author.Rules.{rules}
 use Rattle.table.proofs.word_plain.Goals as goal
 
 pub returns-then-key_of-key : goal.returns-then-key_of-key

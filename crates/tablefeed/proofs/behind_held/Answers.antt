@@ -4,13 +4,12 @@ use native.Mathlib.Omega.{arith}
 use mathlib.Core.Path.{◌≡◌, sym, ◌∙◌, ap}
 use mathlib.Core.List.{List, [], ◌++◌}
 use Prim.Native.Nat.{ℕ, ◌+◌, ◌-◌}
-use lib.ListN.{length, take, drop, length-map, drop_of_length-le}
+use lib.ListN.{length, take, drop, drop_of_length-le}
 use lib.Seq.{length-take-le}
 use Rattle.table.specs.Reading.{steps_from}
 use Rattle.unfinished.specs.Reading.{held_bytes}
 use Rattle.tablefeed.specs.Reading.{run_of, is_set}
 use Rattle.tablefeed.proofs.Feeding.{at_rest, split, stops, short, goes_on}
-use borrow.Author.Rules.{rules}
 use Rattle.tablefeed.proofs.behind_held.Goals as goal
 
 pub slice_bounds-put-end : goal.slice_bounds-put-end

@@ -5,7 +5,6 @@ use Prim.Native.Nat.{◌-◌}
 use Rattle.table.specs.Reading.{steps_from}
 use Rattle.tablefeed.specs.Reading.{run_of, is_set}
 use Rattle.tablefeed.proofs.Feeding.{at_rest, from_part, no_more}
-use borrow.Author.Rules.{rules}
 use Rattle.tablefeed.proofs.feed.Goals as goal
 
 pub returns-then-t-ne0 : goal.returns-then-t-ne0

@@ -1,10 +1,6 @@
 -- `tablefeed::run_through` meets its contract: the steps from the place on come at each turn to where all of them come. Assumes nothing.
-use mathlib.Core.Path.{◌≡◌, refl, sym, ◌∙◌, ap}
-use Prim.Native.Nat.{◌-◌}
+use mathlib.Core.Path.{sym, ◌∙◌, ap}
 use native.Mathlib.Omega.{arith}
-use lib.ListN.{length}
-use borrow.Author.Rules.{rules}
-use Rattle.table.specs.Reading.{steps_at}
 use Rattle.tablefeed.specs.Reading.{run_of}
 use Rattle.tablefeed.proofs.Cases.{value, start, start_bad, end, end_bad, cut, bad, trailing, ended}
 use Rattle.tablefeed.proofs.run_through.Goals as goal

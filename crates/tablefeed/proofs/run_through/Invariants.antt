@@ -1,11 +1,8 @@
-use mathlib.Core.Path.{◌≡◌, refl, sym, ◌∙◌, ap}
+use mathlib.Core.Path.{◌≡◌}
 use Prim.Native.Nat.{◌-◌}
-use native.Mathlib.Omega.{arith}
 use lib.ListN.{length}
-use borrow.Author.Rules.{rules}
 use Rattle.table.specs.Reading.{steps_at}
 use Rattle.tablefeed.specs.Reading.{run_of}
-use Rattle.tablefeed.proofs.Cases.{value, start, start_bad, end, end_bad, cut, bad, trailing, ended}
 use Rattle.tablefeed.proofs.run_through.Given as goal
 
 abbrev pub invariant-loop-at : goal.invariant-loop-at

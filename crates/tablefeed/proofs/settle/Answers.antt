@@ -1,6 +1,5 @@
 -- `tablefeed::settle` meets its contract. Assumes a place within the bytes, at most three behind it where the run goes on, and bytes within the
 -- file limit.
-use borrow.Author.Rules.{rules}
 use native.Mathlib.Omega.{arith}
 use mathlib.Core.Path.{◌∙◌, ap}
 use Rattle.base.proofs.Parts.{rest_all, rest_length}

@@ -6,7 +6,7 @@ use mathlib.Core.Path.{sym, ◌∙◌, ap}
 use lib.ListN.{length}
 use Rattle.base.proofs.Over.{length_over}
 use Rattle.text.proofs.Putting.{put_one, put_more}
-use Rattle.text.proofs.Digits.{divided, digit_left, numeral_one, numeral_more, length_one, length_more}
+use Rattle.text.proofs.Digits.{divided, numeral_one, numeral_more, length_one, length_more}
 use Rattle.text.specs.Reading.{numeral}
 use Rattle.text.proofs.+put_numeral.Goals as goal
 

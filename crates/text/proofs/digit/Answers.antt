@@ -1,7 +1,6 @@
 -- `text::digit` meets its contract: ten digits, then the letters. Assumes nothing.
 use borrow.Author.Tests.{lt-ltb, le-ltb}
 use Rattle.text.specs.Reading.{digit_of}
-use borrow.Author.Rules.{rules}
 use Rattle.text.proofs.digit.Goals as goal
 
 pub returns-then-d-lt10 : goal.returns-then-d-lt10

@@ -1,10 +1,6 @@
 -- `text::numeral_len` meets its contract: the digits counted and those of what is left are all digits. Assumes nothing.
 use native.Mathlib.Omega.{arith}
-use mathlib.Core.Path.{◌≡◌}
-use Prim.Native.Nat.{◌+◌, ◌≤◌}
-use lib.ListN.{length}
 use Rattle.text.proofs.Digits.{divided, numeral_64, length_one, length_more}
-use Rattle.text.specs.Reading.{numeral}
 use Rattle.text.proofs.numeral_len.Goals as goal
 
 pub loop-m-init : goal.loop-m-init

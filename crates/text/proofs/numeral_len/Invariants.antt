@@ -1,8 +1,6 @@
-use native.Mathlib.Omega.{arith}
 use mathlib.Core.Path.{◌≡◌}
 use Prim.Native.Nat.{◌+◌, ◌≤◌}
 use lib.ListN.{length}
-use Rattle.text.proofs.Digits.{divided, numeral_64, length_one, length_more}
 use Rattle.text.specs.Reading.{numeral}
 use Rattle.text.proofs.numeral_len.Given as goal
 

@@ -7,7 +7,6 @@ use Rattle.text.proofs.Putting.{put_more}
 use Rattle.text.proofs.Digits.{number_text_lem, number_length}
 use Rattle.text.specs.Meaning.{number_text}
 use Rattle.text.specs.Reading.{numeral}
-use borrow.Author.Rules.{rules}
 use Rattle.text.proofs.put_number.Goals as goal
 
 pub put_numeral-l-requires : goal.put_numeral-l-requires

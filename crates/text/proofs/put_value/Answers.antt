@@ -7,7 +7,6 @@ use mathlib.Core.List.{[], ◌∷◌}
 use Rattle.text.proofs.Putting.{first_stands, behind_stands}
 use Rattle.text.proofs.Digits.{same_numeral}
 use Rattle.text.specs.Reading.{numeral}
-use borrow.Author.Rules.{rules}
 use Rattle.text.proofs.put_value.Goals as goal
 
 pub put_numeral-l-requires : goal.put_numeral-l-requires

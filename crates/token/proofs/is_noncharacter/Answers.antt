@@ -1,6 +1,6 @@
 -- `token::is_noncharacter` meets its contract: each range tested. Assumes nothing.
 use native.Mathlib.Omega.{arith}
-use Rattle.token.proofs.Noncharacters.{under, among, in_plane}
+use Rattle.token.proofs.Noncharacters.{in_plane}
 use Rattle.token.proofs.is_noncharacter.Goals as goal
 
 pub returns : goal.returns

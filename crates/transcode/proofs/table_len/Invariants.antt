@@ -1,13 +1,9 @@
-use Rattle.transcode.proofs.Turns.{value_more, value_not, start_more, end_more, cut_no_more, bad_no_more, past_no_more, length_from}
 use Rattle.transcode.specs.Reading.{measure, table_len}
-use Rattle.coding.proofs.Codings.{mark_small}
 use Rattle.coding.specs.Reading.{mark_len}
 use Rattle.table.specs.Reading.{steps_at}
 use lib.ListN.{length}
 use Prim.Native.Nat.{◌-◌, ◌*◌, ◌≤◌}
-use mathlib.Core.Path.{◌≡◌, sym, ◌∙◌}
-use native.Mathlib.Omega.{arith}
-use borrow.Author.Rules.{rules}
+use mathlib.Core.Path.{◌≡◌}
 use Rattle.transcode.proofs.table_len.Given as goal
 
 abbrev pub invariant-loop-at : goal.invariant-loop-at

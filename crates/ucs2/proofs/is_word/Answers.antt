@@ -1,7 +1,6 @@
 -- `ucs2::is_word` meets its contract: no noncharacter, and below the marks. Assumes nothing.
 use mathlib.Core.Path.{◌∙◌, sym}
 use Rattle.ucs2.proofs.Words.{noncharacter_no_word, below_marks}
-use borrow.Author.Rules.{rules}
 use Rattle.ucs2.proofs.is_word.Goals as goal
 
 pub returns-then-is_noncharacter : goal.returns-then-is_noncharacter

@@ -2,7 +2,6 @@
 use native.Mathlib.Omega.{arith}
 use Rattle.ucs2.specs.Meaning.{word_bytes}
 use Rattle.base.proofs.Over.{stores}
-use borrow.Author.Rules.{rules}
 use Rattle.ucs2.proofs.put_ucs2.Goals as goal
 
 pub returns : goal.returns

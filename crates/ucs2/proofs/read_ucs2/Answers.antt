@@ -1,8 +1,7 @@
 -- `ucs2::read_ucs2` meets its contract: two bytes are one number, and the number decides. Assumes nothing.
 use native.Mathlib.Omega.{arith}
-use borrow.Author.Rules.{rules}
-use Rattle.ucs2.proofs.Pairs.{short, as_start, as_end, as_bad, as_value}
-use Rattle.ucs2.proofs.Words.{word_under, word_among, word_above, word_mark}
+use Rattle.ucs2.proofs.Pairs.{short, as_start, as_value}
+use Rattle.ucs2.proofs.Words.{word_under, word_above, word_mark}
 use Rattle.ucs2.proofs.read_ucs2.Goals as goal
 
 pub returns-then-s-lt2 : goal.returns-then-s-lt2

@@ -1,5 +1,4 @@
 -- `unfinished::grow` meets its contract. Assumes that the bytes fit.
-use borrow.Author.Rules.{rules}
 use native.Mathlib.Omega.{arith}
 use mathlib.Core.Path.{sym, ◌∙◌, ap}
 use lib.Seq.{length-take-le}

@@ -1,5 +1,4 @@
 -- `unfinished::hold` meets its contract. Assumes that the bytes fit.
-use borrow.Author.Rules.{rules}
 use native.Mathlib.Omega.{arith}
 use mathlib.Core.Path.{◌≡◌, ◌∙◌, ap}
 use Rattle.unfinished.specs.declared.Held.{Held}

@@ -1,9 +1,9 @@
 -- `unfinished::put` meets its contract: at each turn the bytes put so far stand behind those that were held. Assumes that they fit.
 use native.Mathlib.Omega.{arith}
-use mathlib.Core.Path.{◌≡◌, sym, ◌∙◌, ap}
+use mathlib.Core.Path.{◌≡◌, ◌∙◌, ap}
 use mathlib.Core.List.{List, ◌++◌}
-use Prim.Native.Nat.{ℕ, ◌≤◌, ◌-◌, ◌+◌, ◌%◌}
-use lib.ListN.{length, take, length-map}
+use Prim.Native.Nat.{ℕ, ◌+◌, ◌%◌}
+use lib.ListN.{length, take}
 use lib.Seq.{take_all}
 use Rattle.base.specs.Reading.{over}
 use Rattle.unfinished.specs.Reading.{put_of}

@@ -1,12 +1,8 @@
-use native.Mathlib.Omega.{arith}
-use mathlib.Core.Path.{◌≡◌, sym, ◌∙◌, ap}
-use mathlib.Core.List.{List, ◌++◌}
-use Prim.Native.Nat.{ℕ, ◌≤◌, ◌-◌, ◌+◌, ◌%◌}
-use lib.ListN.{length, take, length-map}
-use lib.Seq.{take_all}
+use mathlib.Core.Path.{◌≡◌}
+use mathlib.Core.List.{◌++◌}
+use Prim.Native.Nat.{◌≤◌, ◌-◌, ◌+◌}
+use lib.ListN.{length, take}
 use Rattle.base.specs.Reading.{over}
-use Rattle.unfinished.specs.Reading.{put_of}
-use Rattle.unfinished.proofs.Holding.{no_more, one_more, put_held}
 use Rattle.unfinished.proofs.put.Given as goal
 
 abbrev pub invariant-loop-i : goal.invariant-loop-i

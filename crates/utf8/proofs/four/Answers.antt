@@ -2,7 +2,6 @@
 use native.Mathlib.Omega.{arith}
 use mathlib.Core.Path.{sym, ◌∙◌}
 use Rattle.utf8.proofs.Conts.{then_value, then_cut, then_bad}
-use borrow.Author.Rules.{rules}
 use Rattle.utf8.proofs.four.Goals as goal
 
 pub further-requires : goal.further-requires

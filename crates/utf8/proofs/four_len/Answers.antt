@@ -2,7 +2,6 @@
 use mathlib.Core.Logic.{inl, inr}
 use native.Mathlib.Omega.{arith}
 use Rattle.utf8.proofs.Lengths.{ends_before, second_out, third_out, fourth_out, four_asks, four_met, four_other}
-use borrow.Author.Rules.{rules}
 use Rattle.utf8.proofs.four_len.Goals as goal
 
 pub returns-then-s-at : goal.returns-then-s-at

@@ -1,9 +1,7 @@
 -- `utf8::further` meets its contract: by the test of its bounds. Assumes nothing but what it asks.
 use native.Mathlib.Omega.{arith}
 use mathlib.Core.Path.{refl, sym, ◌∙◌}
-use borrow.Author.Tests.{not-true, not-false}
 use Rattle.utf8.proofs.Conts.{cut, outside, inside, bounds}
-use borrow.Author.Rules.{rules}
 use Rattle.utf8.proofs.further.Goals as goal
 
 pub returns-then-s-k : goal.returns-then-s-k

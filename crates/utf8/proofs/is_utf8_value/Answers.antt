@@ -1,7 +1,6 @@
 -- `utf8::is_utf8_value` meets its contract: no noncharacter, and then a scalar value. Assumes nothing.
 use mathlib.Core.Path.{◌∙◌, sym}
 use Rattle.utf8.proofs.Written.{noncharacter_no_value, scalar_value}
-use borrow.Author.Rules.{rules}
 use Rattle.utf8.proofs.is_utf8_value.Goals as goal
 
 pub returns-then-is_noncharacter : goal.returns-then-is_noncharacter

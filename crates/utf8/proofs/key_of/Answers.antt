@@ -1,6 +1,5 @@
 -- `utf8::key_of` meets its contract: by the value. Assumes nothing.
 use Rattle.utf8.proofs.Plain.{key_itself, key_above}
-use borrow.Author.Rules.{rules}
 use Rattle.utf8.proofs.key_of.Goals as goal
 
 pub returns-then-v-lt128 : goal.returns-then-v-lt128

@@ -1,7 +1,6 @@
 -- `utf8::lead_of` meets its contract: one byte, two, no value here, or a row of three or four. Assumes nothing.
 use native.Mathlib.Omega.{arith}
-use Rattle.utf8.proofs.Rows.{row_1, row_2, row_x, row_y}
-use borrow.Author.Rules.{rules}
+use Rattle.utf8.proofs.Rows.{row_1, row_x, row_y}
 use Rattle.utf8.proofs.lead_of.Goals as goal
 
 pub returns-in-0-to-127 : goal.returns-in-0-to-127

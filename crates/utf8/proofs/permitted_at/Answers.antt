@@ -3,7 +3,6 @@ use mathlib.Core.Path.{◌∙◌, ap, sym}
 use Rattle.token.proofs.Noncharacters.{noncharacter_exactly, noncharacter_no}
 use Rattle.utf8.specs.Reading.{permitted_at}
 use Rattle.utf8.proofs.Permitted.{permitted_value, permitted_none, permitted_cut, permitted_bad}
-use borrow.Author.Rules.{rules}
 use Rattle.utf8.proofs.permitted_at.Goals as goal
 
 pub returns-then-is_noncharacter : goal.returns-then-is_noncharacter

@@ -3,7 +3,6 @@ use mathlib.Core.Path.{sym, ◌∙◌, ap}
 use native.Mathlib.Omega.{arith}
 use Rattle.utf8.specs.declared.Lead.{Lead}
 use Rattle.utf8.proofs.Lengths.{none_begun}
-use borrow.Author.Rules.{rules}
 use Rattle.utf8.proofs.plain_len.Goals as goal
 
 pub two_len-requires : goal.two_len-requires

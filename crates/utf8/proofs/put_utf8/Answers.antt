@@ -3,7 +3,6 @@ use lib.ListN.{length, length-set}
 use native.Mathlib.Omega.{arith}
 use mathlib.Core.Path.{ap}
 use Rattle.utf8.proofs.Written.{one_byte, two_bytes, three_bytes, four_bytes, scalar_low, stored}
-use borrow.Author.Rules.{rules}
 use Rattle.utf8.proofs.put_utf8.Goals as goal
 
 pub bounds-out-0 : goal.bounds-out-0

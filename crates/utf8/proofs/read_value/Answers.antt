@@ -1,17 +1,13 @@
 -- `utf8::read_value` meets its contract: a first byte below 80 is the value, else its row decides. Assumes nothing.
-use mathlib.Core.Path.{◌≡◌, sym, ◌∙◌, ap}
-use mathlib.Core.List.{List, [], ◌∷◌}
-use Prim.Native.Nat.{ℕ, ◌+◌, ◌*◌, ◌≤◌, ◌<◌}
+use mathlib.Core.Path.{◌≡◌, ◌∙◌, ap}
+use Prim.Native.Nat.{◌+◌, ◌*◌, ◌≤◌, ◌<◌}
 use native.Mathlib.Omega.{arith}
 use native.Mathlib.Nat.{mod-lt}
-use lib.ListN.{length, get_or}
-use Rattle.utf8.specs.declared.Read.TheVariants.{Value}
-use Rattle.utf8.specs.Reading.{permitted_at, read_value}
+use lib.ListN.{get_or}
+use Rattle.utf8.specs.Reading.{permitted_at}
 use Rattle.utf8.proofs.First.{no_bytes, no_value, long_value}
 use Rattle.utf8.proofs.Permitted.{permitted_low}
-use Rattle.utf8.proofs.Ascii.{itself}
 use Rattle.utf8.proofs.Rows.{Fine, all_fine, longer}
-use borrow.Author.Rules.{rules}
 use Rattle.utf8.proofs.read_value.Goals as goal
 
 -- the value of a first byte below 80

@@ -3,7 +3,6 @@ use native.Mathlib.Omega.{arith}
 use Prim.Native.Nat.{◌+◌, ◌*◌}
 use mathlib.Core.Path.{sym, ◌∙◌}
 use Rattle.utf8.proofs.Conts.{then_value, then_cut, then_bad, reached_low}
-use borrow.Author.Rules.{rules}
 use Rattle.utf8.proofs.three.Goals as goal
 
 pub further-requires : goal.further-requires

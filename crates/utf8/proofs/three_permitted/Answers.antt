@@ -1,6 +1,6 @@
 -- `utf8::three_permitted` meets its contract: by the ranges of its bytes. Assumes nothing but what it asks.
 use native.Mathlib.Omega.{arith}
-use Rattle.utf8.proofs.Plain.{three_low, three_under, three_among, three_above, three_before, three_last, three_other}
+use Rattle.utf8.proofs.Plain.{three_low, three_under, three_above, three_before, three_last, three_other}
 use Rattle.utf8.proofs.three_permitted.Goals as goal
 
 pub returns-then-b-lt239 : goal.returns-then-b-lt239

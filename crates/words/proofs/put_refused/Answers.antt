@@ -9,7 +9,6 @@ use Rattle.text.proofs.Digits.{number_21}
 use Rattle.words.proofs.Words.{refused_text_lem}
 use Rattle.text.specs.Meaning.{number_text}
 use Rattle.base.specs.Reading.{over}
-use borrow.Author.Rules.{rules}
 use Rattle.words.proofs.put_refused.Goals as goal
 
 pub put_number-requires : goal.put_number-requires

@@ -7,7 +7,6 @@ use lib.ListN.{length-set}
 use Rattle.base.specs.Reading.{over}
 use Rattle.base.proofs.Over.{stores}
 use Rattle.header.proofs.Written.{header_mode}
-use borrow.Author.Rules.{rules}
 use Rattle.psf1.proofs.Psf1.put_header.Goals as goal
 
 pub bounds-out-1 : goal.bounds-out-1

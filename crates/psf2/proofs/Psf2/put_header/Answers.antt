@@ -1,5 +1,4 @@
 -- `psf2::Psf2::put_header` meets its contract: magic, fixed fields and four numbers, one behind the other. Assumes room.
-use borrow.Author.Rules.{rules}
 use mathlib.Core.Path.{refl, ◌∙◌, ap}
 use Prim.Native.Nat.{ℕ}
 use mathlib.Core.List.{List, [], ◌++◌}

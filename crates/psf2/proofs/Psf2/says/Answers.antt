@@ -1,5 +1,4 @@
 -- `psf2::Psf2::says` meets its contract: the fields, and what follows on them. Assumes nothing.
-use borrow.Author.Rules.{rules}
 use mathlib.Core.Path.{sym, ◌∙◌}
 use Rattle.psf2.proofs.Psf2.says.Goals as goal
 

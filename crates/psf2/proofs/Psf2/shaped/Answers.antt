@@ -1,5 +1,4 @@
 -- `psf2::Psf2::shaped` meets its contract: each return is one case of the definition. Assumes nothing.
-use borrow.Author.Rules.{rules}
 use native.Mathlib.Omega.{arith}
 use mathlib.Core.Path.{◌∙◌, ap}
 use Rattle.header.proofs.Cases as cases

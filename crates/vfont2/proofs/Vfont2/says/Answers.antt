@@ -1,5 +1,4 @@
 -- `vfont2::Vfont2::says` meets its contract: the fields, and what follows on them. Assumes nothing.
-use borrow.Author.Rules.{rules}
 use mathlib.Core.Path.{sym, ◌∙◌}
 use Rattle.vfont2.proofs.Vfont2.says.Goals as goal
 
