@@ -4,26 +4,25 @@
 #![tactic(auto)]
 
 use listing::Listed;
+use std::io::{self, Read};
 
 // The listing of a file, by way of a buffer.
-fn show(file: &[u8], out: &mut [u8]) {
+fn show(rt: &impl Print, file: &[u8], out: &mut [u8]) -> io::Result<()> {
     let a = listing::list(file, out);
     match a {
-        Listed::Wrote(n) => {
-            io::write_all(1, &out[..n]);
-        }
-        Listed::Refused(_) => {}
+        Listed::Wrote(n) => rt.write_all(&out[..n]),
+        Listed::Refused(_) => Ok(()),
     }
 }
 
 // The same with a buffer that is always long enough.
-fn run(file: &[u8], out: &mut [u8; 917600]) {
-    show(file, out);
+fn run(rt: &impl Print, file: &[u8], out: &mut [u8; 917600]) -> io::Result<()> {
+    show(rt, file, out)
 }
 
-fn main() {
-    let mut file = [0u8; 65537];
-    let n = io::read_full(0, &mut file);
+fn main(rt: HostRuntime) -> io::Result<()> {
+    let mut file = Vec::new(rt.alloc());
+    rt.stdin().take(65537).read_to_end(&mut file)?;
     let mut out = [0u8; 917600];
-    run(&file[..n], &mut out);
+    run(&rt, &file, &mut out)
 }

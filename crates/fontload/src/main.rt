@@ -4,29 +4,30 @@
 #![tactic(auto)]
 
 use frames::Frames;
+use std::alloc::Global;
+use std::io::{self, Read};
 
 // The input, fed chunk by chunk.
-fn input() -> Frames {
-    let mut buf = [0u8; 4096];
+fn input(reader: &mut impl Read, alloc: Global) -> io::Result<Frames> {
+    let mut buf = Vec::new(alloc);
     let mut state = frames::fresh();
-    let mut left: usize = 1025;
-    while 0 < left {
-        let n = io::read_full(0, &mut buf);
-        state = frames::fed(state, &buf[..n]);
+    for _ in 0..1025 {
+        buf.clear();
+        let n = reader.by_ref().take(4096).read_to_end(&mut buf)?;
+        state = frames::fed(state, &buf);
         if n < 4096 {
-            return state;
+            return Ok(state);
         }
         if 0 < state.bad {
-            return state;
+            return Ok(state);
         }
-        left -= 1;
     }
-    state
+    Ok(state)
 }
 
-fn main() {
-    let answer = frames::written(frames::close(input()));
+fn main(rt: HostRuntime) -> io::Result<()> {
+    let answer = frames::written(frames::close(input(&mut rt.stdin(), rt.alloc())?));
     let n = answer.len;
     let bytes = answer.bytes;
-    io::write_all(1, &bytes[..n]);
+    rt.write_all(&bytes[..n])
 }

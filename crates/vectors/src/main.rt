@@ -14,6 +14,7 @@ use header::{Checked, Font, Kind};
 use loader::{Loader, Reply};
 use questions::{Lookup, Walk};
 use refusal::Refusal;
+use std::io::{self, Read};
 use table::Item;
 
 // Where the script is read, how long the current file is, and how long the last good conversion's output, or the file kept since.
@@ -116,12 +117,12 @@ fn fill(n: usize, b: u8, out: &mut [u8]) {
     }
 }
 
-fn say(text: &[u8]) {
-    io::write_all(1, text);
+fn say(rt: &impl Print, text: &[u8]) -> io::Result<()> {
+    rt.write_all(text)
 }
 
-fn decimal(n: usize) {
-    io::print_decimal(1, n as u64);
+fn decimal(rt: &impl Print, n: usize) -> io::Result<()> {
+    rt.print(n)
 }
 
 fn upper(b: u8) -> u8 {
@@ -132,19 +133,17 @@ fn upper(b: u8) -> u8 {
 }
 
 // A value: upper-case hexadecimal without leading zeros.
-fn value(v: u32) {
-    let mut text = [0u8; 16];
-    let k = io::hex(wide(v), 1, &mut text);
-    letters(&text[..k]);
+fn value(rt: &(impl Print + AllocGlobal), v: u32) -> io::Result<()> {
+    let text = format!(in rt.alloc(); "{v:x}")?;
+    letters(rt, text.as_bytes())
 }
 
-fn letters(text: &[u8]) {
-    let mut i = 0;
-    while i < text.len() {
-        let one = [upper(text[i])];
-        say(&one);
-        i += 1;
+fn letters(rt: &impl Print, text: &[u8]) -> io::Result<()> {
+    for b in text {
+        let one = [upper(*b)];
+        say(rt, &one)?;
     }
+    Ok(())
 }
 
 fn digit(n: u8) -> u8 {
@@ -156,105 +155,103 @@ fn digit(n: u8) -> u8 {
 }
 
 // Bytes, two upper-case digits each.
-fn bytes(p: &[u8]) {
+fn bytes(rt: &impl Print, p: &[u8]) -> io::Result<()> {
     if p.len() == 0 {
-        say(b"-");
+        say(rt, b"-")?;
     }
-    let mut i = 0;
-    while i < p.len() {
-        let b = p[i];
-        let two = [digit(b / 16), digit(b % 16)];
-        say(&two);
-        i += 1;
+    for b in p {
+        let two = [digit(*b / 16), digit(*b % 16)];
+        say(rt, &two)?;
     }
+    Ok(())
 }
 
-fn refused(r: Refusal) {
+fn refused(rt: &impl Print, r: Refusal) -> io::Result<()> {
     let reason = r.reason;
-    say(b"refused ");
-    decimal(base::size(refusal::number(reason)));
-    say(b" ");
-    decimal(r.place);
-    say(b" ");
-    decimal(r.glyph);
+    say(rt, b"refused ")?;
+    decimal(rt, base::size(refusal::number(reason)))?;
+    say(rt, b" ")?;
+    decimal(rt, r.place)?;
+    say(rt, b" ")?;
+    decimal(rt, r.glyph)
 }
 
-fn kind_name(k: Kind) {
+fn kind_name(rt: &impl Print, k: Kind) -> io::Result<()> {
     match k {
-        Kind::Psf1 => say(b"psf1 "),
-        Kind::Psf2 => say(b"psf2 "),
-        Kind::Vfont2 => say(b"vfont2 "),
+        Kind::Psf1 => say(rt, b"psf1 "),
+        Kind::Psf2 => say(rt, b"psf2 "),
+        Kind::Vfont2 => say(rt, b"vfont2 "),
     }
 }
 
-fn sound(f: Font) {
-    say(b"sound ");
+fn sound(rt: &impl Print, f: Font) -> io::Result<()> {
+    say(rt, b"sound ")?;
     let k = f.kind;
-    kind_name(k);
-    decimal(f.count);
-    say(b" ");
-    decimal(f.height);
-    say(b" ");
-    decimal(f.width);
+    kind_name(rt, k)?;
+    decimal(rt, f.count)?;
+    say(rt, b" ")?;
+    decimal(rt, f.height)?;
+    say(rt, b" ")?;
+    decimal(rt, f.width)?;
     if f.table {
-        say(b" table");
+        say(rt, b" table")
     } else {
-        say(b" bare");
+        say(rt, b" bare")
     }
 }
 
-fn checked(a: Checked) {
+fn checked(rt: &impl Print, a: Checked) -> io::Result<()> {
     match a {
-        Checked::Sound(f) => sound(f),
-        Checked::Refused(r) => refused(r),
+        Checked::Sound(f) => sound(rt, f),
+        Checked::Refused(r) => refused(rt, r),
     }
 }
 
-fn ask_check(file: &[u8]) {
-    checked(fonts::check(file));
+fn ask_check(rt: &impl Print, file: &[u8]) -> io::Result<()> {
+    checked(rt, fonts::check(file))
 }
 
-fn located(p: Part, view: &[u8]) {
+fn located(rt: &impl Print, p: Part, view: &[u8]) -> io::Result<()> {
     match p {
         Part::At(start, len) => {
-            decimal(start);
-            say(b" ");
-            decimal(len);
+            decimal(rt, start)?;
+            say(rt, b" ")?;
+            decimal(rt, len)?;
         }
-        Part::Refused(r) => refused(r),
+        Part::Refused(r) => refused(rt, r)?,
     }
-    say(b" ");
-    bytes(view);
+    say(rt, b" ")?;
+    bytes(rt, view)
 }
 
-fn ask_glyph(file: &[u8], g: usize) {
-    say(b"glyph ");
-    decimal(g);
-    say(b" ");
-    located(fonts::glyph_part(file, g), fonts::glyph(file, g));
+fn ask_glyph(rt: &impl Print, file: &[u8], g: usize) -> io::Result<()> {
+    say(rt, b"glyph ")?;
+    decimal(rt, g)?;
+    say(rt, b" ")?;
+    located(rt, fonts::glyph_part(file, g), fonts::glyph(file, g))
 }
 
-fn ask_row(file: &[u8], g: usize, y: usize) {
-    say(b"row ");
-    decimal(g);
-    say(b" ");
-    decimal(y);
-    say(b" ");
-    located(fonts::row_part(file, g, y), fonts::row(file, g, y));
+fn ask_row(rt: &impl Print, file: &[u8], g: usize, y: usize) -> io::Result<()> {
+    say(rt, b"row ")?;
+    decimal(rt, g)?;
+    say(rt, b" ")?;
+    decimal(rt, y)?;
+    say(rt, b" ")?;
+    located(rt, fonts::row_part(file, g, y), fonts::row(file, g, y))
 }
 
-fn ask_pixel(file: &[u8], g: usize, y: usize, x: usize) {
-    say(b"pixel ");
-    decimal(g);
-    say(b" ");
-    decimal(y);
-    say(b" ");
-    decimal(x);
-    say(b" ");
+fn ask_pixel(rt: &impl Print, file: &[u8], g: usize, y: usize, x: usize) -> io::Result<()> {
+    say(rt, b"pixel ")?;
+    decimal(rt, g)?;
+    say(rt, b" ")?;
+    decimal(rt, y)?;
+    say(rt, b" ")?;
+    decimal(rt, x)?;
+    say(rt, b" ")?;
     let p = fonts::pixel(file, g, y, x);
     match p {
-        Pixel::Bit(b) => decimal(base::size(base::wide(b))),
-        Pixel::Refused(r) => refused(r),
+        Pixel::Bit(b) => decimal(rt, base::size(base::wide(b))),
+        Pixel::Refused(r) => refused(rt, r),
     }
 }
 
@@ -285,91 +282,94 @@ fn is_same(m: Metrics, up: i32, down: i32, left: i32, right: i32, logical: i32) 
     m.logical == logical
 }
 
-fn told(is: bool) {
+fn told(rt: &impl Print, is: bool) -> io::Result<()> {
     if is {
-        say(b"is");
+        say(rt, b"is")
     } else {
-        say(b"is not");
+        say(rt, b"is not")
     }
 }
 
-fn asked(v: u32) {
-    decimal(base::size(v));
-    say(b" ");
+fn asked(rt: &impl Print, v: u32) -> io::Result<()> {
+    decimal(rt, base::size(v))?;
+    say(rt, b" ")
 }
 
 // Whether glyph g has these metrics, each a number of two bytes.
-fn ask_metrics(file: &[u8], g: usize, a: &[u8]) {
-    say(b"metrics ");
-    decimal(g);
-    say(b" ");
+fn ask_metrics(rt: &impl Print, file: &[u8], g: usize, a: &[u8]) -> io::Result<()> {
+    say(rt, b"metrics ")?;
+    decimal(rt, g)?;
+    say(rt, b" ")?;
     let up = short_at(a, 9);
     let down = short_at(a, 11);
     let left = short_at(a, 13);
     let right = short_at(a, 15);
     let logical = short_at(a, 17);
-    asked(up);
-    asked(down);
-    asked(left);
-    asked(right);
-    asked(logical);
+    asked(rt, up)?;
+    asked(rt, down)?;
+    asked(rt, left)?;
+    asked(rt, right)?;
+    asked(rt, logical)?;
     let r = fonts::metrics(file, g);
     match r {
-        GlyphMetrics::Is(m) => told(is_same(
-            m,
-            signed(up),
-            signed(down),
-            signed(left),
-            signed(right),
-            signed(logical),
-        )),
-        GlyphMetrics::Refused(r) => refused(r),
+        GlyphMetrics::Is(m) => told(
+            rt,
+            is_same(
+                m,
+                signed(up),
+                signed(down),
+                signed(left),
+                signed(right),
+                signed(logical),
+            ),
+        ),
+        GlyphMetrics::Refused(r) => refused(rt, r),
     }
 }
 
-fn item_text(i: Item) {
+fn item_text(rt: &(impl Print + AllocGlobal), i: Item) -> io::Result<()> {
     match i {
         Item::Single(v) => {
-            say(b"single ");
-            value(v);
+            say(rt, b"single ")?;
+            value(rt, v)
         }
-        Item::Start => say(b"start"),
+        Item::Start => say(rt, b"start"),
         Item::Value(v) => {
-            say(b"value ");
-            value(v);
+            say(rt, b"value ")?;
+            value(rt, v)
         }
-        Item::End => say(b"end"),
+        Item::End => say(rt, b"end"),
     }
 }
 
-fn ask_item(file: &[u8], g: usize, k: usize) {
-    say(b"item ");
-    decimal(g);
-    say(b" ");
-    decimal(k);
-    say(b" ");
+fn ask_item(rt: &(impl Print + AllocGlobal), file: &[u8], g: usize, k: usize) -> io::Result<()> {
+    say(rt, b"item ")?;
+    decimal(rt, g)?;
+    say(rt, b" ")?;
+    decimal(rt, k)?;
+    say(rt, b" ")?;
     let w = fonts::item(file, g, k);
     match w {
-        Walk::Is(i) => item_text(i),
-        Walk::Refused(r) => refused(r),
+        Walk::Is(i) => item_text(rt, i),
+        Walk::Refused(r) => refused(rt, r),
     }
 }
 
-fn looked_up(l: Lookup) {
+fn looked_up(rt: &impl Print, l: Lookup) -> io::Result<()> {
     match l {
         Lookup::Glyph(g) => {
-            say(b"glyph ");
-            decimal(g);
+            say(rt, b"glyph ")?;
+            decimal(rt, g)
         }
-        Lookup::Refused(r) => refused(r),
+        Lookup::Refused(r) => refused(rt, r),
     }
 }
 
-fn ask_value(file: &[u8], v: u32) {
-    say(b"value ");
-    value(v);
-    say(b" ");
-    looked_up(fonts::find_value(file, v));
+fn ask_value(rt: &(impl Print + AllocGlobal), file: &[u8], v: u32) -> io::Result<()> {
+    say(rt, b"value ")?;
+    value(rt, v)?;
+    say(rt, b" ")?;
+    looked_up(rt, fonts::find_value(file, v))
 }
 
 // The values of a sequence that stands at `at`.
@@ -387,23 +387,22 @@ fn sequence_at(script: &[u8], at: usize) -> [u32; 255]
     out
 }
 
-fn sequence_text(vs: &[u32]) {
+fn sequence_text(rt: &(impl Print + AllocGlobal), vs: &[u32]) -> io::Result<()> {
     if vs.len() == 0 {
-        say(b"-");
+        say(rt, b"-")?;
     }
-    let mut i = 0;
-    while i < vs.len() {
-        say(b"+");
-        value(vs[i]);
-        i += 1;
+    for v in vs {
+        say(rt, b"+")?;
+        value(rt, *v)?;
     }
+    Ok(())
 }
 
-fn ask_sequence(file: &[u8], vs: &[u32]) {
-    say(b"sequence ");
-    sequence_text(vs);
-    say(b" ");
-    looked_up(fonts::find_sequence(file, vs));
+fn ask_sequence(rt: &(impl Print + AllocGlobal), file: &[u8], vs: &[u32]) -> io::Result<()> {
+    say(rt, b"sequence ")?;
+    sequence_text(rt, vs)?;
+    say(rt, b" ")?;
+    looked_up(rt, fonts::find_sequence(file, vs))
 }
 
 // Where a piece of k bytes ends that begins at `at`: at the end of the file if it is shorter, or k is 0.
@@ -432,145 +431,158 @@ fn loaded(file: &[u8], k: usize) -> Loader {
     l
 }
 
-fn ask_load(file: &[u8], k: usize) {
-    say(b"load ");
-    decimal(k);
-    say(b" ");
-    checked(loader::closed_answer(loaded(file, k)));
+fn ask_load(rt: &impl Print, file: &[u8], k: usize) -> io::Result<()> {
+    say(rt, b"load ")?;
+    decimal(rt, k)?;
+    say(rt, b" ")?;
+    checked(rt, loader::closed_answer(loaded(file, k)))
 }
 
 // The file in three pieces: a bytes, b bytes and the rest.
-fn ask_cuts(file: &[u8], a: usize, b: usize) {
-    say(b"cuts ");
-    decimal(a);
-    say(b" ");
-    decimal(b);
-    say(b" ");
+fn ask_cuts(rt: &impl Print, file: &[u8], a: usize, b: usize) -> io::Result<()> {
+    say(rt, b"cuts ")?;
+    decimal(rt, a)?;
+    say(rt, b" ")?;
+    decimal(rt, b)?;
+    say(rt, b" ")?;
     let to = grown(file.len(), a, b);
     let first = loader::fed(loader::fresh(), part(file, 0, a));
     let second = loader::fed(first, part(file, a, b));
     let third = loader::fed(second, part(file, to, file.len()));
-    checked(loader::closed_answer(third));
+    checked(rt, loader::closed_answer(third))
 }
 
-fn reply(a: Reply) {
+fn reply(rt: &impl Print, a: Reply) -> io::Result<()> {
     match a {
-        Reply::Taken => say(b"taken"),
-        Reply::Refused(r) => refused(r),
+        Reply::Taken => say(rt, b"taken"),
+        Reply::Refused(r) => refused(rt, r),
     }
 }
 
 // The file in one piece, a piece after the close, and a close after the close.
-fn ask_late(file: &[u8]) {
-    say(b"late ");
+fn ask_late(rt: &impl Print, file: &[u8]) -> io::Result<()> {
+    say(rt, b"late ")?;
     let fresh = loader::fresh();
-    reply(loader::fed_answer(fresh));
-    say(b" ");
+    reply(rt, loader::fed_answer(fresh))?;
+    say(rt, b" ")?;
     let closed = loader::closed(loader::fed(fresh, file));
-    reply(loader::fed_answer(closed));
-    say(b" ");
-    checked(loader::closed_answer(loader::fed(closed, file)));
+    reply(rt, loader::fed_answer(closed))?;
+    say(rt, b" ")?;
+    checked(rt, loader::closed_answer(loader::fed(closed, file)))
 }
 
 // The questions on the loader, as those below.
-fn ask_loader(op: u8, a: &[u8], file: &[u8]) -> usize {
+fn ask_loader(rt: &impl Print, op: u8, a: &[u8], file: &[u8]) -> io::Result<usize> {
     if 0x40 <= op {
-        ask_load(file, base::size(base::wide(op % 64)));
-        say(b"\n");
-        return 1;
+        ask_load(rt, file, base::size(base::wide(op % 64)))?;
+        say(rt, b"\n")?;
+        return Ok(1);
     }
     if op == 0x18 {
-        ask_cuts(file, base::size(byte(a, 1)), base::size(byte(a, 2)));
-        say(b"\n");
-        return 3;
+        ask_cuts(rt, file, base::size(byte(a, 1)), base::size(byte(a, 2)))?;
+        say(rt, b"\n")?;
+        return Ok(3);
     }
     if op == 0x19 {
-        ask_late(file);
-        say(b"\n");
+        ask_late(rt, file)?;
+        say(rt, b"\n")?;
     }
-    1
+    Ok(1)
 }
 
 // The questions: each prints its line; the answer is the record's length.
-fn ask(script: &[u8], at: usize, op: u8, file: &[u8]) -> usize {
+fn ask(
+    rt: &(impl Print + AllocGlobal),
+    script: &[u8],
+    at: usize,
+    op: u8,
+    file: &[u8],
+) -> io::Result<usize> {
     let a = part(script, at, 25);
     match op {
         0x10 => {
-            ask_check(file);
-            say(b"\n");
-            1
+            ask_check(rt, file)?;
+            say(rt, b"\n")?;
+            Ok(1)
         }
         0x11 => {
-            ask_glyph(file, index_at(a, 1));
-            say(b"\n");
-            9
+            ask_glyph(rt, file, index_at(a, 1))?;
+            say(rt, b"\n")?;
+            Ok(9)
         }
         0x12 => {
-            ask_row(file, index_at(a, 1), index_at(a, 9));
-            say(b"\n");
-            17
+            ask_row(rt, file, index_at(a, 1), index_at(a, 9))?;
+            say(rt, b"\n")?;
+            Ok(17)
         }
         0x13 => {
-            ask_pixel(file, index_at(a, 1), index_at(a, 9), index_at(a, 17));
-            say(b"\n");
-            25
+            ask_pixel(rt, file, index_at(a, 1), index_at(a, 9), index_at(a, 17))?;
+            say(rt, b"\n")?;
+            Ok(25)
         }
         0x14 => {
-            ask_item(file, index_at(a, 1), index_at(a, 9));
-            say(b"\n");
-            17
+            ask_item(rt, file, index_at(a, 1), index_at(a, 9))?;
+            say(rt, b"\n")?;
+            Ok(17)
         }
         0x15 => {
-            ask_value(file, word_at(a, 1));
-            say(b"\n");
-            5
+            ask_value(rt, file, word_at(a, 1))?;
+            say(rt, b"\n")?;
+            Ok(5)
         }
         0x16 => {
             let n = base::size(byte(a, 1));
             let from = grown(script.len(), at, 2);
             let vs = sequence_at(script, from);
             if n <= 255 {
-                ask_sequence(file, &vs[..n]);
+                ask_sequence(rt, file, &vs[..n])?;
             }
-            say(b"\n");
-            2 + 4 * n
+            say(rt, b"\n")?;
+            Ok(2 + 4 * n)
         }
         0x17 => {
-            ask_metrics(file, index_at(a, 1), a);
-            say(b"\n");
-            19
+            ask_metrics(rt, file, index_at(a, 1), a)?;
+            say(rt, b"\n")?;
+            Ok(19)
         }
-        _ => ask_loader(op, a, file),
+        _ => ask_loader(rt, op, a, file),
     }
 }
 
 // The records that make the current file: the answer is its new length.
-fn build(script: &[u8], at: usize, op: u8, file: &mut [u8], len: usize) -> usize {
+fn build(
+    rt: &impl Print,
+    script: &[u8],
+    at: usize,
+    op: u8,
+    file: &mut [u8],
+    len: usize,
+) -> io::Result<usize> {
     let a = part(script, at, 8);
     let most = file.len();
     match op {
         0x00 => {
-            say(b"# ");
+            say(rt, b"# ")?;
             let n = base::size(byte(a, 1));
             let from = grown(script.len(), at, 2);
-            say(part(script, from, n));
-            say(b"\n");
-            len
+            say(rt, part(script, from, n))?;
+            say(rt, b"\n")?;
+            Ok(len)
         }
-        0x01 => 0,
+        0x01 => Ok(0),
         0x02 => {
             let n = base::size(short_at(a, 1));
             let from = grown(script.len(), at, 3);
             let to = least(len, most);
             put(part(script, from, n), &mut file[to..]);
-            grown(most, to, n)
+            Ok(grown(most, to, n))
         }
         0x03 => {
             let n = base::size(word_at(a, 1));
             let b = (byte(a, 5) % 256) as u8;
             let to = least(len, most);
             fill(n, b, &mut file[to..]);
-            grown(most, to, n)
+            Ok(grown(most, to, n))
         }
         0x04 => {
             let i = base::size(word_at(a, 1));
@@ -578,9 +590,9 @@ fn build(script: &[u8], at: usize, op: u8, file: &mut [u8], len: usize) -> usize
             if i < most {
                 file[i] = b;
             }
-            len
+            Ok(len)
         }
-        _ => least(len, base::size(word_at(a, 1))),
+        _ => Ok(least(len, base::size(word_at(a, 1)))),
     }
 }
 
@@ -616,28 +628,28 @@ fn checksum(p: &[u8]) -> u64 {
 }
 
 // A conversion into a buffer of A5s: its line; the answer is the output's length, or 0.
-fn ask_convert(which: u8, file: &[u8], out: &mut [u8]) -> usize {
-    say(b"convert ");
-    decimal(base::size(base::wide(which)));
-    say(b" ");
+fn ask_convert(rt: &impl Print, which: u8, file: &[u8], out: &mut [u8]) -> io::Result<usize> {
+    say(rt, b"convert ")?;
+    decimal(rt, base::size(base::wide(which)))?;
+    say(rt, b" ")?;
     let room = out.len();
-    decimal(room);
-    say(b" ");
+    decimal(rt, room)?;
+    say(rt, b" ")?;
     fill(room, 0xA5, out);
     let c = converted(which, file, out);
     let mut len = 0;
     match c {
         Converted::Wrote(n) => {
-            say(b"wrote ");
-            decimal(n);
+            say(rt, b"wrote ")?;
+            decimal(rt, n)?;
             len = n;
         }
-        Converted::Refused(r) => refused(r),
+        Converted::Refused(r) => refused(rt, r)?,
     }
-    say(b" sum ");
-    io::print_decimal(1, checksum(out));
-    say(b"\n");
-    len
+    say(rt, b" sum ")?;
+    rt.print(checksum(out))?;
+    say(rt, b"\n")?;
+    Ok(len)
 }
 
 fn edited(op: u8, buf: &mut [u8], len: usize, g: usize, v: u32) -> Edited {
@@ -647,55 +659,69 @@ fn edited(op: u8, buf: &mut [u8], len: usize, g: usize, v: u32) -> Edited {
     edit::drop_mapping(buf, len, g, v)
 }
 
-fn edit_name(op: u8) {
+fn edit_name(rt: &impl Print, op: u8) -> io::Result<()> {
     if op == 0x22 {
-        say(b"add ");
+        say(rt, b"add ")
     } else {
-        say(b"drop ");
+        say(rt, b"drop ")
     }
 }
 
 // An edit of the font in the first `len` bytes of a buffer, with A5s from `old` on: its line; the answer is the font's new length, or `old`.
-fn ask_edit(op: u8, buf: &mut [u8], len: usize, g: usize, v: u32, old: usize) -> usize {
+fn ask_edit(
+    rt: &(impl Print + AllocGlobal),
+    op: u8,
+    buf: &mut [u8],
+    len: usize,
+    g: usize,
+    v: u32,
+    old: usize,
+) -> io::Result<usize> {
     let from = least(old, buf.len());
     fill(buf.len(), 0xA5, &mut buf[from..]);
-    edit_name(op);
-    decimal(buf.len());
-    say(b" ");
-    decimal(len);
-    say(b" ");
-    decimal(g);
-    say(b" ");
-    value(v);
-    say(b" ");
+    edit_name(rt, op)?;
+    decimal(rt, buf.len())?;
+    say(rt, b" ")?;
+    decimal(rt, len)?;
+    say(rt, b" ")?;
+    decimal(rt, g)?;
+    say(rt, b" ")?;
+    value(rt, v)?;
+    say(rt, b" ")?;
     let e = edited(op, buf, len, g, v);
     let mut now = old;
     match e {
         Edited::Length(n) => {
-            say(b"length ");
-            decimal(n);
+            say(rt, b"length ")?;
+            decimal(rt, n)?;
             now = n;
         }
-        Edited::Refused(r) => refused(r),
+        Edited::Refused(r) => refused(rt, r)?,
     }
-    say(b" sum ");
-    io::print_decimal(1, checksum(buf));
-    say(b"\n");
-    now
+    say(rt, b" sum ")?;
+    rt.print(checksum(buf))?;
+    say(rt, b"\n")?;
+    Ok(now)
 }
 
 // The records of edits: the current file in a buffer of so many bytes.
-fn change(script: &[u8], op: u8, file: &mut [u8], c: Cursor) -> Cursor {
+fn change(
+    rt: &(impl Print + AllocGlobal),
+    script: &[u8],
+    op: u8,
+    file: &mut [u8],
+    c: Cursor,
+) -> io::Result<Cursor> {
     let a = part(script, c.at, 17);
     let room = least(base::size(word_at(a, 1)), file.len());
     let len = base::size(word_at(a, 5));
     let g = base::size(word_at(a, 9));
-    let now = ask_edit(op, &mut file[..room], len, g, word_at(a, 13), c.len);
-    Cursor {
+    let now = ask_edit(rt, op, &mut file[..room], len, g, word_at(a, 13), c.len)?;
+    Ok(Cursor {
         at: grown(script.len(), c.at, 17),
         len: now,
         last: c.last,
-    }
+    })
 }
 
 // A comparison of the file with the one that was kept, or of that with the file.
@@ -707,13 +733,12 @@ fn differing(which: u8, file: &[u8], kept: &[u8], out: &mut [u32]) -> Compared {
 }
 
 // Numbers, each after a blank.
-fn numbers(ns: &[u32]) {
-    let mut i = 0;
-    while i < ns.len() {
-        say(b" ");
-        decimal(base::size(ns[i]));
-        i += 1;
+fn numbers(rt: &impl Print, ns: &[u32]) -> io::Result<()> {
+    for n in ns {
+        say(rt, b" ")?;
+        decimal(rt, base::size(*n))?;
     }
+    Ok(())
 }
 
 fn numbers_sum(ns: &[u32]) -> u64 {
@@ -726,92 +751,118 @@ fn numbers_sum(ns: &[u32]) -> u64 {
     sum
 }
 
-fn compared(c: Compared, out: &[u32]) {
+fn compared(rt: &impl Print, c: Compared, out: &[u32]) -> io::Result<()> {
     match c {
         Compared::Pairs(n) => {
-            say(b"pairs ");
-            decimal(n);
+            say(rt, b"pairs ")?;
+            decimal(rt, n)?;
             let to = grown(out.len(), n, n);
-            numbers(&out[..to]);
+            numbers(rt, &out[..to])
         }
         Compared::Refused(font, r) => {
-            say(b"font ");
-            decimal(base::size(font));
-            say(b" ");
-            refused(r);
+            say(rt, b"font ")?;
+            decimal(rt, base::size(font))?;
+            say(rt, b" ")?;
+            refused(rt, r)
         }
     }
 }
 
 // A comparison in a buffer of numbers: its line.
-fn ask_differences(which: u8, file: &[u8], kept: &[u8], out: &mut [u32]) {
-    say(b"differences ");
-    decimal(base::size(base::wide(which)));
-    say(b" ");
-    decimal(out.len());
-    say(b" ");
+fn ask_differences(
+    rt: &impl Print,
+    which: u8,
+    file: &[u8],
+    kept: &[u8],
+    out: &mut [u32],
+) -> io::Result<()> {
+    say(rt, b"differences ")?;
+    decimal(rt, base::size(base::wide(which)))?;
+    say(rt, b" ")?;
+    decimal(rt, out.len())?;
+    say(rt, b" ")?;
     let c = differing(which, file, kept, out);
-    compared(c, out);
-    say(b" sum ");
-    io::print_decimal(1, numbers_sum(out));
-    say(b"\n");
+    compared(rt, c, out)?;
+    say(rt, b" sum ")?;
+    rt.print(numbers_sum(out))?;
+    say(rt, b"\n")
 }
 
 // The same in a buffer of `room` numbers, as far as there are so many.
-fn in_room(which: u8, file: &[u8], kept: &[u8], room: usize, out: &mut [u32]) {
+fn in_room(
+    rt: &impl Print,
+    which: u8,
+    file: &[u8],
+    kept: &[u8],
+    room: usize,
+    out: &mut [u32],
+) -> io::Result<()> {
     let to = least(room, out.len());
-    ask_differences(which, file, kept, &mut out[..to]);
+    ask_differences(rt, which, file, kept, &mut out[..to])
 }
 
 // The same with a buffer of A5A5A5A5s.
-fn in_numbers(which: u8, file: &[u8], kept: &[u8], room: usize) {
+fn in_numbers(rt: &impl Print, which: u8, file: &[u8], kept: &[u8], room: usize) -> io::Result<()> {
     let mut out = [0xA5A5A5A5u32; 16400];
-    in_room(which, file, kept, room, &mut out);
+    in_room(rt, which, file, kept, room, &mut out)
 }
 
 // The records of comparisons: the current file is kept in place of the last output, or compared with what stands there.
-fn comparison(script: &[u8], op: u8, file: &[u8], out: &mut [u8], c: Cursor) -> Cursor {
+fn comparison(
+    rt: &impl Print,
+    script: &[u8],
+    op: u8,
+    file: &[u8],
+    out: &mut [u8],
+    c: Cursor,
+) -> io::Result<Cursor> {
     if op == 0x24 {
         put(file, out);
-        return Cursor {
+        return Ok(Cursor {
             at: grown(script.len(), c.at, 1),
             len: file.len(),
             last: least(file.len(), out.len()),
-        };
+        });
     }
     let a = part(script, c.at, 4);
     let which = (byte(a, 1) % 256) as u8;
     let last = least(c.last, out.len());
-    in_numbers(which, file, &out[..last], base::size(short_at(a, 2)));
-    Cursor {
+    in_numbers(rt, which, file, &out[..last], base::size(short_at(a, 2)))?;
+    Ok(Cursor {
         at: grown(script.len(), c.at, 4),
         len: file.len(),
         last: last,
-    }
+    })
 }
 
 // The records of conversions: one more answer line, or the last output taken as the current file.
-fn exchange(script: &[u8], file: &mut [u8], out: &mut [u8], c: Cursor) -> Cursor {
+fn exchange(
+    rt: &impl Print,
+    script: &[u8],
+    file: &mut [u8],
+    out: &mut [u8],
+    c: Cursor,
+) -> io::Result<Cursor> {
     let a = part(script, c.at, 6);
     let op = (byte(a, 0) % 256) as u8;
     if op == 0x21 {
         let last = least(c.last, out.len());
         put(&out[..last], file);
-        return Cursor {
+        return Ok(Cursor {
             at: grown(script.len(), c.at, 1),
             len: least(last, file.len()),
             last: c.last,
-        };
+        });
     }
     let which = (byte(a, 1) % 256) as u8;
     let room = least(base::size(word_at(a, 2)), out.len());
     let len = least(c.len, file.len());
-    let last = ask_convert(which, &file[..len], &mut out[..room]);
-    Cursor {
+    let last = ask_convert(rt, which, &file[..len], &mut out[..room])?;
+    Ok(Cursor {
         at: grown(script.len(), c.at, 6),
         len: len,
         last: last,
-    }
+    })
 }
 
 fn is_exchange(op: u8) -> bool {
@@ -836,61 +887,76 @@ fn is_comparison(op: u8) -> bool {
 }
 
 // One record, if one is left.
-fn step(script: &[u8], file: &mut [u8], out: &mut [u8], c: Cursor) -> Cursor {
+fn step(
+    rt: &(impl Print + AllocGlobal),
+    script: &[u8],
+    file: &mut [u8],
+    out: &mut [u8],
+    c: Cursor,
+) -> io::Result<Cursor> {
     let at = c.at;
     if script.len() <= at {
-        return c;
+        return Ok(c);
     }
     let op = (byte(script, at) % 256) as u8;
     if op < 0x10 {
-        let len = build(script, at, op, file, c.len);
-        return Cursor {
+        let len = build(rt, script, at, op, file, c.len)?;
+        return Ok(Cursor {
             at: grown(script.len(), at, build_len(script, at, op)),
             len: len,
             last: c.last,
-        };
+        });
     }
     if is_edit(op) {
-        return change(script, op, file, c);
+        return change(rt, script, op, file, c);
     }
     let len = least(c.len, file.len());
     if is_comparison(op) {
-        return comparison(script, op, &file[..len], out, c);
+        return comparison(rt, script, op, &file[..len], out, c);
     }
     if is_exchange(op) {
-        return exchange(script, file, out, c);
+        return exchange(rt, script, file, out, c);
     }
-    let n = ask(script, at, op, &file[..len]);
-    Cursor {
+    let n = ask(rt, script, at, op, &file[..len])?;
+    Ok(Cursor {
         at: grown(script.len(), at, n),
         len: len,
         last: c.last,
-    }
+    })
 }
 
 // Each record is at least a byte long, so there are no more records than bytes.
-fn play(script: &[u8], file: &mut [u8], out: &mut [u8]) {
+fn play(
+    rt: &(impl Print + AllocGlobal),
+    script: &[u8],
+    file: &mut [u8],
+    out: &mut [u8],
+) -> io::Result<()> {
     let mut c = Cursor {
         at: 0,
         len: 0,
         last: 0,
     };
-    let mut i = 0;
-    while i < script.len() {
-        c = step(script, file, out, c);
-        i += 1;
+    for _ in script {
+        c = step(rt, script, file, out, c)?;
     }
+    Ok(())
 }
 
 // The script on a file and a buffer that have room a little over the limit.
-fn run(script: &[u8], file: &mut [u8; 1048640], out: &mut [u8; 1048640]) {
-    play(script, file, out);
+fn run(
+    rt: &(impl Print + AllocGlobal),
+    script: &[u8],
+    file: &mut [u8; 1048640],
+    out: &mut [u8; 1048640],
+) -> io::Result<()> {
+    play(rt, script, file, out)
 }
 
-fn main() {
-    let mut script = [0u8; 294912];
-    let n = io::read_full(0, &mut script);
+fn main(rt: HostRuntime) -> io::Result<()> {
+    let mut script = Vec::new(rt.alloc());
+    rt.stdin().take(294912).read_to_end(&mut script)?;
     let mut file = [0u8; 1048640];
     let mut out = [0u8; 1048640];
-    run(&script[..n], &mut file, &mut out);
+    run(&rt, &script, &mut file, &mut out)
 }
