@@ -108,11 +108,11 @@ module _ (s : List ℕ) (b : Bitmap) (i : Inside s b) (y : ℕ) (h : y < b.heigh
     row_read = rw e (sym (row_in b y h))
 
     module _ (x : ℕ) (w : x < b.width) where
-      pub pixel-inside : b.start + y * k + x / 8 < length s
-      pixel-inside = let z : x / 8 < (b.width + 7) / 8 = omega arith in omega (arith, row_fits, e)
+      pub pixel_inside : b.start + y * k + x / 8 < length s
+      pixel_inside = let z : x / 8 < (b.width + 7) / 8 = omega arith in omega (arith, row_fits, e)
 
-      pub pixel-read : (v : ℕ) → v ≡ bit_of (get_or s (b.start + y * k + x / 8) 0) (x % 8) → Bit v ≡ pixel_of s (Found b) y x
-      pixel-read v q = rw (q, e) (sym (pixel_in s b y x h w))
+      pub pixel_read : (v : ℕ) → v ≡ bit_of (get_or s (b.start + y * k + x / 8) 0) (x % 8) → Bit v ≡ pixel_of s (Found b) y x
+      pixel_read v q = rw (q, e) (sym (pixel_in s b y x h w))
 
   pub pixel_beside : (x : ℕ) → b.width ≤ x → NoPixel (refusal Ask 0) ≡ pixel_of s (Found b) y x
   pixel_beside x w = sym (pixel_past s b y x h w)

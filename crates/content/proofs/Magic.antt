@@ -13,7 +13,7 @@ use Rattle.header.specs.declared.Named.{Named}
 use Rattle.header.specs.declared.Named.TheVariants.{Is, Unknown}
 use Rattle.header.specs.Meaning.{magic_of}
 use Rattle.header.specs.Reading.{kind_of}
-use Rattle.header.proofs.Cases.{is_psf1, is_psf2, is-vfont2, no_kind}
+use Rattle.header.proofs.Cases.{is_psf1, is_psf2, is_vfont2, no_kind}
 
 -- what each answer says of the file's first bytes
 abbrev pub Begun : List ℕ → Named → Type 0
@@ -32,7 +32,7 @@ kind_says s = go (starts_with (magic_of Psf1) s) (starts_with (magic_of Psf2) s)
     go : (x y z : Bool) → starts_with (magic_of Psf1) s ≡ x → starts_with (magic_of Psf2) s ≡ y → starts_with (magic_of Vfont2) s ≡ z → Begun s (kind_of s)
     go true y z a b d = subst (Begun s) (is_psf1 s a) ((begins_exactly (magic_of Psf1) s).0 a)
     go false true z a b d = subst (Begun s) (is_psf2 s a b) ((begins_exactly (magic_of Psf2) s).0 b)
-    go false false true a b d = subst (Begun s) (is-vfont2 s a b d) ((begins_exactly (magic_of Vfont2) s).0 d)
+    go false false true a b d = subst (Begun s) (is_vfont2 s a b d) ((begins_exactly (magic_of Vfont2) s).0 d)
     go false false false a b d = subst (Begun s) (no_kind s a b d) (begins_not (magic_of Psf1) s a, begins_not (magic_of Psf2) s b, begins_not (magic_of Vfont2) s d)
 
 -- the magic of the kind that is named stands in front

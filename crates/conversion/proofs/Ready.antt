@@ -75,10 +75,10 @@ pub record Known (c : Conversion) (s : List ℕ) (f : Font) (n : ℕ) : Type 0 w
 module _ (c : Conversion) (s : List ℕ) (f : Font) (n : ℕ) where
   on_font : (g : Font) → opened_of (source_kind c) s ≡ Sound g → prepared_on c s g ≡ Ready f n → Known c s f n
   unfolding prepared_on
-  on_font g o e = by-suits (suits_of c s g) refl e
+  on_font g o e = by_suits (suits_of c s g) refl e
     where
-      by-measure : suits_of c s g ≡ Yes → (m : Measured) → measured_of c (tail_of s g) ≡ m → measured_then c g (tail_of s g) m ≡ Ready f n → Known c s f n
-      by-measure u (Length t) q e =
+      by_measure : suits_of c s g ≡ Yes → (m : Measured) → measured_of c (tail_of s g) ≡ m → measured_then c g (tail_of s g) m ≡ Ready f n → Known c s f n
+      by_measure u (Length t) q e =
           let r = fit_ready g f (front_len c g + t) n e in
           let h = r.0 in
           let k = opened_sound (source_kind c) s g o in
@@ -91,11 +91,11 @@ module _ (c : Conversion) (s : List ℕ) (f : Font) (n : ℕ) where
             long = sym r.1 ∙ ap (λ (x : Font). front_len c x + t) h;
             short = omega (arith, r.1, r.2);
           }
-      by-measure u (Uncarried k) q e = never_ready _ f n e
+      by_measure u (Uncarried k) q e = never_ready _ f n e
 
-      by-suits : (x : Suits) → suits_of c s g ≡ x → suits_then x (measured_then c g (tail_of s g) (measured_of c (tail_of s g))) ≡ Ready f n → Known c s f n
-      by-suits Yes u e = by-measure u (measured_of c (tail_of s g)) refl e
-      by-suits (Unsuited r) u e = never_ready r f n e
+      by_suits : (x : Suits) → suits_of c s g ≡ x → suits_then x (measured_then c g (tail_of s g) (measured_of c (tail_of s g))) ≡ Ready f n → Known c s f n
+      by_suits Yes u e = by_measure u (measured_of c (tail_of s g)) refl e
+      by_suits (Unsuited r) u e = never_ready r f n e
 
   pub known : prepared_of c s ≡ Ready f n → Known c s f n
   unfolding prepared_of

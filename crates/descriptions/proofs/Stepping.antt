@@ -106,8 +106,8 @@ module _ (c : Coding) (s : List ℕ) (a : ℕ) (d : Coding) (t : List ℕ) (b : 
 
     module _ (m n : ℕ) (q : code_of x ≡ code_of y) (em : m ≡ next_of a x) (en : n ≡ next_of b y) where
       -- both end
-      pub ends-here : code_of x ≡ 0 → (◌≡◌ {A = Ends} (record { same = true; first = m; second = n }) (ends_of c s a d t b)) × (m ≤ length s) × (n ≤ length t)
-      ends-here z =
+      pub ends_here : code_of x ≡ 0 → (◌≡◌ {A = Ends} (record { same = true; first = m; second = n }) (ends_of c s a d t b)) × (m ≤ length s) × (n ≤ length t)
+      ends_here z =
           let f = front c s a x la w in
           let g = front d t b y lb v in (
             ends_are c s a d t b true m n (sym (same_here x y _ _ _ _ f.1.1 g.1.1 q z)) (em ∙ sym (end_here a x _ _ z f.1.1)) (en ∙ sym (end_here b y _ _ (sym q ∙ z) g.1.1)),
@@ -116,8 +116,8 @@ module _ (c : Coding) (s : List ℕ) (a : ℕ) (d : Coding) (t : List ℕ) (b : 
           )
 
       -- both go on with the same
-      pub ends-later : (code_of x ≡ 0 → ⊥) → (m ≤ length s) × (n ≤ length t) × (ends_of c s m d t n ≡ ends_of c s a d t b) × (a < m)
-      ends-later z =
+      pub ends_later : (code_of x ≡ 0 → ⊥) → (m ≤ length s) × (n ≤ length t) × (ends_of c s m d t n ≡ ends_of c s a d t b) × (a < m)
+      ends_later z =
           let z' : code_of y ≡ 0 → ⊥ = λ e. z (q ∙ e) in
           let f = goes c s a x w z in
           let g = goes d t b y v z' in

@@ -21,7 +21,7 @@ use Rattle.frames.specs.Reading.{fresh_of, fed_of, answered_of, closed_of}
 use Rattle.frames.proofs.Feeding.{joined, bad_stays}
 use Rattle.frames.proofs.Lines as lines
 use Rattle.frames.proofs.Lines.{lines_in, more_than, more, no_more, reads_lines, behind_limit}
-use Rattle.frames.proofs.Texts.{text_in-front}
+use Rattle.frames.proofs.Texts.{text_in_front}
 use Rattle.frames.proofs.Judged.{judge, judge_frames, judge_first, fresh_fine, loads, Pieces, FirstBad, pieces}
 
 -- chunks are one input
@@ -102,7 +102,7 @@ line_exactly never cs i = (
 
 -- what is written is the text of that answer
 pub text_written : (cs : List (List ℕ)) (o : Outcome) → Answers loader_says (together cs) o → let w = output_of (outcome_text (closed_of (fed_chunks fresh_of cs))) in take w.len w.bytes ≡ outcome_text o
-text_written cs o a = text_in-front (outcome_text (closed_of (fed_chunks fresh_of cs))) ∙ ap (λ (x : Outcome). outcome_text x) ((exactly cs o).1 a)
+text_written cs o a = text_in_front (outcome_text (closed_of (fed_chunks fresh_of cs))) ∙ ap (λ (x : Outcome). outcome_text x) ((exactly cs o).1 a)
 
 -- where the program may stop reading: behind a bad line nothing changes the state
 pub stops_bad : (f : Frames) (cs : List (List ℕ)) → 0 < f.bad → fed_chunks f cs ≡ f

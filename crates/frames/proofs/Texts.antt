@@ -19,6 +19,6 @@ output_bounded text r h e =
     (omega arith, ap (λ (o : Output). length o.bytes) e ∙ length_over text (replicate 96 0) (omega (arith, zeros)) ∙ zeros)
 
 -- what is written is the text
-pub text_in-front : (text : List ℕ) → take (output_of text).len (output_of text).bytes ≡ text
+pub text_in_front : (text : List ℕ) → take (output_of text).len (output_of text).bytes ≡ text
 unfolding over
-text_in-front text = take-append_seam text (drop (length text) (replicate 96 0))
+text_in_front text = take-append_seam text (drop (length text) (replicate 96 0))

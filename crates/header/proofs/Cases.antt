@@ -31,9 +31,9 @@ module _ (s : List ℕ) where
     is_psf2 b = rw (a, b)
 
     module _ (b : starts_with (magic_of Psf2) s ≡ false) where
-      pub is-vfont2 : starts_with (magic_of Vfont2) s ≡ true → Is Vfont2 ≡ kind_of s
+      pub is_vfont2 : starts_with (magic_of Vfont2) s ≡ true → Is Vfont2 ≡ kind_of s
       unfolding kind_of when
-      is-vfont2 d = rw (a, b, d)
+      is_vfont2 d = rw (a, b, d)
 
       pub no_kind : starts_with (magic_of Vfont2) s ≡ false → Unknown ≡ kind_of s
       unfolding kind_of when

@@ -26,6 +26,7 @@ pub fn bad() -> Frame
 }
 
 // The number that a character is as an upper-case digit, or 16.
+#[tactic(auto, using(crate::proofs::Digits::value_high))]
 fn hex_value(b: u8) -> u32
     ensures { (result ≡ hex_value b) × (result ≤ 16) }
 {
@@ -60,6 +61,7 @@ fn pair_value(a: u8, b: u8) -> u32
 }
 
 // A line, of any length, as a frame.
+#[tactic(auto, using(crate::proofs::Steps::too_long, crate::proofs::Steps::bad_bounded, crate::proofs::Steps::no_byte))]
 pub fn read_line(line: &[u8]) -> Frame
     ensures equal { result ≡ frame_of line.now }
     ensures bounded { (result.len ≤ 64) × (length result.bytes ≡ 64) }

@@ -29,7 +29,7 @@ use Rattle.edit.specs.Reading.{add_into, drop_answer, drop_into}
 use Rattle.laws.specs.Meaning.{gives, refuses, lookup_says, Edits}
 use Rattle.laws.proofs.Converting.{rest_is}
 use Rattle.laws.proofs.Retabled.{over_front, over_over, Editable, same_front, new_tail, new_sound, edits, value_moved, sequence_moved, old_value, new_value}
-use Rattle.laws.proofs.Editing.{given_length, no_refusal_lem, scalar_value, either_way, drops, drops-into, adds-into, AddGood, longer_by}
+use Rattle.laws.proofs.Editing.{given_length, no_refusal_lem, scalar_value, either_way, drops, drops_into, adds_into, AddGood, longer_by}
 
 -- a good add: what the buffer holds then
 module _ (xs : List ℕ) (y : Bytes xs) (len g v n : ℕ) (r : AddGood xs y len g v n) where
@@ -58,7 +58,7 @@ module _ (xs : List ℕ) (y : Bytes xs) (len g v n : ℕ) (r : AddGood xs y len 
   long = longer_by xs y len g v ds a r.gap ∙ sym r.grown
 
   laid_new : out ≡ over new xs
-  laid_new = adds-into xs y len g v ds a r.gap r.character r.small r.room
+  laid_new = adds_into xs y len g v ds a r.gap r.character r.small r.room
 
   laid : out ≡ over (new ++ replicate (len - n) 0) xs
   laid =
@@ -148,7 +148,7 @@ module _ (xs : List ℕ) (y : Bytes xs) (len g v n : ℕ) (r : AddGood xs y len 
   drop_after_into : drop_into out n g v ≡ over (old ++ replicate (n - len) 0) xs
   drop_after_into =
       let z : length (utf8_bytes v) ≡ n - len = omega (arith, r.grown) in
-      drops-into out out_bytes n g v (added v g ds) again again_hole
+      drops_into out out_bytes n g v (added v g ds) again again_hole
       ∙ ap (λ (x : List ℕ). over (x ++ replicate (length (utf8_bytes v)) 0) out) font_back
       ∙ ap (λ (k : ℕ). over (old ++ replicate k 0) out) z
       ∙ ap (over (old ++ replicate (n - len) 0)) laid_new

@@ -165,13 +165,13 @@ module _ (s : List ℕ) (f : Font) (ys : Bytes s) (es : check_of s ≡ Sound f) 
       rows_same : d.rows ≡ e.rows
       rows_same = sym a.2 ∙ sizes.0 ∙ b.2
 
-      columns-same : d.columns ≡ e.columns
-      columns-same = sym a.3 ∙ sizes.1 ∙ b.3
+      columns_same : d.columns ≡ e.columns
+      columns_same = sym a.3 ∙ sizes.1 ∙ b.3
 
       there : (y x : ℕ) → y < d.rows → x < d.columns → pixel_at (bytes_of o q) p.width y x ≡ e.pixel y x
       there y x ly lx =
-          pixel_there o q p.width inside_q (sym sizes.1) y x (omega (arith, ly, rows_same, b.2)) (omega (arith, lx, columns-same, b.3))
-          ∙ b.4 y x (omega (arith, ly, rows_same)) (omega (arith, lx, columns-same))
+          pixel_there o q p.width inside_q (sym sizes.1) y x (omega (arith, ly, rows_same, b.2)) (omega (arith, lx, columns_same, b.3))
+          ∙ b.4 y x (omega (arith, ly, rows_same)) (omega (arith, lx, columns_same))
 
       by_bytes : (u : Bool) → same_pixels (bytes_of s p) (bytes_of o q) p.height p.width ≡ u → Compares (pixel_kind s p o q) (some d) (some e)
       unfolding pixel_kind when
@@ -179,7 +179,7 @@ module _ (s : List ℕ) (f : Font) (ys : Bytes s) (es : check_of s ≡ Sound f) 
           alike (rw z) (
             agree t,
             rows_same,
-            columns-same,
+            columns_same,
             λ y x ly lx. sym (here y x ly lx) ∙ same_all (bytes_of s p) (bytes_of o q) p.height p.width z y x (omega (arith, ly, a.2)) (omega (arith, lx, a.3)) ∙ there y x ly lx,
           )
       by_bytes false z =

@@ -141,13 +141,13 @@ module _ (s o xs : List ℕ) where
   pub listed : (n : ℕ) → compared_says (compare_answer s o (length xs)) ≡ gives n → (n ≡ length (differences_of s o)) × Listed (differences_of s o) xs (compare_into s o xs)
   listed n e = go (check_of s) (check_of o) refl refl
     where
-      refused-not : (c : Compared) (w : ℕ) (r : Refusal) → compare_answer s o (length xs) ≡ NotCompared w r → ⊥
-      refused-not c w r q = let v : told r ≡ gives n = ap compared_says (sym q) ∙ e in let z : ◌≡◌ {A = ℕ} 0 1 = cc in absurd (omega arith)
+      refused_not : (c : Compared) (w : ℕ) (r : Refusal) → compare_answer s o (length xs) ≡ NotCompared w r → ⊥
+      refused_not c w r q = let v : told r ≡ gives n = ap compared_says (sym q) ∙ e in let z : ◌≡◌ {A = ℕ} 0 1 = cc in absurd (omega arith)
 
-      room-or-not : (f h : Font) → check_of s ≡ Sound f → check_of o ≡ Sound h → (length xs < 2 * length (differences_of s o)) ⊎ (2 * length (differences_of s o) ≤ length xs) →
+      room_or_not : (f h : Font) → check_of s ≡ Sound f → check_of o ≡ Sound h → (length xs < 2 * length (differences_of s o)) ⊎ (2 * length (differences_of s o) ≤ length xs) →
           (n ≡ length (differences_of s o)) × Listed (differences_of s o) xs (compare_into s o xs)
-      room-or-not f h a b (inl l) = absurd (refused-not (Pairs n) 0 _ (both_sound s o (length xs) f h a b ∙ sym (no_room (length xs) (length (differences_of s o)) l)))
-      room-or-not f h a b (inr l) =
+      room_or_not f h a b (inl l) = absurd (refused_not (Pairs n) 0 _ (both_sound s o (length xs) f h a b ∙ sym (no_room (length xs) (length (differences_of s o)) l)))
+      room_or_not f h a b (inr l) =
           let q = both_sound s o (length xs) f h a b ∙ sym (has_room (length xs) (length (differences_of s o)) l) in
           let v : gives n ≡ gives (length (differences_of s o)) = sym e ∙ ap compared_says q in
           (given_same n _ v, subst (Listed (differences_of s o) xs) (sym (left_as (Pairs (length (differences_of s o))) q)) (laid (differences_of s o) l))
@@ -156,9 +156,9 @@ module _ (s o xs : List ℕ) where
           given_same i j w = cc
 
       go : (x z : Checked) → check_of s ≡ x → check_of o ≡ z → (n ≡ length (differences_of s o)) × Listed (differences_of s o) xs (compare_into s o xs)
-      go (Refused r) z a b = absurd (refused-not (Pairs n) 1 r (first_refused s o (length xs) r a))
-      go (Sound f) (Refused r) a b = absurd (refused-not (Pairs n) 2 r (second_refused s o (length xs) f r a b))
-      go (Sound f) (Sound h) a b = room-or-not f h a b (below (length xs) (2 * length (differences_of s o)))
+      go (Refused r) z a b = absurd (refused_not (Pairs n) 1 r (first_refused s o (length xs) r a))
+      go (Sound f) (Refused r) a b = absurd (refused_not (Pairs n) 2 r (second_refused s o (length xs) f r a b))
+      go (Sound f) (Sound h) a b = room_or_not f h a b (below (length xs) (2 * length (differences_of s o)))
 
 -- no more pairs than glyphs together
 pub count_most : (s o : List ℕ) (f h : Font) → Bytes s → Bytes o → check_of s ≡ Sound f → check_of o ≡ Sound h → length (differences_of s o) ≤ f.count + h.count

@@ -393,12 +393,12 @@ module _ (c : Conversion) (s xs : List ℕ) where
   pub stays : (r : Refusal) → converted_of c s (length xs) ≡ Refused r → converted_into c s xs ≡ xs
   stays r e = go (prepared_of c s) refl
     where
-      by-room : (f : Font) (n : ℕ) → prepared_of c s ≡ Ready f n → (length xs < n) ⊎ (n ≤ length xs) → converted_into c s xs ≡ xs
-      by-room f n q (inl l) = sym (no_room c s xs f n q l).1
-      by-room f n q (inr l) = not_both _ n r (sym (wrote c s xs f n q l).0) e
+      by_room : (f : Font) (n : ℕ) → prepared_of c s ≡ Ready f n → (length xs < n) ⊎ (n ≤ length xs) → converted_into c s xs ≡ xs
+      by_room f n q (inl l) = sym (no_room c s xs f n q l).1
+      by_room f n q (inr l) = not_both _ n r (sym (wrote c s xs f n q l).0) e
 
       go : (p : Prepared) → prepared_of c s ≡ p → converted_into c s xs ≡ xs
-      go (Ready f n) q = by-room f n q (below (length xs) n)
+      go (Ready f n) q = by_room f n q (below (length xs) n)
       go (Unprepared u) q = sym (unprepared c s xs u q).1
 
   -- an answer that something was written comes from a font that the conversion was ready for
@@ -408,13 +408,13 @@ module _ (c : Conversion) (s xs : List ℕ) where
       same_length : (k : ℕ) → Written k ≡ Written n → k ≡ n
       same_length k z = cc
 
-      by-room : (f : Font) (k : ℕ) → prepared_of c s ≡ Ready f k → (length xs < k) ⊎ (k ≤ length xs) →
+      by_room : (f : Font) (k : ℕ) → prepared_of c s ≡ Ready f k → (length xs < k) ⊎ (k ≤ length xs) →
           (f : Font) × (prepared_of c s ≡ Ready f n) × (converted_into c s xs ≡ over (output_of c s f) xs)
-      by-room f k q (inl l) = not_both _ n _ e (sym (no_room c s xs f k q l).0)
-      by-room f k q (inr l) = let w = wrote c s xs f k q l in (f, q ∙ ap (Ready f) (same_length k (w.0 ∙ e)), sym w.1)
+      by_room f k q (inl l) = not_both _ n _ e (sym (no_room c s xs f k q l).0)
+      by_room f k q (inr l) = let w = wrote c s xs f k q l in (f, q ∙ ap (Ready f) (same_length k (w.0 ∙ e)), sym w.1)
 
       go : (p : Prepared) → prepared_of c s ≡ p → (f : Font) × (prepared_of c s ≡ Ready f n) × (converted_into c s xs ≡ over (output_of c s f) xs)
-      go (Ready f k) q = by-room f k q (below (length xs) k)
+      go (Ready f k) q = by_room f k q (below (length xs) k)
       go (Unprepared u) q = not_both _ n u e (sym (unprepared c s xs u q).0)
 
   module _ (n : ℕ) (y : Bytes s) (e : converted_of c s (length xs) ≡ Written n) where

@@ -101,26 +101,26 @@ module _ (s : List ℕ) (after : Font → Said Font → Type 0) (x : Said Font) 
 
     -- rows 3 to 6, whatever rows follow on the fields
     module _ (shaped : Fields → Checked) (there : on_fields shaped (head_of s) ≡ says_of s) where
-      stop-head : (r : Refusal) → NoHead r ≡ head_of s → x ≡ told r
-      stop-head r e = stop_header r (ap (on_fields shaped) e ∙ there)
+      stop_head : (r : Refusal) → NoHead r ≡ head_of s → x ≡ told r
+      stop_head r e = stop_header r (ap (on_fields shaped) e ∙ there)
 
       head_rows : (rest : Said Font → Type 0) → (shaped (fields_of s) ≡ says_of s → Exact x rest) → Exact x (HeadRows s rest)
       head_rows rest next =
-          row (less (length s) 32) (λ h. stop-head _ (header.head_cut s h)) (λ c.
-          row (other (le32 s 4) 0) (λ h. stop-head _ (header.head_version s (omega arith, h))) (λ v'.
+          row (less (length s) 32) (λ h. stop_head _ (header.head_cut s h)) (λ c.
+          row (other (le32 s 4) 0) (λ h. stop_head _ (header.head_version s (omega arith, h))) (λ v'.
           let v : le32 s 4 ≡ 0 = equal (le32 s 4) 0 v' in
           let long : header.Long s = (omega arith, v) in
-          row (less 1 (le32 s 12)) (λ h. stop-head _ (header.head_flags s (long, h))) (λ b.
+          row (less 1 (le32 s 12)) (λ h. stop_head _ (header.head_flags s (long, h))) (λ b.
           let flags : header.Flags s = (long, omega arith) in
           row (either (less (le32 s 8) 32) (less 4096 (le32 s 8)))
-          (⊎_elim (λ h. stop-head _ (header.head_low s (flags, h)))
-          (λ h. stop-head _ (header.head_high s (flags, omega arith, h)))) (λ z.
+          (⊎_elim (λ h. stop_head _ (header.head_low s (flags, h)))
+          (λ h. stop_head _ (header.head_high s (flags, omega arith, h)))) (λ z.
           let low : le32 s 8 < 32 → ⊥ = λ h. z (inl h) in
           let high : 4096 < le32 s 8 → ⊥ = λ h. z (inr h) in
           let start : header.Start s = (flags, omega arith, omega arith) in
           row (either (same (le32 s 16) 0) (less 4096 (le32 s 16)))
-          (⊎_elim (λ h. stop-head _ (header.head_none s (start, h)))
-          (λ h. stop-head _ (header.head_many s (start, (λ e. absurd (omega arith)), h)))) (λ n.
+          (⊎_elim (λ h. stop_head _ (header.head_none s (start, h)))
+          (λ h. stop_head _ (header.head_many s (start, (λ e. absurd (omega arith)), h)))) (λ n.
           let some : le32 s 16 ≡ 0 → ⊥ = λ h. n (inl h) in
           let few : 4096 < le32 s 16 → ⊥ = λ h. n (inr h) in
           next (ap (on_fields shaped) (header.head_sound s (start, some, omega arith)) ∙ there))))))

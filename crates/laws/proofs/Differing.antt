@@ -412,18 +412,18 @@ module _ (s : List ℕ) (ys : Bytes s) (m : Content) (a : HasContent s m) (o : L
   pairs_ordered =
       subst Ordered (sym pairs_are)
       (ordered_append (pair_of table 0) (plain κ ι low 0 ++ rest_from only (high - low) low) (pair_ordered table 0)
-      (ordered_append (plain κ ι low 0) (rest_from only (high - low) low) (plain_ordered κ ι kinds fives low 0) (rest_ordered only only_some only-low (high - low) low)
+      (ordered_append (plain κ ι low 0) (rest_from only (high - low) low) (plain_ordered κ ι kinds fives low 0) (rest_ordered only only_some only_low (high - low) low)
       (λ p q i j.
       let u = plain_in κ ι low 0 p.0 p.1 i in
       let v = rest_in only only_some (high - low) low q.0 q.1 j in
       let x = not_six κ ι kinds fives low 0 p.0 p.1 i in
-      inr ((λ e. absurd (omega (arith, e, x))), (λ e. absurd (omega (arith, e, v.0, only-low))), inl (omega (arith, u.1, v.1)))))
+      inr ((λ e. absurd (omega (arith, e, x))), (λ e. absurd (omega (arith, e, v.0, only_low))), inl (omega (arith, u.1, v.1)))))
       (λ p q i j.
       let u = pair_in table 0 p.0 p.1 i in
-      inl (u.0 ∙ six u.2, λ e. not-later q e (in_either (q.0, q.1) (plain κ ι low 0) (rest_from only (high - low) low) j))))
+      inl (u.0 ∙ six u.2, λ e. not_later q e (in_either (q.0, q.1) (plain κ ι low 0) (rest_from only (high - low) low) j))))
     where
-      only-low : only < 6
-      only-low = go (counts f.count h.count)
+      only_low : only < 6
+      only_low = go (counts f.count h.count)
         where
           go : Counts f.count h.count → only < 6
           go (inl c) = omega (arith, c.3)
@@ -436,9 +436,9 @@ module _ (s : List ℕ) (ys : Bytes s) (m : Content) (a : HasContent s m) (o : L
           go (inl c) = absurd (n c.1)
           go (inr c) = c.1
 
-      not-later : (q : ℕ × ℕ) → q.0 ≡ 6 → In (q.0, q.1) (plain κ ι low 0) ⊎ In (q.0, q.1) (rest_from only (high - low) low) → ⊥
-      not-later q e (inl i) = omega (arith, e, not_six κ ι kinds fives low 0 q.0 q.1 i)
-      not-later q e (inr i) = omega (arith, e, (rest_in only only_some (high - low) low q.0 q.1 i).0, only-low)
+      not_later : (q : ℕ × ℕ) → q.0 ≡ 6 → In (q.0, q.1) (plain κ ι low 0) ⊎ In (q.0, q.1) (rest_from only (high - low) low) → ⊥
+      not_later q e (inl i) = omega (arith, e, not_six κ ι kinds fives low 0 q.0 q.1 i)
+      not_later q e (inr i) = omega (arith, e, (rest_in only only_some (high - low) low q.0 q.1 i).0, only_low)
 
   differences_found : Differences m m' (pairs_of s f o h)
   differences_found = record { exactly = λ k g. (found_differs k g, differs_found k g); ordered = pairs_ordered }

@@ -34,7 +34,7 @@ use Rattle.edit.specs.Reading.{drop_into}
 use Rattle.laws.specs.Meaning.{gives, refuses, lookup_says, Edits}
 use Rattle.laws.proofs.Reading.{is_found, is_unmapped}
 use Rattle.laws.proofs.Retabled.{Editable, one_reading, edits, value_moved, sequence_moved, new_value}
-use Rattle.laws.proofs.Editing.{drops-into, DropGood, shorter_by}
+use Rattle.laws.proofs.Editing.{drops_into, DropGood, shorter_by}
 use Rattle.laws.proofs.Converting.{one_font}
 
 -- what is found among items is the lowest glyph that lists it
@@ -74,7 +74,7 @@ module _ (xs : List ℕ) (y : Bytes xs) (len g v n : ℕ) (r : DropGood xs y len
   long = (shorter_by xs y len g v ds a r.hole).0 ∙ sym r.shrunk
 
   laid : out ≡ over (new ++ replicate (len - n) 0) xs
-  laid = drops-into xs y len g v ds a r.hole ∙ ap (λ (k : ℕ). over (new ++ replicate k 0) xs) (sym freed)
+  laid = drops_into xs y len g v ds a r.hole ∙ ap (λ (k : ℕ). over (new ++ replicate k 0) xs) (sym freed)
 
   small : n ≤ limit
   small =
@@ -108,11 +108,11 @@ module _ (xs : List ℕ) (y : Bytes xs) (len g v n : ℕ) (r : DropGood xs y len
       not_listed : Lists v g (dropped v g ds) → ⊥
       not_listed = subst (λ (x : List Desc). Lists v g (dropped v g x) → ⊥) read_so gone
 
-      new-said : lookup_says (value_glyph (take n out) v) ≡ lookup_says (lookup_of (find_value v 0 (items (dropped v g ds))))
-      new-said = ap lookup_says (new_value xs y len g v ds a (without_single v) values n out laid long small room)
+      new_said : lookup_says (value_glyph (take n out) v) ≡ lookup_says (lookup_of (find_value v 0 (items (dropped v g ds))))
+      new_said = ap lookup_says (new_value xs y len g v ds a (without_single v) values n out laid long small room)
 
-      found-so : (h : ℕ) → (find_value v 0 (items (dropped v g ds)) ≡ At h) ↔ Lowest (ListsValue v) 0 (dropped v g ds) h
-      found-so h = lowest_value v (dropped v g ds) h
+      found_so : (h : ℕ) → (find_value v 0 (items (dropped v g ds)) ≡ At h) ↔ Lowest (ListsValue v) 0 (dropped v g ds) h
+      found_so h = lowest_value v (dropped v g ds) h
 
       pub drop_lowest : (h : ℕ) → (lookup_says (value_glyph (take n out) v) ≡ gives h) ↔ LowestOther (ListsValue v) g es h
       drop_lowest h = (there, back)
@@ -120,11 +120,11 @@ module _ (xs : List ℕ) (y : Bytes xs) (len g v n : ℕ) (r : DropGood xs y len
           there : lookup_says (value_glyph (take n out) v) ≡ gives h → LowestOther (ListsValue v) g es h
           there e =
               subst (λ (x : List Desc). LowestOther (ListsValue v) g x h) (sym read_so)
-              (other_lowest g ds v not_listed h ((found-so h).0 (is_found (find_value v 0 (items (dropped v g ds))) h (sym new-said ∙ e))))
+              (other_lowest g ds v not_listed h ((found_so h).0 (is_found (find_value v 0 (items (dropped v g ds))) h (sym new_said ∙ e))))
 
           back : LowestOther (ListsValue v) g es h → lookup_says (value_glyph (take n out) v) ≡ gives h
           back l =
-              new-said ∙ ap (λ (x : Found). lookup_says (lookup_of x)) ((found-so h).1 (lowest_other g ds v not_listed h (subst (λ (x : List Desc). LowestOther (ListsValue v) g x h) read_so l)))
+              new_said ∙ ap (λ (x : Found). lookup_says (lookup_of x)) ((found_so h).1 (lowest_other g ds v not_listed h (subst (λ (x : List Desc). LowestOther (ListsValue v) g x h) read_so l)))
 
       pub drop_unmapped : (lookup_says (value_glyph (take n out) v) ≡ refuses 15 0) ↔ NoOther (ListsValue v) g es
       drop_unmapped = (there, back)
@@ -132,8 +132,8 @@ module _ (xs : List ℕ) (y : Bytes xs) (len g v n : ℕ) (r : DropGood xs y len
           there : lookup_says (value_glyph (take n out) v) ≡ refuses 15 0 → NoOther (ListsValue v) g es
           there e =
               subst (λ (x : List Desc). NoOther (ListsValue v) g x) (sym read_so)
-              (other_nowhere g ds v not_listed ((no_lowest_value v (dropped v g ds)).0 (is_unmapped (find_value v 0 (items (dropped v g ds))) (sym new-said ∙ e))))
+              (other_nowhere g ds v not_listed ((no_lowest_value v (dropped v g ds)).0 (is_unmapped (find_value v 0 (items (dropped v g ds))) (sym new_said ∙ e))))
 
           back : NoOther (ListsValue v) g es → lookup_says (value_glyph (take n out) v) ≡ refuses 15 0
           back l =
-              new-said ∙ ap (λ (x : Found). lookup_says (lookup_of x)) ((no_lowest_value v (dropped v g ds)).1 (nowhere_other g ds v not_listed (subst (λ (x : List Desc). NoOther (ListsValue v) g x) read_so l)))
+              new_said ∙ ap (λ (x : Found). lookup_says (lookup_of x)) ((no_lowest_value v (dropped v g ds)).1 (nowhere_other g ds v not_listed (subst (λ (x : List Desc). NoOther (ListsValue v) g x) read_so l)))

@@ -148,8 +148,8 @@ module _ (xs : List ℕ) (len g v : ℕ) where
     own r e = near (Unsound r) (not_opened Psf2 file r e)
 
     module _ (f : Font) (e : check_of file ≡ Sound f) where
-      other-kind : (f.kind ≡ Psf2 → ⊥) → sought_of xs len g v ≡ NotSought (refusal WrongKind 0)
-      other-kind n = near (Unsound (refusal WrongKind 0)) (wrong_kind Psf2 file f e (not_alike Psf2 f.kind n))
+      other_kind : (f.kind ≡ Psf2 → ⊥) → sought_of xs len g v ≡ NotSought (refusal WrongKind 0)
+      other_kind n = near (Unsound (refusal WrongKind 0)) (wrong_kind Psf2 file f e (not_alike Psf2 f.kind n))
 
       module _ (kind : f.kind ≡ Psf2) where
         right : sought_of xs len g v ≡ sought_on file g v f
@@ -216,7 +216,7 @@ module _ (xs : List ℕ) (y : Bytes xs) (len g v : ℕ) where
       row (less (length xs) len) (λ h. said (far xs len g v h)) (λ h.
       let w : len ≤ length xs = omega arith in
       own_first (take len xs) (λ r e. said (own xs len g v w r e)) (λ f e.
-      row (wrong_or f.kind Psf2) (λ n. said (other-kind xs len g v w f e n)) (λ n.
+      row (wrong_or f.kind Psf2) (λ n. said (other_kind xs len g v w f e n)) (λ n.
       let k = not_wrong f.kind Psf2 n in
       row (bare_or f.table) (λ t. said (no_table xs len g v w f e k t)) (λ m.
       let t = not_bare f.table m in
@@ -258,25 +258,25 @@ module _ (xs : List ℕ) (y : Bytes xs) (len g v : ℕ) where
       abbrev from : ℕ
       from = end + length h.front
 
-      sought-hole : sought_of xs len g v ≡ Listed from (from + size)
-      sought-hole =
+      sought_hole : sought_of xs len g v ≡ Listed from (from + size)
+      sought_hole =
           let q : end + (length h.front + length (value_bytes Utf8 v)) ≡ from + size = omega (arith, ap length (utf8_value Utf8 v refl)) in
           sought_as (ListedAt (length h.front) (length h.front + length (value_bytes Utf8 v))) h.place ∙ ap (Listed from) q
 
       have : add_answer xs len g v ≡ Refused (refusal Have 0)
-      have = sym (cases.add_have xs len g v from (from + size) (sym sought-hole)).0
+      have = sym (cases.add_have xs len g v from (from + size) (sym sought_hole)).0
 
       less_by : from + size - from ≡ size
       less_by = omega arith
 
       taken : (Length (len - (from + size - from)) ≡ drop_answer xs len g v) × (over (removed from (from + size - from) s ++ replicate (from + size - from) 0) xs ≡ drop_into xs len g v)
-      taken = cases.drop_taken xs len g v from (from + size) (over (removed from (from + size - from) s ++ replicate (from + size - from) 0) xs) (sym sought-hole) refl
+      taken = cases.drop_taken xs len g v from (from + size) (over (removed from (from + size - from) s ++ replicate (from + size - from) 0) xs) (sym sought_hole) refl
 
       pub drops : drop_answer xs len g v ≡ Length (len - size)
       drops = sym taken.0 ∙ ap (λ (n : ℕ). Length (len - n)) less_by
 
-      pub drops-into : drop_into xs len g v ≡ over ((take end s ++ encode Utf8 (dropped v g ds)) ++ replicate size 0) xs
-      drops-into =
+      pub drops_into : drop_into xs len g v ≡ over ((take end s ++ encode Utf8 (dropped v g ds)) ++ replicate size 0) xs
+      drops_into =
           sym taken.1 ∙ ap (λ (n : ℕ). over (removed from n s ++ replicate n 0) xs) less_by
           ∙ ap (λ (x : List ℕ). over (x ++ replicate size 0) xs) (out ∙ ap (λ (x : List ℕ). take end s ++ x) (sym h.less))
         where
@@ -287,34 +287,34 @@ module _ (xs : List ℕ) (y : Bytes xs) (len g v : ℕ) where
       abbrev to : ℕ
       to = end + length p.front
 
-      sought-gap : sought_of xs len g v ≡ Unlisted to
-      sought-gap = sought_as (UnlistedAt (length p.front)) p.place
+      sought_gap : sought_of xs len g v ≡ Unlisted to
+      sought_gap = sought_as (UnlistedAt (length p.front)) p.place
 
       not_there : drop_answer xs len g v ≡ Refused (refusal NotThere 0)
-      not_there = sym (cases.drop_none xs len g v to (sym sought-gap)).0
+      not_there = sym (cases.drop_none xs len g v to (sym sought_gap)).0
 
       put : (r : Edited) → r ≡ insert_answer (length xs) len v → (r ≡ add_answer xs len g v) × (left_by r (inserted to (utf8_bytes v) s) xs ≡ add_into xs len g v)
-      put r e = cases.add_put xs len g v to r (left_by r (inserted to (utf8_bytes v) s) xs) (sym sought-gap) e refl
+      put r e = cases.add_put xs len g v to r (left_by r (inserted to (utf8_bytes v) s) xs) (sym sought_gap) e refl
 
       asks : Noncharacter v → add_answer xs len g v ≡ Refused (refusal Ask 0)
       asks o = sym (put (Refused (refusal Ask 0)) (cases.asked (length xs) len v ((noncharacter_exactly v).1 o))).0
 
       -- of a value that is no noncharacter
-      put-value : (Noncharacter v → ⊥) → (r : Edited) → r ≡ fitted (length xs) (longer len v) → (r ≡ add_answer xs len g v) × (left_by r (inserted to (utf8_bytes v) s) xs ≡ add_into xs len g v)
-      put-value o r e = put r (e ∙ cases.unasked (length xs) len v (no_noncharacter v o))
+      put_value : (Noncharacter v → ⊥) → (r : Edited) → r ≡ fitted (length xs) (longer len v) → (r ≡ add_answer xs len g v) × (left_by r (inserted to (utf8_bytes v) s) xs ≡ add_into xs len g v)
+      put_value o r e = put r (e ∙ cases.unasked (length xs) len v (no_noncharacter v o))
 
       too_large : (Noncharacter v → ⊥) → limit < len + size → add_answer xs len g v ≡ Refused (refusal Size 0)
-      too_large o h = sym (put-value o (Refused (refusal Size 0)) (cases.over_limit (length xs) len v size refl h)).0
+      too_large o h = sym (put_value o (Refused (refusal Size 0)) (cases.over_limit (length xs) len v size refl h)).0
 
       no_room : (Noncharacter v → ⊥) → len + size ≤ limit → length xs < len + size → add_answer xs len g v ≡ Refused (refusal Room (len + size))
-      no_room o h k = sym (put-value o (Refused (refusal Room (len + size))) (cases.no_room (length xs) len v size refl h k)).0
+      no_room o h k = sym (put_value o (Refused (refusal Room (len + size))) (cases.no_room (length xs) len v size refl h k)).0
 
       adds : (Noncharacter v → ⊥) → len + size ≤ limit → len + size ≤ length xs → add_answer xs len g v ≡ Length (len + size)
-      adds o h k = sym (put-value o (Length (len + size)) (cases.fits (length xs) len v size refl h k)).0
+      adds o h k = sym (put_value o (Length (len + size)) (cases.fits (length xs) len v size refl h k)).0
 
-      pub adds-into : (Noncharacter v → ⊥) → len + size ≤ limit → len + size ≤ length xs → add_into xs len g v ≡ over (take end s ++ encode Utf8 (added v g ds)) xs
-      adds-into o h k =
-          sym (put-value o (Length (len + size)) (cases.fits (length xs) len v size refl h k)).1
+      pub adds_into : (Noncharacter v → ⊥) → len + size ≤ limit → len + size ≤ length xs → add_into xs len g v ≡ over (take end s ++ encode Utf8 (added v g ds)) xs
+      adds_into o h k =
+          sym (put_value o (Length (len + size)) (cases.fits (length xs) len v size refl h k)).1
           ∙ ap (λ (x : List ℕ). over x xs)
           (inserted_behind s p.front (utf8_bytes v) p.back end placed_end (a.same ∙ p.same)
           ∙ ap (λ (x : List ℕ). take end s ++ x) (ap (λ (x : List ℕ). p.front ++ (x ++ p.back)) (utf8_value Utf8 v refl) ∙ sym p.more))
@@ -430,11 +430,11 @@ module _ (xs : List ℕ) (y : Bytes xs) (len g v : ℕ) (ds : List Desc) (a : Ed
   pub shorter_by : Hole Utf8 v g ds → (length (take stop (take len xs) ++ encode Utf8 (dropped v g ds)) ≡ len - length (utf8_bytes v)) × (length (utf8_bytes v) ≤ len)
   shorter_by h =
       let t = tabled (dropped v g ds) in
-      let e = omega-of h in
+      let e = omega_of h in
       (omega (arith, t.0, t.1, e.0, e.1), omega (arith, t.0, e.0))
     where
-      omega-of : Hole Utf8 v g ds → (length (encode Utf8 ds) ≡ length h.front + (length (utf8_bytes v) + length h.back)) × (length (encode Utf8 (dropped v g ds)) ≡ length h.front + length h.back)
-      omega-of o = (
+      omega_of : Hole Utf8 v g ds → (length (encode Utf8 ds) ≡ length h.front + (length (utf8_bytes v) + length h.back)) × (length (encode Utf8 (dropped v g ds)) ≡ length h.front + length h.back)
+      omega_of o = (
         omega (arith, ap length h.same, length-append h.front (value_bytes Utf8 v ++ h.back), length-append (value_bytes Utf8 v) h.back, ap length (utf8_value Utf8 v refl)),
         omega (arith, ap length h.less, length-append h.front h.back),
       )

@@ -157,9 +157,9 @@ module _ (f : Font) (s : List ℕ) (within : f.end ≤ length s) (short : length
       at_cut zero z q = absurd (omega arith)
       at_cut (suc k) z q = let end : length s ≡ f.end + length (tail_of s f) = omega (arith, l) in ap (λ (m : ℕ). Refused (refusal_at TableCut m r.ended)) end
 
-      at-whole : (k : ℕ) → f.count - r.ended ≡ k → f.count ≤ r.ended → Sound f ≡ answered f (at_end r.ended k (length (tail_of s f)))
-      at-whole zero z q = refl
-      at-whole (suc k) z q = absurd (omega arith)
+      at_whole : (k : ℕ) → f.count - r.ended ≡ k → f.count ≤ r.ended → Sound f ≡ answered f (at_end r.ended k (length (tail_of s f)))
+      at_whole zero z q = refl
+      at_whole (suc k) z q = absurd (omega arith)
 
       going : r.halted ≡ 0 → answered f (at_end r.ended (f.count - r.ended) (length (tail_of s f))) ≡ answered f (table_told f.count (length (tail_of s f)) r)
       going z = rw (eq-eqb r.halted 0 z)
@@ -168,7 +168,7 @@ module _ (f : Font) (s : List ℕ) (within : f.end ≤ length s) (short : length
       go (inl z) y =
           ⊎_elim
           (λ (k : r.ended < f.count). sym (table_cut f (length s) t b (h ∙ z) (omega arith)) ∙ ap (λ (m : ℕ). Refused (refusal_at TableCut (length s) m)) e ∙ at_cut (f.count - r.ended) refl k ∙ going z)
-          (λ (k : f.count ≤ r.ended). sym (table_whole f (length s) t b (h ∙ z) (omega arith)) ∙ at-whole (f.count - r.ended) refl k ∙ going z)
+          (λ (k : f.count ≤ r.ended). sym (table_whole f (length s) t b (h ∙ z) (omega arith)) ∙ at_whole (f.count - r.ended) refl k ∙ going z)
           (below r.ended f.count)
       go (inr z) (inl y) =
           sym (table_over f (length s) t b (λ k. z (sym h ∙ k)) (h ∙ y))

@@ -237,10 +237,10 @@ module _ (c : Conversion) (tl : List ℕ) (ds : List Desc) (o : Readable (coding
 
 -- an item that one coding has and another hasn't has a value that the other hasn't
 uncarried_value : (from to : Coding) (i : Item) → OfCoding from (i ∷ []) → (OfCoding to (i ∷ []) → ⊥) → (v : ℕ) × Holds v i × ValueOf from v × (ValueOf to v → ⊥)
-uncarried_value from to (Single v) o u = (v, inl refl, o.0, λ x. u (x, tt))
-uncarried_value from to (InSequence v) o u = (v, inr refl, o.0, λ x. u (x, tt))
-uncarried_value from to Start o u = absurd (u tt)
-uncarried_value from to End o u = absurd (u tt)
+uncarried_value a b (Single v) o u = (v, inl refl, o.0, λ x. u (x, tt))
+uncarried_value a b (InSequence v) o u = (v, inr refl, o.0, λ x. u (x, tt))
+uncarried_value a b Start o u = absurd (u tt)
+uncarried_value a b End o u = absurd (u tt)
 
 item_of : (c : Coding) (before : List Item) (i : Item) (after : List Item) → OfCoding c (before ++ (i ∷ after)) → OfCoding c (i ∷ [])
 item_of c [] (Single v) after o = (o.0, tt)
@@ -274,11 +274,11 @@ carried_value c (End ∷ is) v o (inr h) = carried_value c is v o h
 
 -- items of one coding whose values all are another's
 all_carried : (from to : Coding) (is js : List Item) → OfCoding from (is ++ js) → ((v : ℕ) → ValueOf from v → Any (Holds v) is → ValueOf to v) → OfCoding to is
-all_carried from to [] js o f = tt
-all_carried from to (Single v ∷ is) js o f = (f v o.0 (inl (inl refl)), all_carried from to is js o.1 (λ w p h. f w p (inr h)))
-all_carried from to (InSequence v ∷ is) js o f = (f v o.0 (inl (inr refl)), all_carried from to is js o.1 (λ w p h. f w p (inr h)))
-all_carried from to (Start ∷ is) js o f = all_carried from to is js o (λ w p h. f w p (inr h))
-all_carried from to (End ∷ is) js o f = all_carried from to is js o (λ w p h. f w p (inr h))
+all_carried a b [] js o f = tt
+all_carried a b (Single v ∷ is) js o f = (f v o.0 (inl (inl refl)), all_carried a b is js o.1 (λ w p h. f w p (inr h)))
+all_carried a b (InSequence v ∷ is) js o f = (f v o.0 (inl (inr refl)), all_carried a b is js o.1 (λ w p h. f w p (inr h)))
+all_carried a b (Start ∷ is) js o f = all_carried a b is js o (λ w p h. f w p (inr h))
+all_carried a b (End ∷ is) js o f = all_carried a b is js o (λ w p h. f w p (inr h))
 
 held_value : (c : Coding) (i : Item) (v : ℕ) → Holds v i → OfCoding c (i ∷ []) → ValueOf c v
 held_value c i v h o = carried_value c (i ∷ []) v o (inl h)

@@ -115,17 +115,17 @@ module _ {F X : Type 0} (A : Stretch F X) where
             ∙ sym (later (total + length p) _ _ S y (omega (arith, reach)))
 
     pub region_twice : region total h x (p ++ s) ≡ region (total + length p) (A.held_in (region total h x p)) (A.rest_in (region total h x p)) s
-    region_twice = ap (in_part total h x) whole ∙ ⊎_elim by-none by-some (same (length P) 0)
+    region_twice = ap (in_part total h x) whole ∙ ⊎_elim by_none by_some (same (length P) 0)
       where
-        by-none : length P ≡ 0 → in_part total h x (P ++ S) ≡ in_part (total + length p) (A.held_in (in_part total h x P)) (A.rest_in (in_part total h x P)) S
-        by-none z =
+        by_none : length P ≡ 0 → in_part total h x (P ++ S) ≡ in_part (total + length p) (A.held_in (in_part total h x P)) (A.rest_in (in_part total h x P)) S
+        by_none z =
             let e : in_part total h x P ≡ A.both h x = none total h x P z in
             from_none z (same (length S) 0)
             ∙ sym (ap (λ (f : F). in_part (total + length p) (A.held_in f) (A.rest_in f) S) e
             ∙ ap (λ (g : Held). in_part (total + length p) g (A.rest_in (A.both h x)) S) (A.held_both h x) ∙ ap (λ (y : X). in_part (total + length p) h y S) (A.rest_both h x))
 
-        by-some : (length P ≡ 0 → ⊥) → in_part total h x (P ++ S) ≡ in_part (total + length p) (A.held_in (in_part total h x P)) (A.rest_in (in_part total h x P)) S
-        by-some z = from_some z (same (length S) 0)
+        by_some : (length P ≡ 0 → ⊥) → in_part total h x (P ++ S) ≡ in_part (total + length p) (A.held_in (in_part total h x P)) (A.rest_in (in_part total h x P)) S
+        by_some z = from_some z (same (length S) 0)
 
   -- what is held then
   pub region_held : (P : Held → Type 0) (total : ℕ) (h : Held) (x : X) (p : List ℕ) → P h → P (held_of []) → ((at : ℕ) (g : Held) (q : List ℕ) → P g → P (A.held_in (A.fed at g x q))) → P (A.held_in (region total h x p))

@@ -15,7 +15,7 @@ use Rattle.utf8.specs.Meaning.{Scalar, Utf8Value, utf8_bytes}
 use Rattle.laws.specs.Meaning.{In, WellFormed}
 use Rattle.utf8.specs.Reading.{read_value, read_utf8, as_token}
 use Rattle.utf8.proofs.Rows.{row_y}
-use Rattle.utf8.proofs.First.{no_value, no_bytes, empty, no-mark, back_value}
+use Rattle.utf8.proofs.First.{no_value, no_bytes, empty, no_mark, back_value}
 use Rattle.utf8.proofs.Writing.{bytes1, bytes2, bytes3, bytes4}
 use Rattle.utf8.proofs.Coding.{first_byte, coded_utf8}
 
@@ -134,13 +134,13 @@ value_token : (s : List ℕ) → Bytes s → (v l : ℕ) → read_value s ≡ Re
 value_token [] y v l e = let z = no_bytes [] refl ∙ e in let x : ◌≡◌ {A = ℕ} 0 1 = cc in absurd (omega arith)
 value_token (b ∷ t) y v l e =
     let h = not_mark b t v l y.0 e in
-    sym (no-mark (b ∷ t) (omega arith) (λ z. absurd (omega arith)) (λ z. absurd (omega arith))) ∙ ap as_token e
+    sym (no_mark (b ∷ t) (omega arith) (λ z. absurd (omega arith)) (λ z. absurd (omega arith))) ∙ ap as_token e
 
 token_value : (s : List ℕ) → Bytes s → (v l : ℕ) → read_utf8 s ≡ Value v l → read_value s ≡ ReadValue v l
 token_value [] y v l e = let z = empty [] refl ∙ e in let x : ◌≡◌ {A = ℕ} 0 1 = cc in absurd (omega arith)
 token_value (b ∷ t) y v l e =
     let h : b < 254 = rw e at (first_byte b t y.0) in
-    back_value _ v l (no-mark (b ∷ t) (omega arith) (λ z. absurd (omega arith)) (λ z. absurd (omega arith)) ∙ e)
+    back_value _ v l (no_mark (b ∷ t) (omega arith) (λ z. absurd (omega arith)) (λ z. absurd (omega arith)) ∙ e)
 
 begins_rest : (p s : List ℕ) → Begins p s → s ≡ p ++ drop (length p) s
 begins_rest p s b = sym (take-append-drop (length p) s) ∙ ap (λ (x : List ℕ). x ++ drop (length p) s) b

@@ -51,6 +51,7 @@ pub fn fresh() -> Loader
 }
 
 // Whether a record can be fed: it is not closed, and the number of its unfinished bytes is one that feeding leaves.
+#[tactic(auto, using(crate::proofs::Opening::is_closed))]
 pub fn is_open(l: Loader) -> bool
     ensures { result ≡ is_open l }
 {

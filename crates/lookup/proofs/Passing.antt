@@ -109,20 +109,20 @@ module _ (c : Coding) (s : List ℕ) (n : ℕ) (q : Bool) (vs : List ℕ) where
 
     -- at a value
     module _ (z : left ≡ 0 → ⊥) (b : length s * 1 < 9223372036854775808) (v next : ℕ) (o : (at < next) × (next ≤ length s) × (steps_at c s at ≡ StepValue v next ∷ steps_at c s next)) where
-      stands-next : Stands s (cursor_of next left start)
-      stands-next = (o.1, go w.0.1)
+      stands_next : Stands s (cursor_of next left start)
+      stands_next = (o.1, go w.0.1)
         where
           go : (start ≤ at) ⊎ (start ≡ no_start) → (start ≤ next) ⊎ (start ≡ no_start)
           go (inl x) = inl (omega (arith, o.0))
           go (inr x) = inr x
 
-      next-is : after_value (phase_of start at) ≡ phase_of start next
-      next-is = phase_value start at next w.0.1 o.0 (omega (arith, o.1))
+      next_is : after_value (phase_of start at) ≡ phase_of start next
+      next_is = phase_value start at next w.0.1 o.0 (omega (arith, o.1))
 
-      check-next : check_at c s n (cursor_of next left start) ≡ table_of c n s
+      check_next : check_at c s n (cursor_of next left start) ≡ table_of c n s
       unfolding check_steps
-      check-next =
-          ap (λ (p : Phase). check_steps (length s) (n - left) left (is_opened p) next (steps_at c s next)) (sym next-is)
+      check_next =
+          ap (λ (p : Phase). check_steps (length s) (n - left) left (is_opened p) next (steps_at c s next)) (sym next_is)
           ∙ ap (λ (t : Bool). check_steps (length s) (n - left) left t next (steps_at c s next)) (next_phase (phase_of start at))
           ∙ sym (nonzero (λ (m : ℕ). check_steps (length s) (n - left) m (is_opened (phase_of start at)) at (StepValue v next ∷ steps_at c s next) ≡ check_steps (length s) (n - left) m false next (steps_at c s next)) (λ m. refl) left z)
           ∙ sym (ap (check_steps (length s) (n - left) left (is_opened (phase_of start at)) at) o.2)
@@ -134,23 +134,23 @@ module _ (c : Coding) (s : List ℕ) (n : ℕ) (q : Bool) (vs : List ℕ) where
           ap (find_from q vs (n - left) (phase_of start at)) o.2
           ∙ found_or_next q vs (n - left) (phase_of start at) v next (steps_at c s next)
           ∙ ap (λ (xs : List Step). pick (begins_at q vs (phase_of start at) v xs) (At (n - left)) (find_from q vs (n - left) (after_value (phase_of start at)) (steps_at c s next))) (sym o.2)
-          ∙ ap (λ (p : Phase). pick (begins_at q vs (phase_of start at) v (steps_at c s at)) (At (n - left)) (find_from q vs (n - left) p (steps_at c s next))) next-is
+          ∙ ap (λ (p : Phase). pick (begins_at q vs (phase_of start at) v (steps_at c s at)) (At (n - left)) (find_from q vs (n - left) p (steps_at c s next))) next_is
 
       module _ (t : Bool) (y : t ≡ begins_at q vs (phase_of start at) v (steps_at c s at)) where
-        pub goes-next : t ≡ false → Goes next left start
-        goes-next x = (
-          stands-next,
+        pub goes_next : t ≡ false → Goes next left start
+        goes_next x = (
+          stands_next,
           w.1,
-          check-next,
+          check_next,
           sym (by_value ∙ ap (λ (u : Bool). pick u (At (n - left)) (find_from q vs (n - left) (phase_of start next) (steps_at c s next))) (sym y ∙ x)) ∙ w.3,
         )
 
-        pub next-stands : (f : Cursor) → f ≡ cursor_of next left start → Stands s f × (1 ≤ f.left) × (f.left ≤ n)
-        next-stands f d = subst (λ (x : Cursor). Stands s x × (1 ≤ x.left) × (x.left ≤ n)) (sym d) (stands-next, omega arith, w.1)
+        pub next_stands : (f : Cursor) → f ≡ cursor_of next left start → Stands s f × (1 ≤ f.left) × (f.left ≤ n)
+        next_stands f d = subst (λ (x : Cursor). Stands s x × (1 ≤ x.left) × (x.left ≤ n)) (sym d) (stands_next, omega arith, w.1)
 
-        pub told-found : t ≡ true → (f : Cursor) → f ≡ cursor_of next left start → (a : TableAnswer) → a ≡ check_at c s n f → (r : Looked) → r ≡ looked_of (At (n - left)) a →
+        pub told_found : t ≡ true → (f : Cursor) → f ≡ cursor_of next left start → (a : TableAnswer) → a ≡ check_at c s n f → (r : Looked) → r ≡ looked_of (At (n - left)) a →
             r ≡ looked_of (find_asked q vs (items_in c s)) (table_of c n s)
-        told-found x f d a u r m =
+        told_found x f d a u r m =
             m ∙ both (At (n - left)) a
             (sym (by_value ∙ ap (λ (i : Bool). pick i (At (n - left)) (find_from q vs (n - left) (phase_of start next) (steps_at c s next))) (sym y ∙ x)) ∙ w.3)
-            (u ∙ ap (check_at c s n) d ∙ check-next)
+            (u ∙ ap (check_at c s n) d ∙ check_next)

@@ -10,7 +10,7 @@ use Rattle.token.specs.declared.Token.{Token}
 use Rattle.token.specs.declared.Token.TheVariants.{Value as TokenValue, Start as TokenStart, End as TokenEnd}
 use Rattle.utf8.specs.declared.Read.{Read}
 use Rattle.utf8.specs.Reading.{read_value, as_token, read_utf8}
-use Rattle.utf8.proofs.First.{ascii, as_start, as_end, no-mark}
+use Rattle.utf8.proofs.First.{ascii, as_start, as_end, no_mark}
 use Rattle.ucs2.specs.Reading.{read_ucs2}
 use Rattle.coding.specs.declared.Coding.{Coding}
 use Rattle.coding.specs.declared.Coding.TheVariants.{Utf8, Ucs2}
@@ -64,7 +64,7 @@ module _ (s : List ℕ) (i : ℕ) (h : i < length s) where
   pub value_step : (get_or s i 0 ≡ 254 → ⊥) → (get_or s i 0 ≡ 255 → ⊥) → (r : Read) → r ≡ read_value (take (length s - i) (drop i s)) → Stepped Utf8 s i (step_of 1 i (as_token r))
   value_step a b r e =
       here (as_token r)
-      (ap as_token (e ∙ ap read_value (rest_all s i ∙ drop-cons s i 0 h)) ∙ no-mark (get_or s i 0 ∷ drop (suc i) s) (omega arith) a b)
+      (ap as_token (e ∙ ap read_value (rest_all s i ∙ drop-cons s i 0 h)) ∙ no_mark (get_or s i 0 ∷ drop (suc i) s) (omega arith) a b)
 
   pub first_one : get_or s i 0 < 128 → (v : ℕ) → v ≡ get_or s i 0 → Stepped Utf8 s i (StepValue v (i + 1))
   first_one k v e = rw e (here (TokenValue (get_or s i 0) 1) (ascii (get_or s i 0 ∷ drop (suc i) s) (omega arith) k))

@@ -14,7 +14,7 @@ use Rattle.table.proofs.Reading.{unique, items_back}
 use Rattle.table.proofs.EndToEnd.{described_append, encode_cons}
 use Rattle.table.proofs.EndToEnd as end_to_end
 use Rattle.table.proofs.Places.{complete_table, table_complete, cut_short, short_cut, bad_broken, broken_bad, trailing_over, over_trailing, within_tail}
-use Rattle.table.proofs.Numbers.{glyph-told, in_cut, in-bad, item_glyph}
+use Rattle.table.proofs.Numbers.{glyph_told, in_cut, in_bad, item_glyph}
 use Rattle.table.proofs.Numbers as numbers
 
 -- exactly the bytes of n descriptions, nothing over, are accepted
@@ -48,7 +48,7 @@ start_on = end_to_end.start_on
 pub cut_exactly : (c : Coding) (n : ℕ) (s : List ℕ) (k g : ℕ) → Bytes s →
     (table_of c n s ≡ Cut k g) ↔ ((k ≡ length s) × Unfinished c n s × InGlyph c s k g)
 cut_exactly c n s k g y = (
-  λ e. let r = cut_short c n s k g y e in (r.0, r.1, (glyph-told c s n k y g (inl e)).1),
+  λ e. let r = cut_short c n s k g y e in (r.0, r.1, (glyph_told c s n k y g (inl e)).1),
   λ r. in_cut c s n k y g (r.0, r.1) r.2,
 )
 
@@ -62,8 +62,8 @@ cut_place c n s k y = (λ (g, e). cut_short c n s k g y e, short_cut c n s k y)
 pub bad_exactly : (c : Coding) (n : ℕ) (s : List ℕ) (k g : ℕ) → Bytes s →
     (table_of c n s ≡ Bad k g) ↔ (BadAt c n s k × InGlyph c s k g)
 bad_exactly c n s k g y = (
-  λ e. (bad_broken c n s k g y e, (glyph-told c s n k y g (inr e)).1),
-  λ r. in-bad c s n k y g r.0 r.1,
+  λ e. (bad_broken c n s k g y e, (glyph_told c s n k y g (inr e)).1),
+  λ r. in_bad c s n k y g r.0 r.1,
 )
 
 -- the same, whatever the glyph
@@ -74,7 +74,7 @@ bad_place c n s k y = (λ (g, e). bad_broken c n s k g y e, broken_bad c n s k y
 -- the glyph that is told with a place is one of the n, and the place stands in its description
 pub glyph_of_place : (c : Coding) (n : ℕ) (s : List ℕ) (k g : ℕ) → Bytes s →
     (table_of c n s ≡ Cut k g) ⊎ (table_of c n s ≡ Bad k g) → (g < n) × InGlyph c s k g
-glyph_of_place c n s k g y = glyph-told c s n k y g
+glyph_of_place c n s k g y = glyph_told c s n k y g
 
 -- no place stands in the descriptions of two
 pub one_glyph : (c : Coding) (s : List ℕ) (k g h : ℕ) → InGlyph c s k g → InGlyph c s k h → g ≡ h

@@ -179,52 +179,52 @@ module _ (c : Coding) where
 
     -- the glyph that is told is one of the font's, and the place stands in its description
     module _ (n h : ℕ) (y : Bytes s) (q : Tells h (table_of c n s)) where
-      told-alike : Alike (steps_from c 0 0 s) (length s) 0 n false 0 h
-      told-alike = alike (steps_from c 0 0 s) (length s) 0 n false 0 h q
+      told_alike : Alike (steps_from c 0 0 s) (length s) 0 n false 0 h
+      told_alike = alike (steps_from c 0 0 s) (length s) 0 n false 0 h q
 
-      told-less : h < n
-      told-less = omega (arith, told-alike.short)
+      told_less : h < n
+      told_less = omega (arith, told_alike.short)
 
       told_in : (k : ℕ) → ((j : ℕ) → k < j → j ≤ length s → Completable c n (take j s) → ⊥) → InGlyph c s k h
       told_in k f =
-          let r = start_table h y (table_of c h s) refl (told-alike.before h (omega arith)) in
+          let r = start_table h y (table_of c h s) refl (told_alike.before h (omega arith)) in
           let l : r.0 ≤ k = go r.0 (below k r.0) r.1 r.2 in
           record {
             start = r.0;
             before = l;
             complete = r.2;
-            unended = λ j _. no_start (suc h) h (subst (Tells h) (sym (told-alike.beyond (suc h) (omega arith))) q) j;
+            unended = λ j _. no_start (suc h) h (subst (Tells h) (sym (told_alike.beyond (suc h) (omega arith))) q) j;
           }
         where
           go : (j : ℕ) → (k < j) ⊎ (j ≤ k) → j ≤ length s → IsTable c h (take j s) → j ≤ k
-          go j (inl x) l t = let w = told-less in absurd (f j x l (fewer_completable h n (take j s) (omega arith) t))
+          go j (inl x) l t = let w = told_less in absurd (f j x l (fewer_completable h n (take j s) (omega arith) t))
           go j (inr x) l t = x
 
     module _ (n k : ℕ) (y : Bytes s) where
-      cut-glyph : (g : ℕ) → table_of c n s ≡ TableCut k g → (g < n) × InGlyph c s k g
-      cut-glyph g e =
+      cut_glyph : (g : ℕ) → table_of c n s ≡ TableCut k g → (g < n) × InGlyph c s k g
+      cut_glyph g e =
           let q : Tells g (table_of c n s) = subst (Tells g) (sym e) refl in
           let r = (cut_short c n s k g y e).0 in
-          (told-less n g y q, told_in n g y q k (λ j a b. absurd (omega arith)))
+          (told_less n g y q, told_in n g y q k (λ j a b. absurd (omega arith)))
 
-      bad-glyph : (g : ℕ) → table_of c n s ≡ TableBad k g → (g < n) × InGlyph c s k g
-      bad-glyph g e =
+      bad_glyph : (g : ℕ) → table_of c n s ≡ TableBad k g → (g < n) × InGlyph c s k g
+      bad_glyph g e =
           let q : Tells g (table_of c n s) = subst (Tells g) (sym e) refl in
-          (told-less n g y q, told_in n g y q k (bad_broken c n s k g y e).0.longest)
+          (told_less n g y q, told_in n g y q k (bad_broken c n s k g y e).0.longest)
 
-      pub glyph-told : (g : ℕ) → (table_of c n s ≡ TableCut k g) ⊎ (table_of c n s ≡ TableBad k g) → (g < n) × InGlyph c s k g
-      glyph-told g (inl e) = cut-glyph g e
-      glyph-told g (inr e) = bad-glyph g e
+      pub glyph_told : (g : ℕ) → (table_of c n s ≡ TableCut k g) ⊎ (table_of c n s ≡ TableBad k g) → (g < n) × InGlyph c s k g
+      glyph_told g (inl e) = cut_glyph g e
+      glyph_told g (inr e) = bad_glyph g e
 
       pub in_cut : (g : ℕ) → (k ≡ length s) × Unfinished c n s → InGlyph c s k g → table_of c n s ≡ TableCut k g
       in_cut g f i =
           let r = short_cut c n s k y f in
-          r.1 ∙ ap (TableCut k) (one_glyph k r.0 g (cut-glyph r.0 r.1).1 i)
+          r.1 ∙ ap (TableCut k) (one_glyph k r.0 g (cut_glyph r.0 r.1).1 i)
 
-      pub in-bad : (g : ℕ) → BadAt c n s k → InGlyph c s k g → table_of c n s ≡ TableBad k g
-      in-bad g f i =
+      pub in_bad : (g : ℕ) → BadAt c n s k → InGlyph c s k g → table_of c n s ≡ TableBad k g
+      in_bad g f i =
           let r = broken_bad c n s k y f in
-          r.1 ∙ ap (TableBad k) (one_glyph k r.0 g (bad-glyph r.0 r.1).1 i)
+          r.1 ∙ ap (TableBad k) (one_glyph k r.0 g (bad_glyph r.0 r.1).1 i)
 
   -- what stands in a start of some bytes, stands in the bytes
   in_start : (s : List ℕ) (k g : ℕ) → InGlyph c (take k s) k g → InGlyph c s k g
@@ -245,5 +245,5 @@ module _ (c : Coding) where
       let w : encode c ds ≡ x ++ y = ap (bytes c) e ∙ bytes_of_append c is (i ∷ js) in
       let t : take (length x) (encode c ds) ≡ x = ap (take (length x)) w ∙ take_at x y (length x) refl in
       let q : table_of c (length ds) x ≡ TableCut (length x) (ends_in is) = cut_before c (length ds) ds is i js refl o e ∙ same_cut (omega arith) (omega arith) in
-      let r = glyph-told x (length ds) (length x) (items_bytes c is (of_left c is (i ∷ js) (subst (OfCoding c) e o))) (ends_in is) (inl q) in
+      let r = glyph_told x (length ds) (length x) (items_bytes c is (of_left c is (i ∷ js) (subst (OfCoding c) e o))) (ends_in is) (inl q) in
       (r.0, in_start (encode c ds) (length x) (ends_in is) (subst (λ (z : List ℕ). InGlyph c z (length x) (ends_in is)) (sym t) r.1))

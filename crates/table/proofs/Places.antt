@@ -93,8 +93,8 @@ module _ (c : Coding) (n : ℕ) where
         ∙ append_assoc (take (suc k) s) (drop (suc k) (take j s)) more
 
     module _ (a : TableAnswer) (f : a ≡ Complete → ⊥) (Q : List ℕ → Type 0) (g : (t : List ℕ) → Q t → Completable c n t) where
-      stops-longest : (k : ℕ) → Stops c 0 n singles 0 s a k Q → LongestStart c n s k × (k < length s) × Q (take k s)
-      stops-longest k r =
+      stops_longest : (k : ℕ) → Stops c 0 n singles 0 s a k Q → LongestStart c n s k × (k < length s) × Q (take k s)
+      stops_longest k r =
           let q : r.good ≡ k = omega (arith, r.place) in
           let i : k < length s = omega (arith, r.within) in
           let u = subst (λ (x : ℕ). Q (take x s)) q r.start in
@@ -117,12 +117,12 @@ module _ (c : Coding) (n : ℕ) where
 
     pub bad_broken : (k g : ℕ) → Bytes s → table_of c n s ≡ TableBad k g → BadAt c n s k
     bad_broken k g y e =
-        let r = stops-longest (TableBad k g) (λ q. let z : ◌≡◌ {A = ℕ} 0 1 = cc in absurd (omega arith)) (More c n singles) is_completable k (says y (TableBad k g) e) in
+        let r = stops_longest (TableBad k g) (λ q. let z : ◌≡◌ {A = ℕ} 0 1 = cc in absurd (omega arith)) (More c n singles) is_completable k (says y (TableBad k g) e) in
         (r.0, r.1, λ t. let q = sym e ∙ over_trailing k r.1 t in let z : ◌≡◌ {A = ℕ} 0 1 = cc in absurd (omega arith))
 
     pub trailing_over : (k : ℕ) → Bytes s → table_of c n s ≡ Trailing k → LongestStart c n s k × (k < length s) × IsTable c n (take k s)
     trailing_over k y e =
-        let r = stops-longest (Trailing k) (λ q. let z : ◌≡◌ {A = ℕ} 0 1 = cc in absurd (omega arith)) (Read c n singles) (λ t r. table_completable t (is_table t r)) k (says y (Trailing k) e) in
+        let r = stops_longest (Trailing k) (λ q. let z : ◌≡◌ {A = ℕ} 0 1 = cc in absurd (omega arith)) (Read c n singles) (λ t r. table_completable t (is_table t r)) k (says y (Trailing k) e) in
         (r.0, r.1, is_table (take k s) r.2)
 
     -- a tail is its whole start

@@ -95,16 +95,16 @@ module _ (e g i : ℕ) where
 
 module _ (s : List ℕ) (g i : ℕ) (n : NoValue (step_at Utf8 s i)) where
   utf8_within : i < length s → said (length s) g i (read_value (drop i s)) ≡ refused_of (length s) g (step_at Utf8 s i)
-  utf8_within h = by-mark (same (get_or s i 0) 254) (same (get_or s i 0) 255)
+  utf8_within h = by_mark (same (get_or s i 0) 254) (same (get_or s i 0) 255)
     where
       mark : (get_or s i 0 ≡ 254) ⊎ (get_or s i 0 ≡ 255) → read_value (drop i s) ≡ ReadBad 0
       mark (inl q) = rw (drop-cons s i 0 h) (mark_bad (get_or s i 0 ∷ drop (suc i) s) (omega arith) 254 q (omega arith) (omega arith))
       mark (inr q) = rw (drop-cons s i 0 h) (mark_bad (get_or s i 0 ∷ drop (suc i) s) (omega arith) 255 q (omega arith) (omega arith))
 
-      by-mark : (get_or s i 0 ≡ 254) ⊎ (get_or s i 0 ≡ 254 → ⊥) → (get_or s i 0 ≡ 255) ⊎ (get_or s i 0 ≡ 255 → ⊥) → said (length s) g i (read_value (drop i s)) ≡ refused_of (length s) g (step_at Utf8 s i)
-      by-mark (inl q) d = mark_said (length s) g i _ (step_at Utf8 s i) (mark (inl q)) (ap (refused_of (length s) g) (first_start s i h q).0)
-      by-mark (inr a) (inl q) = mark_said (length s) g i _ (step_at Utf8 s i) (mark (inr q)) (ap (refused_of (length s) g) (first_end s i h q).0)
-      by-mark (inr a) (inr b) =
+      by_mark : (get_or s i 0 ≡ 254) ⊎ (get_or s i 0 ≡ 254 → ⊥) → (get_or s i 0 ≡ 255) ⊎ (get_or s i 0 ≡ 255 → ⊥) → said (length s) g i (read_value (drop i s)) ≡ refused_of (length s) g (step_at Utf8 s i)
+      by_mark (inl q) d = mark_said (length s) g i _ (step_at Utf8 s i) (mark (inl q)) (ap (refused_of (length s) g) (first_start s i h q).0)
+      by_mark (inr a) (inl q) = mark_said (length s) g i _ (step_at Utf8 s i) (mark (inr q)) (ap (refused_of (length s) g) (first_end s i h q).0)
+      by_mark (inr a) (inr b) =
           let w = value_step s i h a b (read_value (drop i s)) (ap read_value (sym (rest_all s i))) in
           said_so (length s) g i (read_value (drop i s)) (subst NoValue (sym w.0) n) ∙ ap (refused_of (length s) g) w.0
 

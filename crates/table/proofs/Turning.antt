@@ -32,8 +32,8 @@ module _ (c : Coding) (s : List ℕ) (k : ℕ) where
 
     module _ (h : at < length s) (b : length s < no_start) (w : StepSays c s at (step_at c s at)) where
       -- nothing plainly stands there
-      halts-other : Other ≡ plain_of c k (step_at c s at) → front_at c s (cursor_of at left start) ≡ over at left start
-      halts-other e =
+      halts_other : Other ≡ plain_of c k (step_at c s at) → front_at c s (cursor_of at left start) ≡ over at left start
+      halts_other e =
           let q = says_first c s at h (step_at c s at) w in
           here (over at left start)
           (ap (skip_from c k (left - 1) (phase_of start at) at) q.1 ∙ skip_other c k (left - 1) (phase_of start at) at (step_at c s at) q.0 e
@@ -44,65 +44,65 @@ module _ (c : Coding) (s : List ℕ) (k : ℕ) where
         value_there : ValueAt c k (step_at c s at) next
         value_there = plain_value c k (step_at c s at) next e
 
-        value-says : StepSays c s at (StepValue value_there.value next)
-        value-says = subst (StepSays c s at) value_there.step w
+        value_says : StepSays c s at (StepValue value_there.value next)
+        value_says = subst (StepSays c s at) value_there.step w
 
         value_on : (at < next) × (next ≤ length s)
-        value_on = (value-says.0, value-says.1)
+        value_on = (value_says.0, value_says.1)
 
-        value-stands : (start ≤ next) ⊎ (start ≡ no_start)
-        value-stands = go m
+        value_stands : (start ≤ next) ⊎ (start ≡ no_start)
+        value_stands = go m
           where
             go : (start ≤ at) ⊎ (start ≡ no_start) → (start ≤ next) ⊎ (start ≡ no_start)
-            go (inl x) = inl (omega (arith, value-says.0))
+            go (inl x) = inl (omega (arith, value_says.0))
             go (inr x) = inr x
 
-        value-over : over next left start ≡ over at left start
-        value-over =
-            sym (ap (skip_from c k (left - 1) (phase_of start at) at) value-says.2
+        value_over : over next left start ≡ over at left start
+        value_over =
+            sym (ap (skip_from c k (left - 1) (phase_of start at) at) value_says.2
             ∙ skip_value c k at (steps_at c s next) (left - 1) (phase_of start at) value_there.value next value_there.other
-            ∙ ap (λ (p : Phase). skip_from c k (left - 1) p next (steps_at c s next)) (phase_value start at next m value-says.0 (omega (arith, value-says.1))))
+            ∙ ap (λ (p : Phase). skip_from c k (left - 1) p next (steps_at c s next)) (phase_value start at next m value_says.0 (omega (arith, value_says.1))))
 
       -- a start mark
       module _ (next : ℕ) (e : PlainStart next ≡ plain_of c k (step_at c s at)) where
-        start-says : StepSays c s at (StepStart next)
-        start-says = subst (StepSays c s at) (plain_start c k (step_at c s at) next e) w
+        start_says : StepSays c s at (StepStart next)
+        start_says = subst (StepSays c s at) (plain_start c k (step_at c s at) next e) w
 
         start_on : (at < next) × (next ≤ length s)
-        start_on = (start-says.0, start-says.1)
+        start_on = (start_says.0, start_says.1)
 
-        start-over : (start ≡ at → ⊥) → over next left next ≡ over at left start
-        start-over o =
-            sym (ap (skip_from c k (left - 1) (phase_of start at) at) start-says.2
+        start_over : (start ≡ at → ⊥) → over next left next ≡ over at left start
+        start_over o =
+            sym (ap (skip_from c k (left - 1) (phase_of start at) at) start_says.2
             ∙ skip_start c k at (steps_at c s next) (left - 1) (phase_of start at) next (phase_other start at o)
-            ∙ ap (λ (p : Phase). skip_from c k (left - 1) p next (steps_at c s next)) (sym (phase_here next next refl (omega (arith, start-says.1)))))
+            ∙ ap (λ (p : Phase). skip_from c k (left - 1) p next (steps_at c s next)) (sym (phase_here next next refl (omega (arith, start_says.1)))))
 
-        halts-start : start ≡ at → front_at c s (cursor_of at left start) ≡ over at left start
-        halts-start o =
+        halts_start : start ≡ at → front_at c s (cursor_of at left start) ≡ over at left start
+        halts_start o =
             here (over at left start)
-            (ap (skip_from c k (left - 1) (phase_of start at) at) start-says.2
+            (ap (skip_from c k (left - 1) (phase_of start at) at) start_says.2
             ∙ halt_start c k at (steps_at c s next) (left - 1) (phase_of start at) next (phase_opened start at o (omega arith))
-            ∙ sym (ap (front (suc (left - 1)) (phase_of start at) at) start-says.2))
+            ∙ sym (ap (front (suc (left - 1)) (phase_of start at) at) start_says.2))
 
       -- an end mark
       module _ (next : ℕ) (e : PlainEnd next ≡ plain_of c k (step_at c s at)) where
-        end-says : StepSays c s at (StepEnd next)
-        end-says = subst (StepSays c s at) (plain_end c k (step_at c s at) next e) w
+        end_says : StepSays c s at (StepEnd next)
+        end_says = subst (StepSays c s at) (plain_end c k (step_at c s at) next e) w
 
         end_on : (at < next) × (next ≤ length s)
-        end_on = (end-says.0, end-says.1)
+        end_on = (end_says.0, end_says.1)
 
-        end-over : (start ≡ at → ⊥) → (left - 1 ≡ 0 → ⊥) → over next (left - 1) no_start ≡ over at left start
-        end-over o z =
+        end_over : (start ≡ at → ⊥) → (left - 1 ≡ 0 → ⊥) → over next (left - 1) no_start ≡ over at left start
+        end_over o z =
             let y : left - 1 ≡ suc (left - 1 - 1) = omega arith in
-            sym (ap (skip_from c k (left - 1) (phase_of start at) at) end-says.2
+            sym (ap (skip_from c k (left - 1) (phase_of start at) at) end_says.2
             ∙ ap (λ (n : ℕ). skip_from c k n (phase_of start at) at (StepEnd next ∷ steps_at c s next)) y
             ∙ skip_end c k at (steps_at c s next) (left - 1 - 1) (phase_of start at) next (phase_other start at o)
             ∙ ap (λ (p : Phase). skip_from c k (left - 1 - 1) p next (steps_at c s next)) (sym (phase_none next)))
 
         ends_last : (start ≡ at → ⊥) → left - 1 ≡ 0 → front_at c s (cursor_of next 0 no_start) ≡ over at left start
         ends_last o z =
-            sym (ap (skip_from c k (left - 1) (phase_of start at) at) end-says.2
+            sym (ap (skip_from c k (left - 1) (phase_of start at) at) end_says.2
             ∙ ap (λ (n : ℕ). skip_from c k n (phase_of start at) at (StepEnd next ∷ steps_at c s next)) z
             ∙ skip_last c k at (steps_at c s next) (phase_of start at) next (phase_other start at o)
             ∙ ap (λ (p : Phase). front 0 p next (steps_at c s next)) (sym (phase_none next)))
@@ -110,9 +110,9 @@ module _ (c : Coding) (s : List ℕ) (k : ℕ) where
         halts_end : start ≡ at → front_at c s (cursor_of at left start) ≡ over at left start
         halts_end o =
             here (over at left start)
-            (ap (skip_from c k (left - 1) (phase_of start at) at) end-says.2
+            (ap (skip_from c k (left - 1) (phase_of start at) at) end_says.2
             ∙ halt_end c k at (steps_at c s next) (left - 1) (phase_of start at) next (phase_opened start at o (omega arith))
-            ∙ sym (ap (front (suc (left - 1)) (phase_of start at) at) end-says.2))
+            ∙ sym (ap (front (suc (left - 1)) (phase_of start at) at) end_says.2))
 
   -- what a loop keeps, from a place on and with f as what is gone to; and what is said where it stops
   module _ (f : Front) (from : ℕ) where
@@ -126,38 +126,38 @@ module _ (c : Coding) (s : List ℕ) (k : ℕ) where
       stopped : (r : Cursor) → r ≡ cursor_of at left start → front_at c s (cursor_of at left start) ≡ over at left start → Stopped r
       stopped r e q = subst Stopped (sym e) (q ∙ i.3, (i.0, i.2), i.4)
 
-      pub stops-past : length s ≤ at → (r : Cursor) → r ≡ cursor_of at left start → Stopped r
-      stops-past h r e = stopped r e (halts_past at left start i.1 i.2 h)
+      pub stops_past : length s ≤ at → (r : Cursor) → r ≡ cursor_of at left start → Stopped r
+      stops_past h r e = stopped r e (halts_past at left start i.1 i.2 h)
 
       module _ (h : at < length s) (b : length s * 1 < 9223372036854775808) (w : StepSays c s at (step_at c s at)) where
         room : length s < no_start
         room = omega arith
 
-        pub stops-other : Other ≡ plain_of c k (step_at c s at) → (r : Cursor) → r ≡ cursor_of at left start → Stopped r
-        stops-other x r e = stopped r e (halts-other at left start i.1 i.2 h room w x)
+        pub stops_other : Other ≡ plain_of c k (step_at c s at) → (r : Cursor) → r ≡ cursor_of at left start → Stopped r
+        stops_other x r e = stopped r e (halts_other at left start i.1 i.2 h room w x)
 
-        pub turns-value : (next : ℕ) → PlainValue next ≡ plain_of c k (step_at c s at) → Kept next left start × (at < next)
-        turns-value next x =
+        pub turns_value : (next : ℕ) → PlainValue next ≡ plain_of c k (step_at c s at) → Kept next left start × (at < next)
+        turns_value next x =
             let o = value_on at left start i.1 i.2 h room w next x in
-            ((o.1, i.1, value-stands at left start i.1 i.2 h room w next x, value-over at left start i.1 i.2 h room w next x ∙ i.3, omega (arith, i.4, o.0)), o.0)
+            ((o.1, i.1, value_stands at left start i.1 i.2 h room w next x, value_over at left start i.1 i.2 h room w next x ∙ i.3, omega (arith, i.4, o.0)), o.0)
 
-        pub turns-start : (next : ℕ) → PlainStart next ≡ plain_of c k (step_at c s at) → (start ≡ at → ⊥) → Kept next left next × (at < next)
-        turns-start next x d =
+        pub turns_start : (next : ℕ) → PlainStart next ≡ plain_of c k (step_at c s at) → (start ≡ at → ⊥) → Kept next left next × (at < next)
+        turns_start next x d =
             let o = start_on at left start i.1 i.2 h room w next x in
-            ((o.1, i.1, inl (omega arith), start-over at left start i.1 i.2 h room w next x d ∙ i.3, omega (arith, i.4, o.0)), o.0)
+            ((o.1, i.1, inl (omega arith), start_over at left start i.1 i.2 h room w next x d ∙ i.3, omega (arith, i.4, o.0)), o.0)
 
-        pub stops-start : (next : ℕ) → PlainStart next ≡ plain_of c k (step_at c s at) → start ≡ at → (r : Cursor) → r ≡ cursor_of at left start → Stopped r
-        stops-start next x d r e = stopped r e (halts-start at left start i.1 i.2 h room w next x d)
+        pub stops_start : (next : ℕ) → PlainStart next ≡ plain_of c k (step_at c s at) → start ≡ at → (r : Cursor) → r ≡ cursor_of at left start → Stopped r
+        stops_start next x d r e = stopped r e (halts_start at left start i.1 i.2 h room w next x d)
 
-        pub turns-end : (next : ℕ) → PlainEnd next ≡ plain_of c k (step_at c s at) → (start ≡ at → ⊥) → (left - 1 ≡ 0 → ⊥) → Kept next (left - 1) no_start × (at < next)
-        turns-end next x d z =
+        pub turns_end : (next : ℕ) → PlainEnd next ≡ plain_of c k (step_at c s at) → (start ≡ at → ⊥) → (left - 1 ≡ 0 → ⊥) → Kept next (left - 1) no_start × (at < next)
+        turns_end next x d z =
             let o = end_on at left start i.1 i.2 h room w next x in
-            ((o.1, omega arith, inr refl, end-over at left start i.1 i.2 h room w next x d z ∙ i.3, omega (arith, i.4, o.0)), o.0)
+            ((o.1, omega arith, inr refl, end_over at left start i.1 i.2 h room w next x d z ∙ i.3, omega (arith, i.4, o.0)), o.0)
 
         pub stops_end : (next : ℕ) → PlainEnd next ≡ plain_of c k (step_at c s at) → start ≡ at → (r : Cursor) → r ≡ cursor_of at left start → Stopped r
         stops_end next x d r e = stopped r e (halts_end at left start i.1 i.2 h room w next x d)
 
-        pub stops-last : (next : ℕ) → PlainEnd next ≡ plain_of c k (step_at c s at) → (start ≡ at → ⊥) → left - 1 ≡ 0 → (r : Cursor) → r ≡ cursor_of next 0 no_start → Stopped r
-        stops-last next x d z r e =
+        pub stops_last : (next : ℕ) → PlainEnd next ≡ plain_of c k (step_at c s at) → (start ≡ at → ⊥) → left - 1 ≡ 0 → (r : Cursor) → r ≡ cursor_of next 0 no_start → Stopped r
+        stops_last next x d z r e =
             let o = end_on at left start i.1 i.2 h room w next x in
             subst Stopped (sym e) (ends_last at left start i.1 i.2 h room w next x d z ∙ i.3, (o.1, inr refl), omega (arith, i.4, o.0))

@@ -214,8 +214,8 @@ module _ (c : Coding) (n at : ℕ) (h : Held) (t : Standing) (l : length (held_b
       assoc : held_bytes h ++ (p ++ s) ≡ q ++ s
       assoc = sym (append_assoc (held_bytes h) p s)
 
-      on-going : t.halted ≡ 0 → r.halted ≡ 0 → table_fed c n at h t (p ++ s) ≡ table_fed c n (at + length p) F.held F.standing s
-      on-going z k =
+      on_going : t.halted ≡ 0 → r.halted ≡ 0 → table_fed c n at h t (p ++ s) ≡ table_fed c n (at + length p) F.held F.standing s
+      on_going z k =
           let w = read_held c n (at - h.len) t q k in
           let i = rests c q 0 t.ended (n - t.ended) (is_set t.opened) in
           let a = length-append (held_bytes h) p in
@@ -234,7 +234,7 @@ module _ (c : Coding) (n at : ℕ) (h : Held) (t : Standing) (l : length (held_b
           ∙ no_more c n (at + length p) F.held F.standing s (λ i. k (sym (read_halted c n (at - h.len) t q) ∙ i))
 
       go : (t.halted ≡ 0) ⊎ (t.halted ≡ 0 → ⊥) → table_fed c n at h t (p ++ s) ≡ table_fed c n (at + length p) (table_fed c n at h t p).held (table_fed c n at h t p).standing s
-      go (inl z) = rw (fed_reads c n at h t p z) (⊎_elim (on-going z) (stopped z) (same r.halted 0))
+      go (inl z) = rw (fed_reads c n at h t p z) (⊎_elim (on_going z) (stopped z) (same r.halted 0))
       go (inr z) = sym (no_more c n at h t (p ++ s) z) ∙ rw (← no_more c n at h t p z) (no_more c n (at + length p) h t s z)
 
 -- what is held then

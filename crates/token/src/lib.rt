@@ -17,6 +17,7 @@ pub enum Token {
 }
 
 // Whether a number is a noncharacter: FDD0 to FDEF, or one of the last two of a plane.
+#[tactic(auto, using(crate::proofs::Noncharacters::under, crate::proofs::Noncharacters::among))]
 pub fn is_noncharacter(v: u32) -> bool
     ensures { result ≡ is_noncharacter v }
 {

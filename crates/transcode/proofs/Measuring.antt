@@ -116,11 +116,11 @@ module _ (from to : Coding) where
   grown at x y = omega (arith, length-append x y)
 
   value_out : (v : ℕ) (at n : ℕ) → (ValueOf to v → ⊥) → {xs ys : List Step} → xs ≡ StepValue v (at + length (value_bytes from v)) ∷ ys → measure to at n xs ≡ Uncarried (at + 0)
-  value_out v at n u {xs} {ys} e = value_not to at n xs ys v _ e (no-carry (carries_of to v) refl) ∙ same_place (omega arith)
+  value_out v at n u {xs} {ys} e = value_not to at n xs ys v _ e (no_carry (carries_of to v) refl) ∙ same_place (omega arith)
     where
-      no-carry : (t : Bool) → carries_of to v ≡ t → carries_of to v ≡ false
-      no-carry true q = absurd (u ((carries_exactly to v).0 q))
-      no-carry false q = q
+      no_carry : (t : Bool) → carries_of to v ≡ t → carries_of to v ≡ false
+      no_carry true q = absurd (u ((carries_exactly to v).0 q))
+      no_carry false q = q
 
   value_in : (v : ℕ) (at n : ℕ) → ValueOf to v → (xs ys : List Step) → xs ≡ StepValue v (at + length (value_bytes from v)) ∷ ys →
       {r : Measured} → measure to (at + length (value_bytes from v)) (n + length (value_bytes to v)) ys ≡ r → measure to at n xs ≡ r

@@ -5,10 +5,10 @@ use Prim.Native.Nat.{ℕ, ◌<◌}
 use native.Mathlib.Omega.{arith}
 use Rattle.utf8.specs.declared.Read.TheVariants.{Value}
 use Rattle.utf8.specs.Reading.{read_value}
-use Rattle.utf8.proofs.First.{ascii, no-mark, back_value}
+use Rattle.utf8.proofs.First.{ascii, no_mark, back_value}
 
 -- "such a byte gives itself, one byte long, whatever follows"
 pub ascii_value : (b : ℕ) (s : List ℕ) → b < 0x80 → read_value (b ∷ s) ≡ Value b 1
 ascii_value b s h =
     back_value (read_value (b ∷ s)) b 1
-    (no-mark (b ∷ s) (omega arith) (λ z. absurd (omega arith)) (λ z. absurd (omega arith)) ∙ sym (ascii (b ∷ s) (omega arith) (omega arith)))
+    (no_mark (b ∷ s) (omega arith) (λ z. absurd (omega arith)) (λ z. absurd (omega arith)) ∙ sym (ascii (b ∷ s) (omega arith) (omega arith)))

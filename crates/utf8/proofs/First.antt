@@ -63,15 +63,15 @@ module _ (s : List ℕ) (h : 0 < length s) where
 
     module _ (b : get_or s 0 0 ≡ 255 → ⊥) where
       -- no mark: what is read as a value
-      pub no-mark : as_token (read_value s) ≡ read_utf8 s
-      no-mark = rw (first s h, ne_eqb (get_or s 0 0) 254 a, ne_eqb (get_or s 0 0) 255 b)
+      pub no_mark : as_token (read_value s) ≡ read_utf8 s
+      no_mark = rw (first s h, ne_eqb (get_or s 0 0) 254 a, ne_eqb (get_or s 0 0) 255 b)
 
       module _ (l : Lead) (e : l ≡ lead_of (get_or s 0 0)) where
         pub as_bad : l.len ≡ 0 → TokenBad 0 ≡ read_utf8 s
-        as_bad z = ap as_token (no_value s h l e z) ∙ no-mark
+        as_bad z = ap as_token (no_value s h l e z) ∙ no_mark
 
         pub as_value : (l.len ≡ 0 → ⊥) → as_token (permitted_at (l.len - 1) (conts (l.len - 1) l.lo l.hi (get_or s 0 0 % l.modulus) 1 (drop 1 s))) ≡ read_utf8 s
-        as_value z = ap as_token (some_value s h l e z) ∙ no-mark
+        as_value z = ap as_token (some_value s h l e z) ∙ no_mark
 
 -- a first byte below 80 gives itself, one byte long, whatever follows
 pub ascii : (s : List ℕ) → 0 < length s → get_or s 0 0 < 128 → TokenValue (get_or s 0 0) 1 ≡ read_utf8 s
@@ -79,7 +79,7 @@ unfolding conts
 ascii s h k =
     let m : get_or s 0 0 ≡ get_or s 0 0 % 128 = omega arith in
     let r : Value (get_or s 0 0) 1 ≡ read_value s = permitted_value 0 (get_or s 0 0) 1 (low (get_or s 0 0) (omega arith)) ∙ long_value s h _ (row_1 (get_or s 0 0) (omega arith) k) 0 refl (get_or s 0 0) m in
-    ap as_token r ∙ no-mark s h (λ z. absurd (omega arith)) (λ z. absurd (omega arith))
+    ap as_token r ∙ no_mark s h (λ z. absurd (omega arith)) (λ z. absurd (omega arith))
 
 -- a token that is no mark was read as a value
 pub back_value : (x : Read) (v l : ℕ) → as_token x ≡ TokenValue v l → x ≡ Value v l

@@ -19,7 +19,7 @@ use Rattle.utf8.specs.declared.Lead.{Lead}
 use Rattle.utf8.specs.Reading.{lead_row, lead_of, conts, permitted_at, read_value, read_utf8}
 use Rattle.utf8.specs.Meaning.{utf8_bytes, Scalar, Utf8Value}
 use Rattle.utf8.proofs.Rows.{row_1, row_2, row_3a, row_3b, row_3c, row_3d, row_4a, row_4b, row_4c, row_x, row_y}
-use Rattle.utf8.proofs.First.{no-mark, as_bad, as_value, back_value}
+use Rattle.utf8.proofs.First.{no_mark, as_bad, as_value, back_value}
 use Rattle.utf8.proofs.Permitted.{value_permitted}
 use Rattle.utf8.proofs.Writing.{bytes1, bytes2, bytes3, bytes4}
 
@@ -206,7 +206,7 @@ module _ (b : ℕ) (t : List ℕ) (v l : ℕ) (e : read_utf8 (b ∷ t) ≡ Token
   -- it is no noncharacter
   none : Noncharacter v → ⊥
   unfolding read_value
-  none = go (eqb (lead_of b).len 0) (back_value (read_value (b ∷ t)) v l (no-mark (b ∷ t) (omega arith) (λ p. omega arith) (λ p. omega arith) ∙ e))
+  none = go (eqb (lead_of b).len 0) (back_value (read_value (b ∷ t)) v l (no_mark (b ∷ t) (omega arith) (λ p. omega arith) (λ p. omega arith) ∙ e))
     where
       go : (x : Bool) → pick x (Bad 0) (permitted_at ((lead_of b).len - 1) (conts ((lead_of b).len - 1) (lead_of b).lo (lead_of b).hi (b % (lead_of b).modulus) 1 t)) ≡ Value v l → Noncharacter v → ⊥
       go true f = let z : ◌≡◌ {A = ℕ} 0 1 = cc in absurd (omega arith)

@@ -36,6 +36,7 @@ pub struct Lead {
 //
 // The match stands in three parts, the rows of three and of four bytes each in one of their own: with all four rows of a single first byte
 // in one match the compiler tests for these before any range.
+#[tactic(auto, using(crate::proofs::Rows::row_2))]
 fn lead_of(b: u8) -> Lead
     ensures { result ≡ lead_of b }
 {
@@ -244,6 +245,7 @@ pub fn key_of(v: u32) -> u32
 }
 
 // 0 where the value of three bytes b, x, y is a noncharacter, else 3. Asks for bytes of such a value.
+#[tactic(auto, using(crate::proofs::Plain::three_among))]
 fn three_permitted(b: u8, x: u8, y: u8) -> usize
     requires { (224 ≤ b) × (b < 240) × (128 ≤ x) × (x < 192) × (128 ≤ y) × (y < 192) }
     ensures { result ≡ pick (is_noncharacter ((b % 16 * 64 + (x - 128)) * 64 + (y - 128))) 0 3 }
@@ -270,6 +272,7 @@ fn three_permitted(b: u8, x: u8, y: u8) -> usize
 }
 
 // 0 where the value of four bytes b, x, y, z is a noncharacter, else 4. Asks for bytes of such a value; b does not matter.
+#[tactic(auto, using(crate::proofs::Plain::four_free))]
 fn four_permitted(b: u8, x: u8, y: u8, z: u8) -> usize
     requires { (240 ≤ b) × (b < 245) × (128 ≤ x) × (x < 192) × (128 ≤ y) × (y < 192) × (128 ≤ z) × (z < 192) × (16 ≤ b % 8 * 64 + (x - 128)) }
     ensures { result ≡ pick (is_noncharacter (((b % 8 * 64 + (x - 128)) * 64 + (y - 128)) * 64 + (z - 128))) 0 4 }

@@ -4,7 +4,7 @@ use native.Mathlib.Omega.{arith}
 use lib.ListN.{length}
 use borrow.Author.Rules.{rules}
 use Rattle.descriptions.specs.Reading.{code_of, ends_of}
-use Rattle.descriptions.proofs.Stepping.{ends_first, ends_second, ends_other, ends-here, ends-later}
+use Rattle.descriptions.proofs.Stepping.{ends_first, ends_second, ends_other, ends_here, ends_later}
 use Rattle.descriptions.proofs.compare.Given as goal
 
 abbrev pub invariant-loop-a : goal.invariant-loop-a

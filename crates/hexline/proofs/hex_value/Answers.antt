@@ -13,8 +13,5 @@ returns-then-b-lt58 c = (omega (arith, value_low c.args.b (omega arith) (omega a
 pub returns-then-b-lt65 : goal.returns-then-b-lt65
 returns-then-b-lt65 c = (omega (arith, value_between c.args.b (omega arith) (omega arith)), omega arith)
 
-pub returns-then-b-lt71 : goal.returns-then-b-lt71
-returns-then-b-lt71 c = (omega (arith, value_high c.args.b (omega arith) (omega arith)), omega arith)
-
 pub returns : goal.returns
 returns c = (omega (arith, value_above c.args.b (omega arith)), omega arith)

@@ -8,17 +8,11 @@ use Rattle.hexline.proofs.Steps.{goes_on, no_byte, alone, ended, too_long, not_l
 use borrow.Author.Rules.{rules}
 use Rattle.hexline.proofs.read_line.Goals as goal
 
-pub returns-then-line-gt128 : goal.returns-then-line-gt128
-returns-then-line-gt128 c = record { equal = c.bad.ensures ∙ sym (too_long c.args.line.now (omega arith)); bounded = bad_bounded _ c.bad.ensures }
-
 pub loop-at-init : goal.loop-at-init
 loop-at-init c = (omega arith, omega arith, omega arith, refl, sym (not_long c.args.line.now (omega arith)))
 
 pub returns-then-line-at : goal.returns-then-line-at
 returns-then-line-at c = record { equal = c.bad-then-line-at.ensures ∙ sym (alone c.args.line.now c.loop-at.at c.loop-at.k c.loop-at.bytes (omega arith) (omega arith)) ∙ c.loop-at.invariant.4; bounded = bad_bounded _ c.bad-then-line-at.ensures }
-
-pub returns-then-v-gt255 : goal.returns-then-v-gt255
-returns-then-v-gt255 c = record { equal = c.bad-then-v-gt255.ensures ∙ sym (no_byte c.args.line.now c.loop-at.at c.loop-at.k c.loop-at.bytes _ (omega arith) c.pair_value-v.ensures (omega arith)) ∙ c.loop-at.invariant.4; bounded = bad_bounded _ c.bad-then-v-gt255.ensures }
 
 pub loop-at-preserved : goal.loop-at-preserved
 loop-at-preserved c = (omega arith, omega arith, omega arith, simp length-set c.loop-at.invariant.3, sym (goes_on c.args.line.now c.loop-at.at c.loop-at.k c.loop-at.bytes _ (omega arith) c.pair_value-v.ensures (omega arith)) ∙ c.loop-at.invariant.4)

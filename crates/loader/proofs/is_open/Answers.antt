@@ -3,9 +3,6 @@ use native.Mathlib.Omega.{arith}
 use Rattle.loader.proofs.Opening.{is_closed, in_header, in_body}
 use Rattle.loader.proofs.is_open.Goals as goal
 
-pub returns-then-l-ne0 : goal.returns-then-l-ne0
-returns-then-l-ne0 c = is_closed _ c.if-l-ne0.true
-
 pub returns-then-l-lt32 : goal.returns-then-l-lt32
 returns-then-l-lt32 c = in_header c.args.l c.if-l-ne0.false (omega arith)
 

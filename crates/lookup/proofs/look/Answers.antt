@@ -5,7 +5,7 @@ use native.Mathlib.Omega.{arith}
 use lib.ListN.{length}
 use borrow.Enum.Refused.{opened}
 use Rattle.table.specs.Skipping.{NoValue}
-use Rattle.lookup.proofs.Passing.{Goes, goes_fresh, goes_stands, goes_skipped, goes_halted, told_ended, told_refused, goes-next, next-stands, told-found, no_value}
+use Rattle.lookup.proofs.Passing.{Goes, goes_fresh, goes_stands, goes_skipped, goes_halted, told_ended, told_refused, goes_next, next_stands, told_found, no_value}
 use borrow.Author.Rules.{rules}
 use Rattle.lookup.proofs.look.Goals as goal
 
@@ -34,16 +34,16 @@ pub overflow_sub-n-then-begins : goal.overflow_sub-n-then-begins
 overflow_sub-n-then-begins c = let w = goes_skipped c.args.c c.args.tail.now c.args.n c.args.sequence c.args.vs.now c.loop-left.at c.loop-left.left c.loop-left.start c.loop-left.invariant c.loop-left-test.true _ c.requires c.key_of-key.ensures _ c.skip-p.ensures.0 c.skip-p.ensures.1 in w.1
 
 pub check_from-requires : goal.check_from-requires
-check_from-requires c = let o = rw c.in-Value.is at c.step_at.ensures.1 in next-stands c.args.c c.args.tail.now c.args.n c.args.sequence c.args.vs.now c.skip-p.result.at c.skip-p.result.left c.skip-p.result.start (goes_skipped c.args.c c.args.tail.now c.args.n c.args.sequence c.args.vs.now c.loop-left.at c.loop-left.left c.loop-left.start c.loop-left.invariant c.loop-left-test.true _ c.requires c.key_of-key.ensures _ c.skip-p.ensures.0 c.skip-p.ensures.1) c.if-left-eq0.false c.well_formed.1.0.1 _ _ o _ c.begins.ensures _ c.cursor_at.ensures
+check_from-requires c = let o = rw c.in-Value.is at c.step_at.ensures.1 in next_stands c.args.c c.args.tail.now c.args.n c.args.sequence c.args.vs.now c.skip-p.result.at c.skip-p.result.left c.skip-p.result.start (goes_skipped c.args.c c.args.tail.now c.args.n c.args.sequence c.args.vs.now c.loop-left.at c.loop-left.left c.loop-left.start c.loop-left.invariant c.loop-left-test.true _ c.requires c.key_of-key.ensures _ c.skip-p.ensures.0 c.skip-p.ensures.1) c.if-left-eq0.false c.well_formed.1.0.1 _ _ o _ c.begins.ensures _ c.cursor_at.ensures
 
 pub returns-then-begins : goal.returns-then-begins
-returns-then-begins c = let o = rw c.in-Value.is at c.step_at.ensures.1 in told-found c.args.c c.args.tail.now c.args.n c.args.sequence c.args.vs.now c.skip-p.result.at c.skip-p.result.left c.skip-p.result.start (goes_skipped c.args.c c.args.tail.now c.args.n c.args.sequence c.args.vs.now c.loop-left.at c.loop-left.left c.loop-left.start c.loop-left.invariant c.loop-left-test.true _ c.requires c.key_of-key.ensures _ c.skip-p.ensures.0 c.skip-p.ensures.1) c.if-left-eq0.false c.well_formed.1.0.1 _ _ o _ c.begins.ensures c.if-begins.true _ c.cursor_at.ensures _ c.check_from.ensures _ c.looked_by-then-begins.ensures
+returns-then-begins c = let o = rw c.in-Value.is at c.step_at.ensures.1 in told_found c.args.c c.args.tail.now c.args.n c.args.sequence c.args.vs.now c.skip-p.result.at c.skip-p.result.left c.skip-p.result.start (goes_skipped c.args.c c.args.tail.now c.args.n c.args.sequence c.args.vs.now c.loop-left.at c.loop-left.left c.loop-left.start c.loop-left.invariant c.loop-left-test.true _ c.requires c.key_of-key.ensures _ c.skip-p.ensures.0 c.skip-p.ensures.1) c.if-left-eq0.false c.well_formed.1.0.1 _ _ o _ c.begins.ensures c.if-begins.true _ c.cursor_at.ensures _ c.check_from.ensures _ c.looked_by-then-begins.ensures
 
 pub loop-left-smaller : goal.loop-left-smaller
 loop-left-smaller c = let o = rw c.in-Value.is at c.step_at.ensures.1 in omega (arith, o.0, o.1, c.skip-p.ensures.2)
 
 pub loop-left-preserved : goal.loop-left-preserved
-loop-left-preserved c = let o = rw c.in-Value.is at c.step_at.ensures.1 in goes-next c.args.c c.args.tail.now c.args.n c.args.sequence c.args.vs.now c.skip-p.result.at c.skip-p.result.left c.skip-p.result.start (goes_skipped c.args.c c.args.tail.now c.args.n c.args.sequence c.args.vs.now c.loop-left.at c.loop-left.left c.loop-left.start c.loop-left.invariant c.loop-left-test.true _ c.requires c.key_of-key.ensures _ c.skip-p.ensures.0 c.skip-p.ensures.1) c.if-left-eq0.false c.well_formed.1.0.1 _ _ o _ c.begins.ensures c.if-begins.false
+loop-left-preserved c = let o = rw c.in-Value.is at c.step_at.ensures.1 in goes_next c.args.c c.args.tail.now c.args.n c.args.sequence c.args.vs.now c.skip-p.result.at c.skip-p.result.left c.skip-p.result.start (goes_skipped c.args.c c.args.tail.now c.args.n c.args.sequence c.args.vs.now c.loop-left.at c.loop-left.left c.loop-left.start c.loop-left.invariant c.loop-left-test.true _ c.requires c.key_of-key.ensures _ c.skip-p.ensures.0 c.skip-p.ensures.1) c.if-left-eq0.false c.well_formed.1.0.1 _ _ o _ c.begins.ensures c.if-begins.false
 
 pub returns : goal.returns
 returns c = told_ended c.args.c c.args.tail.now c.args.n c.args.sequence c.args.vs.now c.loop-left.at c.loop-left.left c.loop-left.start c.loop-left.invariant c.loop-left-test.false _ c.ended-2.ensures _ c.looked_by-2.ensures

@@ -3,7 +3,7 @@ use Prim.Native.Nat.{◌-◌}
 use native.Mathlib.Omega.{arith}
 use lib.ListN.{length}
 use Rattle.table.specs.Skipping.{NoValue}
-use Rattle.lookup.proofs.Passing.{Goes, goes_fresh, goes_stands, goes_skipped, goes_halted, told_ended, told_refused, goes-next, next-stands, told-found, no_value}
+use Rattle.lookup.proofs.Passing.{Goes, goes_fresh, goes_stands, goes_skipped, goes_halted, told_ended, told_refused, goes_next, next_stands, told_found, no_value}
 use borrow.Author.Rules.{rules}
 use Rattle.lookup.proofs.look.Given as goal
 

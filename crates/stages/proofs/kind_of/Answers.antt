@@ -11,7 +11,7 @@ pub returns-then-starts_with-2 : goal.returns-then-starts_with-2
 returns-then-starts_with-2 c = cases.is_psf2 c.args.file.now (sym c.starts_with.ensures ∙ c.if-starts_with.false) (sym c.starts_with-2.ensures ∙ c.if-starts_with-2.true)
 
 pub returns-then-starts_with-3 : goal.returns-then-starts_with-3
-returns-then-starts_with-3 c = cases.is-vfont2 c.args.file.now (sym c.starts_with.ensures ∙ c.if-starts_with.false) (sym c.starts_with-2.ensures ∙ c.if-starts_with-2.false) (sym c.starts_with-3.ensures ∙ c.if-starts_with-3.true)
+returns-then-starts_with-3 c = cases.is_vfont2 c.args.file.now (sym c.starts_with.ensures ∙ c.if-starts_with.false) (sym c.starts_with-2.ensures ∙ c.if-starts_with-2.false) (sym c.starts_with-3.ensures ∙ c.if-starts_with-3.true)
 
 pub returns : goal.returns
 returns c = cases.no_kind c.args.file.now (sym c.starts_with.ensures ∙ c.if-starts_with.false) (sym c.starts_with-2.ensures ∙ c.if-starts_with-2.false) (sym c.starts_with-3.ensures ∙ c.if-starts_with-3.false)

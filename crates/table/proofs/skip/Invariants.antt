@@ -3,7 +3,7 @@ use Prim.Native.Nat.{◌-◌}
 use native.Mathlib.Omega.{arith}
 use lib.ListN.{length}
 use Rattle.table.specs.Skipping.{skipped, cursor_of, front_at}
-use Rattle.table.proofs.Turning.{Kept, turns-value, turns-start, turns-end, stops-start, stops_end, stops-last, stops-other, stops-past}
+use Rattle.table.proofs.Turning.{Kept, turns_value, turns_start, turns_end, stops_start, stops_end, stops_last, stops_other, stops_past}
 use borrow.Author.Rules.{rules}
 use Rattle.table.proofs.skip.Given as goal
 

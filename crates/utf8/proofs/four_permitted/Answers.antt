@@ -4,9 +4,6 @@ use mathlib.Core.Logic.{inl, inr}
 use Rattle.utf8.proofs.Plain.{four_free, four_last}
 use Rattle.utf8.proofs.four_permitted.Goals as goal
 
-pub returns-then-z-lt190 : goal.returns-then-z-lt190
-returns-then-z-lt190 c = four_free c.args.b c.args.x c.args.y c.args.z (omega arith) (inl (omega arith))
-
 pub returns-then-y-lt191 : goal.returns-then-y-lt191
 returns-then-y-lt191 c = four_free c.args.b c.args.x c.args.y c.args.z (omega arith) (inr (inl (omega arith)))
 

@@ -7,9 +7,6 @@ use Rattle.utf8.proofs.lead_of.Goals as goal
 pub returns-in-0-to-127 : goal.returns-in-0-to-127
 returns-in-0-to-127 c = row_1 c.args.b (omega arith) (omega arith)
 
-pub returns-in-194-to-223 : goal.returns-in-194-to-223
-returns-in-194-to-223 c = row_2 c.args.b (omega arith) (omega arith)
-
 pub returns-in_default : goal.returns-in_default
 returns-in_default c = row_x c.args.b (omega arith) (omega arith)
 

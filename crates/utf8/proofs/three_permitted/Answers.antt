@@ -9,9 +9,6 @@ returns-then-b-lt239 c = three_low c.args.b c.args.x c.args.y (omega arith)
 pub returns-then-y-lt144 : goal.returns-then-y-lt144
 returns-then-y-lt144 c = three_under c.args.b c.args.x c.args.y (omega arith)
 
-pub returns-then-y-lt176 : goal.returns-then-y-lt176
-returns-then-y-lt176 c = three_among c.args.b c.args.x c.args.y (omega arith)
-
 pub returns-then-x-eq183 : goal.returns-then-x-eq183
 returns-then-x-eq183 c = three_above c.args.b c.args.x c.args.y (omega arith)
 
