@@ -1,10 +1,10 @@
 /*
  * lavandol.h: bitmap fonts in the formats PSF1, PSF2 and vfont2, read from memory.
  *
- * Link with crates/lavandol/out/liblavandol.a, which `tools/built lavandol` makes: x86-64 ELF, its functions called by the System V
- * calling convention. Every function is proved to answer as its comment says on any bytes and any numbers, to end, and to read and
- * write nothing outside the slices that it is lent. The proof ends at this header: nothing checks the declarations below against the
- * library, and the caller must keep the three rules that follow.
+ * Link with crates/lavandol/out/liblavandol.a, which `tools/built lavandol` makes: x86-64 ELF, with instructions up to SSE4.1 (as any
+ * processor of x86-64-v2 has), its functions called by the System V calling convention. Every function is proved to answer as its comment
+ * says on any bytes and any numbers, to end, and to read and write nothing outside the slices that it is lent. The proof ends at this
+ * header: nothing checks the declarations below against the library, and the caller must keep the three rules that follow.
  *
  * - A slice is a pointer and a number of elements: `file, file_len` are bytes, `values, value_count` and `pairs, pairs_len` are uint32_t.
  *   So many elements can be read there (written, for a buffer; both, for the buffer of an edit). The pointer must not be NULL, not even
@@ -15,10 +15,10 @@
  * - The pointers are not kept: memory may be moved or freed after the call.
  *
  * The functions allocate nothing, have no global state and no locks, and call nothing: the archive needs no C library. So they may run
- * in several threads at once, and in an interrupt handler; but lav_check, lav_metrics, the four conversions, the two edits, lav_differences
- * and the loader's three calls use SSE registers (the compiler's doing; tools/try-boundary reads it off the archive), so a handler that
- * does not save them must not call these twelve. They need at most about 600 bytes of stack, lav_differences about 800, lav_loader_feed
- * about 1,800 (docs/BENCHMARK.md), whatever the font. Each call on a file checks the font first, one pass over the header, the vfont2
+ * in several threads at once, and in an interrupt handler; but all of them use SSE registers (the compiler's doing; tools/try-boundary
+ * reads it off the archive), so a handler that does not save them must call none. They need at most about 500 bytes of stack, the two edits
+ * about 750, lav_differences about 800, lav_loader_close about 850, the four conversions about 900, lav_loader_feed about 1,650
+ * (docs/BENCHMARK.md, "Size and stack"), whatever the font. Each call on a file checks the font first, one pass over the header, the vfont2
  * entries and the Unicode table; a lookup is done in that same pass; a walk is another pass over the Unicode table at most, a conversion two;
  * an edit is a pass up to the place and one move of the bytes behind it; a comparison is one pass over the bitmaps and tables of both fonts,
  * side by side, and a second one where the buffer might have been too short. A font that arrives piece by piece is checked as it comes
