@@ -106,7 +106,6 @@ pub fn no_refusal() -> LavRefusal
 }
 
 // A glyph number in 32 bits. Each refusal of a font has one that is at most 4,096; a loader's record that its own calls have not made may hold any.
-#[tactic(auto)]
 fn glyph_told(glyph: usize) -> u32
     ensures { result ≡ glyph_told glyph }
 {

@@ -38,13 +38,16 @@ pieces_joined ps = ap (λ (l : Loader). fed_all l ps) (sym fresh_empty) ∙ with
 pub open_while_fed : (ps : List (List ℕ)) → is_open (fed_all fresh_of ps) ≡ true
 open_while_fed ps = ap is_open (pieces_joined ps) ∙ (stays_open fresh_of (together ps) fresh_open fresh_kept).0
 
+pieces_checked : (ps : List (List ℕ)) → close_answer (fed_all fresh_of ps) ≡ check_of (together ps)
+pieces_checked ps = sym (answers (fed_all fresh_of ps) (open_while_fed ps)) ∙ ap answer_of (pieces_joined ps) ∙ loaded (together ps)
+
 -- "From a fresh state its answer, number and place included, equals the whole-file check on the pieces joined"; a refusal's glyph too (W7)
 pub answer_is_check : (ps : List (List ℕ)) → close_answer (fed_all fresh_of ps) ≡ check_of (together ps)
-answer_is_check ps = sym (answers (fed_all fresh_of ps) (open_while_fed ps)) ∙ ap answer_of (pieces_joined ps) ∙ loaded (together ps)
+answer_is_check ps = pieces_checked ps
 
 -- however a file is cut, the answer is the same, and so is the record
 pub cuts_alike : (ps qs : List (List ℕ)) → together ps ≡ together qs → (close_answer (fed_all fresh_of ps) ≡ close_answer (fed_all fresh_of qs)) × (fed_all fresh_of ps ≡ fed_all fresh_of qs)
-cuts_alike ps qs e = (answer_is_check ps ∙ ap check_of e ∙ sym (answer_is_check qs), pieces_joined ps ∙ ap (fed_of fresh_of) e ∙ sym (pieces_joined qs))
+cuts_alike ps qs e = (pieces_checked ps ∙ ap check_of e ∙ sym (pieces_checked qs), pieces_joined ps ∙ ap (fed_of fresh_of) e ∙ sym (pieces_joined qs))
 
 -- which records are open, a caller's own bytes among them: not closed, and with so many unfinished bytes as feeding leaves
 pub open_exactly : (l : Loader) → (is_open l ≡ true) ↔ ((l.closed ≡ 0) × (l.total < 32 → l.held.len ≡ l.total) × (32 ≤ l.total → l.held.len < 18))
@@ -101,11 +104,11 @@ shut l [] o = o
 shut l (Feed p ∷ cs) o = shut (fed_of l p) cs (ap is_open (sym (stays l p o)) ∙ o)
 shut l (Close ∷ cs) o = shut (closed_of l) cs (close_closes l)
 
-open_then : (l : Loader) (cs : List Call) → is_open l ≡ true → Kept l.held → is_open (called l cs) ≡ no_close cs
-open_then l [] o k = o
-open_then l (Feed p ∷ cs) o k = let n = stays_open l p o k in open_then (fed_of l p) cs n.0 n.1
-open_then l (Close ∷ cs) o k = shut (closed_of l) cs (close_closes l)
-
 -- nothing but a close closes: after any calls the record is open exactly if none of them was a close, so that a call is LATE exactly after one
 pub open_until_closed : (cs : List Call) → is_open (called fresh_of cs) ≡ no_close cs
 open_until_closed cs = open_then fresh_of cs fresh_open fresh_kept
+  where
+    open_then : (l : Loader) (cs : List Call) → is_open l ≡ true → Kept l.held → is_open (called l cs) ≡ no_close cs
+    open_then l [] o k = o
+    open_then l (Feed p ∷ cs) o k = let n = stays_open l p o k in open_then (fed_of l p) cs n.0 n.1
+    open_then l (Close ∷ cs) o k = shut (closed_of l) cs (close_closes l)

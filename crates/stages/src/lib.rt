@@ -69,7 +69,7 @@ pub fn says(file: &[u8]) -> Checked
 }
 
 // The same for the loader, which asks it at every piece: a function of its own, since the compiler puts `says` into the check only while nothing
-// else calls it, and without that every call on a file would use SSE registers (include/lavandol.h).
+// else calls it.
 pub fn describes(file: &[u8]) -> Checked
     ensures { result ≡ says_of file.now }
 {

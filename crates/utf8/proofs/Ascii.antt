@@ -1,9 +1,8 @@
 -- The reader of a value (`utf8::read_value`, which answers `read_value`) on a first byte below 80.
 use mathlib.Core.Path.{◌≡◌, sym, ◌∙◌}
-use mathlib.Core.List.{List, [], ◌∷◌}
+use mathlib.Core.List.{List, ◌∷◌}
 use Prim.Native.Nat.{ℕ, ◌<◌}
 use native.Mathlib.Omega.{arith}
-use lib.ListN.{length, get_or}
 use Rattle.utf8.specs.declared.Read.TheVariants.{Value}
 use Rattle.utf8.specs.Reading.{read_value}
 use Rattle.utf8.proofs.First.{ascii, no_mark, back_value}
@@ -13,8 +12,3 @@ pub ascii_value : (b : ℕ) (s : List ℕ) → b < 0x80 → read_value (b ∷ s)
 ascii_value b s h =
     back_value (read_value (b ∷ s)) b 1
     (no_mark (b ∷ s) (omega arith) (λ z. absurd (omega arith)) (λ z. absurd (omega arith)) ∙ sym (ascii (b ∷ s) (omega arith) (omega arith)))
-
--- the same of the bytes that are read and of the number that is answered
-pub itself : (s : List ℕ) → 0 < length s → get_or s 0 0 < 0x80 → (v : ℕ) → v ≡ get_or s 0 0 → Value v 1 ≡ read_value s
-itself [] h k v e = absurd (omega arith)
-itself (b ∷ s) h k v e = rw e (sym (ascii_value b s k))

@@ -5,6 +5,7 @@ pub mod Permitted
 pub mod Conts
 pub mod First
 pub mod Ascii
+pub mod Itself
 pub mod Sizes
 pub mod Writing
 pub mod Reading

@@ -206,7 +206,7 @@ fn permitted_at(k: usize, r: Read) -> Read
 
 // The value at the front of some bytes, and its length; Cut where the bytes end too soon, Bad with the place of the first byte that no
 // value has there: a value is well-formed, and no noncharacter. Noncharacters have three bytes or four.
-#[tactic(auto, using(crate::proofs::Ascii::itself))]
+#[tactic(auto, using(crate::proofs::Itself::itself))]
 pub fn read_value(s: &[u8]) -> Read
     ensures { result ≡ read_value s.now }
 {
