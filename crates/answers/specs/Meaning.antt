@@ -1,33 +1,13 @@
 -- Each answer of the public calls as the struct that C reads: no refusal and the answer's numbers, or the refusal and zeros.
 -- include/lavandol.h says the same in C.
-use Rattle.std.specs.Prelude.{ℕ, pos, ltb, Bool, true, false}
+use Rattle.std.specs.Prelude.{ℕ, pos, ltb, Bool, true, false, Result, Ok, Err}
 use Rattle.base.specs.Meaning.{pick}
 use Rattle.refusal.specs.declared.Refusal.{Refusal}
 use Rattle.refusal.specs.Meaning.{number_of, no_glyph}
 use Rattle.header.specs.declared.Kind.{Kind}
 use Rattle.header.specs.declared.Kind.TheVariants.{Psf1, Psf2, Vfont2}
-use Rattle.header.specs.declared.Checked.{Checked}
-use Rattle.header.specs.declared.Checked.TheVariants.{Sound, Refused}
-use Rattle.loader.specs.declared.Reply.{Reply}
-use Rattle.loader.specs.declared.Reply.TheVariants.{Taken, Refused as Untaken}
-use Rattle.bitmap.specs.declared.Part.{Part}
-use Rattle.bitmap.specs.declared.Part.TheVariants.{At, Refused as NoPart}
-use Rattle.bitmap.specs.declared.Pixel.{Pixel}
-use Rattle.bitmap.specs.declared.Pixel.TheVariants.{Bit, Refused as NoPixel}
-use Rattle.bitmap.specs.declared.GlyphMetrics.{GlyphMetrics}
-use Rattle.bitmap.specs.declared.GlyphMetrics.TheVariants.{Is as IsMetrics, Refused as NoMetrics}
 use Rattle.table.specs.declared.Item as I
 use Rattle.table.specs.declared.Item.TheVariants.{Single, Start, Value, End}
-use Rattle.questions.specs.declared.Walk.{Walk}
-use Rattle.questions.specs.declared.Walk.TheVariants.{Is, Refused as NoWalk}
-use Rattle.questions.specs.declared.Lookup.{Lookup}
-use Rattle.questions.specs.declared.Lookup.TheVariants.{Glyph, Refused as NoLookup}
-use Rattle.convert.specs.declared.Converted.{Converted}
-use Rattle.convert.specs.declared.Converted.TheVariants.{Wrote, Refused as NoOutput}
-use Rattle.edit.specs.declared.Edited.{Edited}
-use Rattle.edit.specs.declared.Edited.TheVariants.{Length, Refused as NoEdit}
-use Rattle.differences.specs.declared.Compared.{Compared}
-use Rattle.differences.specs.declared.Compared.TheVariants.{Pairs, Refused as NoPairs}
 use Rattle.answers.specs.declared.LavRefusal.{LavRefusal}
 use Rattle.answers.specs.declared.LavFont.{LavFont}
 use Rattle.answers.specs.declared.LavPart.{LavPart}
@@ -35,6 +15,12 @@ use Rattle.answers.specs.declared.LavMetrics.{LavMetrics}
 use Rattle.answers.specs.declared.LavItem.{LavItem}
 use Rattle.answers.specs.declared.LavNumber.{LavNumber}
 use Rattle.answers.specs.declared.LavDifferences.{LavDifferences}
+use Rattle.bitmap.specs.declared.Part.{Part}
+use Rattle.entries.specs.declared.Metrics.{Metrics}
+use Rattle.header.specs.declared.Font.{Font}
+use Rattle.table.specs.declared.Item.{Item}
+use Rattle.differences.specs.declared.Uncompared.{Uncompared}
+use Rattle.differences.specs.declared.Uncompared.TheVariants.{First, Second, Neither}
 
 -- a glyph number, or 4,096 where it is none that a glyph can have
 abbrev pub glyph_told : ℕ → ℕ
@@ -49,9 +35,9 @@ abbrev pub no_refusal : LavRefusal
 no_refusal = record { number = 0; glyph = no_glyph; place = 0 }
 
 -- feeding's answer: the piece is taken, or LATE
-abbrev pub reply_told : Reply → LavRefusal
-reply_told Taken = no_refusal
-reply_told (Untaken r) = refusal_told r
+abbrev pub reply_told : Result (Unit {0}) Refusal → LavRefusal
+reply_told (Ok tt) = no_refusal
+reply_told (Err r) = refusal_told r
 
 -- LAV_PSF1, LAV_PSF2, LAV_VFONT2
 abbrev pub kind_number : Kind → ℕ
@@ -80,8 +66,8 @@ refused_font r =
       end = 0;
     }
 
-abbrev pub font_answer : Checked → LavFont
-font_answer (Sound f) =
+abbrev pub font_answer : Result Font Refusal → LavFont
+font_answer (Ok f) =
     record {
       refusal = no_refusal;
       kind = kind_number f.kind;
@@ -94,23 +80,23 @@ font_answer (Sound f) =
       size = f.size;
       end = f.end;
     }
-font_answer (Refused r) = refused_font r
+font_answer (Err r) = refused_font r
 
 -- a part of the file
 abbrev pub refused_part : Refusal → LavPart
 refused_part r = record { refusal = refusal_told r; offset = 0; length = 0 }
 
-abbrev pub part_answer : Part → LavPart
-part_answer (At start len) = record { refusal = no_refusal; offset = start; length = len }
-part_answer (NoPart r) = refused_part r
+abbrev pub part_answer : Result Part Refusal → LavPart
+part_answer (Ok p) = record { refusal = no_refusal; offset = p.start; length = p.len }
+part_answer (Err r) = refused_part r
 
 -- a glyph's metrics
 abbrev pub refused_metrics : Refusal → LavMetrics
 refused_metrics r = record { refusal = refusal_told r; up = pos 0; down = pos 0; left = pos 0; right = pos 0; logical = pos 0 }
 
-abbrev pub metrics_answer : GlyphMetrics → LavMetrics
-metrics_answer (IsMetrics m) = record { refusal = no_refusal; up = m.up; down = m.down; left = m.left; right = m.right; logical = m.logical }
-metrics_answer (NoMetrics r) = refused_metrics r
+abbrev pub metrics_answer : Result Metrics Refusal → LavMetrics
+metrics_answer (Ok m) = record { refusal = no_refusal; up = m.up; down = m.down; left = m.left; right = m.right; logical = m.logical }
+metrics_answer (Err r) = refused_metrics r
 
 -- one number, and the refusals of the calls that answer so
 abbrev pub number_answer : ℕ → LavNumber
@@ -120,14 +106,14 @@ abbrev pub refused_number : Refusal → LavNumber
 refused_number r = record { refusal = refusal_told r; number = 0 }
 
 -- a pixel, 1 is drawn
-abbrev pub pixel_answer : Pixel → LavNumber
-pixel_answer (Bit b) = number_answer b
-pixel_answer (NoPixel r) = refused_number r
+abbrev pub pixel_answer : Result ℕ Refusal → LavNumber
+pixel_answer (Ok b) = number_answer b
+pixel_answer (Err r) = refused_number r
 
 -- the glyph found
-abbrev pub lookup_answer : Lookup → LavNumber
-lookup_answer (Glyph g) = number_answer g
-lookup_answer (NoLookup r) = refused_number r
+abbrev pub lookup_answer : Result ℕ Refusal → LavNumber
+lookup_answer (Ok g) = number_answer g
+lookup_answer (Err r) = refused_number r
 
 -- LAV_SINGLE, LAV_START, LAV_VALUE_IN_SEQUENCE, LAV_END; a mark has the value 0
 abbrev pub item_answer : I.Item → LavItem
@@ -140,21 +126,23 @@ item_answer End = record { refusal = no_refusal; kind = 4; value = 0 }
 abbrev pub refused_item : Refusal → LavItem
 refused_item r = record { refusal = refusal_told r; kind = 0; value = 0 }
 
-abbrev pub walk_answer : Walk → LavItem
-walk_answer (Is i) = item_answer i
-walk_answer (NoWalk r) = refused_item r
+abbrev pub walk_answer : Result Item Refusal → LavItem
+walk_answer (Ok i) = item_answer i
+walk_answer (Err r) = refused_item r
 
 -- how many bytes a conversion wrote
-abbrev pub converted_answer : Converted → LavNumber
-converted_answer (Wrote n) = number_answer n
-converted_answer (NoOutput r) = refused_number r
+abbrev pub converted_answer : Result ℕ Refusal → LavNumber
+converted_answer (Ok n) = number_answer n
+converted_answer (Err r) = refused_number r
 
 -- how long a font is after an edit
-abbrev pub edited_answer : Edited → LavNumber
-edited_answer (Length n) = number_answer n
-edited_answer (NoEdit r) = refused_number r
+abbrev pub edited_answer : Result ℕ Refusal → LavNumber
+edited_answer (Ok n) = number_answer n
+edited_answer (Err r) = refused_number r
 
 -- how many pairs of differences two fonts have; or the refusal, and whose it is
-abbrev pub compared_answer : Compared → LavDifferences
-compared_answer (Pairs n) = record { refusal = no_refusal; font = 0; count = n }
-compared_answer (NoPairs w r) = record { refusal = refusal_told r; font = w; count = 0 }
+abbrev pub compared_answer : Result ℕ Uncompared → LavDifferences
+compared_answer (Ok n) = record { refusal = no_refusal; font = 0; count = n }
+compared_answer (Err (First r)) = record { refusal = refusal_told r; font = 1; count = 0 }
+compared_answer (Err (Second r)) = record { refusal = refusal_told r; font = 2; count = 0 }
+compared_answer (Err (Neither r)) = record { refusal = refusal_told r; font = 0; count = 0 }

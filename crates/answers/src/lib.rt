@@ -4,13 +4,10 @@
 ghost use Rattle.std.specs.Prelude.{◌≡◌};
 ghost use Rattle.answers.specs.Meaning.{no_refusal, glyph_told, refusal_told, reply_told, kind_number, flag_number, refused_font, font_answer, refused_part, part_answer, refused_metrics, metrics_answer, number_answer, refused_number, pixel_answer, lookup_answer, item_answer, refused_item, walk_answer, converted_answer, edited_answer, compared_answer};
 
-use bitmap::{GlyphMetrics, Part, Pixel};
-use convert::Converted;
-use differences::Compared;
-use edit::Edited;
-use header::{Checked, Kind};
-use loader::Reply;
-use questions::{Lookup, Walk};
+use bitmap::Part;
+use differences::Uncompared;
+use entries::Metrics;
+use header::{Font, Kind};
 use refusal::Refusal;
 use table::Item;
 
@@ -128,12 +125,12 @@ pub fn refusal_told(r: Refusal) -> LavRefusal
 }
 
 // What feeding a loader answers: a refusal alone.
-pub fn reply_told(a: Reply) -> LavRefusal
+pub fn reply_told(a: Result<(), Refusal>) -> LavRefusal
     ensures { result ≡ reply_told a }
 {
     match a {
-        Reply::Taken => no_refusal(),
-        Reply::Refused(r) => refusal_told(r),
+        Ok(()) => no_refusal(),
+        Err(r) => refusal_told(r),
     }
 }
 
@@ -173,11 +170,11 @@ pub fn refused_font(r: Refusal) -> LavFont
     }
 }
 
-pub fn font_answer(a: Checked) -> LavFont
+pub fn font_answer(a: Result<Font, Refusal>) -> LavFont
     ensures { result ≡ font_answer a }
 {
     match a {
-        Checked::Sound(f) => {
+        Ok(f) => {
             let k = f.kind;
             LavFont {
                 refusal: no_refusal(),
@@ -192,7 +189,7 @@ pub fn font_answer(a: Checked) -> LavFont
                 end: f.end,
             }
         }
-        Checked::Refused(r) => refused_font(r),
+        Err(r) => refused_font(r),
     }
 }
 
@@ -206,16 +203,16 @@ pub fn refused_part(r: Refusal) -> LavPart
     }
 }
 
-pub fn part_answer(p: Part) -> LavPart
+pub fn part_answer(p: Result<Part, Refusal>) -> LavPart
     ensures { result ≡ part_answer p }
 {
     match p {
-        Part::At(start, len) => LavPart {
+        Ok(part) => LavPart {
             refusal: no_refusal(),
-            offset: start,
-            length: len,
+            offset: part.start,
+            length: part.len,
         },
-        Part::Refused(r) => refused_part(r),
+        Err(r) => refused_part(r),
     }
 }
 
@@ -237,21 +234,21 @@ pub fn refused_number(r: Refusal) -> LavNumber
     }
 }
 
-pub fn pixel_answer(p: Pixel) -> LavNumber
+pub fn pixel_answer(p: Result<u8, Refusal>) -> LavNumber
     ensures { result ≡ pixel_answer p }
 {
     match p {
-        Pixel::Bit(b) => number_answer(base::size(base::wide(b))),
-        Pixel::Refused(r) => refused_number(r),
+        Ok(b) => number_answer(base::size(base::wide(b))),
+        Err(r) => refused_number(r),
     }
 }
 
-pub fn lookup_answer(l: Lookup) -> LavNumber
+pub fn lookup_answer(l: Result<usize, Refusal>) -> LavNumber
     ensures { result ≡ lookup_answer l }
 {
     match l {
-        Lookup::Glyph(g) => number_answer(g),
-        Lookup::Refused(r) => refused_number(r),
+        Ok(g) => number_answer(g),
+        Err(r) => refused_number(r),
     }
 }
 
@@ -268,11 +265,11 @@ pub fn refused_metrics(r: Refusal) -> LavMetrics
     }
 }
 
-pub fn metrics_answer(m: GlyphMetrics) -> LavMetrics
+pub fn metrics_answer(m: Result<Metrics, Refusal>) -> LavMetrics
     ensures { result ≡ metrics_answer m }
 {
     match m {
-        GlyphMetrics::Is(x) => LavMetrics {
+        Ok(x) => LavMetrics {
             refusal: no_refusal(),
             up: x.up,
             down: x.down,
@@ -280,7 +277,7 @@ pub fn metrics_answer(m: GlyphMetrics) -> LavMetrics
             right: x.right,
             logical: x.logical,
         },
-        GlyphMetrics::Refused(r) => refused_metrics(r),
+        Err(r) => refused_metrics(r),
     }
 }
 
@@ -321,45 +318,55 @@ pub fn refused_item(r: Refusal) -> LavItem
     }
 }
 
-pub fn walk_answer(w: Walk) -> LavItem
+pub fn walk_answer(w: Result<Item, Refusal>) -> LavItem
     ensures { result ≡ walk_answer w }
 {
     match w {
-        Walk::Is(i) => item_answer(i),
-        Walk::Refused(r) => refused_item(r),
+        Ok(i) => item_answer(i),
+        Err(r) => refused_item(r),
     }
 }
 
-pub fn converted_answer(c: Converted) -> LavNumber
+pub fn converted_answer(c: Result<usize, Refusal>) -> LavNumber
     ensures { result ≡ converted_answer c }
 {
     match c {
-        Converted::Wrote(n) => number_answer(n),
-        Converted::Refused(r) => refused_number(r),
+        Ok(n) => number_answer(n),
+        Err(r) => refused_number(r),
     }
 }
 
-pub fn edited_answer(e: Edited) -> LavNumber
+pub fn edited_answer(e: Result<usize, Refusal>) -> LavNumber
     ensures { result ≡ edited_answer e }
 {
     match e {
-        Edited::Length(n) => number_answer(n),
-        Edited::Refused(r) => refused_number(r),
+        Ok(n) => number_answer(n),
+        Err(r) => refused_number(r),
     }
 }
 
-pub fn compared_answer(c: Compared) -> LavDifferences
+pub fn compared_answer(c: Result<usize, Uncompared>) -> LavDifferences
     ensures { result ≡ compared_answer c }
 {
     match c {
-        Compared::Pairs(n) => LavDifferences {
+        Ok(n) => LavDifferences {
             refusal: no_refusal(),
             font: 0,
             count: n,
         },
-        Compared::Refused(w, r) => LavDifferences {
+        Err(Uncompared::First(r)) => LavDifferences {
             refusal: refusal_told(r),
-            font: w,
+            font: 1,
+            count: 0,
+        },
+        Err(Uncompared::Second(r)) => LavDifferences {
+            refusal: refusal_told(r),
+            font: 2,
+            count: 0,
+        },
+        Err(Uncompared::Neither(r)) => LavDifferences {
+            refusal: refusal_told(r),
+            font: 0,
             count: 0,
         },
     }

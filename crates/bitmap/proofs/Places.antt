@@ -22,12 +22,10 @@ use Rattle.header.specs.declared.Kind.TheVariants.{Psf1, Psf2, Vfont2}
 use Rattle.header.specs.declared.Font.{Font}
 use Rattle.header.specs.Bounds.{Placed, KindPlaced, Even, Dispatched}
 use Rattle.bitmap.specs.declared.Bitmap.{Bitmap}
-use Rattle.bitmap.specs.declared.Located.TheVariants.{Found, Refused as NotLocated}
-use Rattle.bitmap.specs.declared.Part.TheVariants.{At, Refused as NoPart}
-use Rattle.bitmap.specs.declared.Pixel.TheVariants.{Bit, Refused as NoPixel}
 use Rattle.bitmap.specs.Meaning.{even_bitmap, bit_of}
 use Rattle.bitmap.specs.Reading.{entry_located, kind_bitmap, bitmap_of, row_of, pixel_of}
 use Rattle.bitmap.specs.Bounds.{Inside, LocatedInside}
+use Rattle.std.specs.Prelude.{Ok, Err}
 
 module _ (s : List ℕ) (f : Font) (g : ℕ) (p : Placed s f) (h : g < f.count) where
   pub even_inside : Even f → Inside s (even_bitmap f g)
@@ -64,30 +62,30 @@ module _ (s : List ℕ) (f : Font) (g : ℕ) (p : Placed s f) (h : g < f.count) 
   pub even_start : Even f → f.bitmaps + g * f.size ≤ 1048576
   even_start e = let i = even_inside e in omega (arith, p.0, i.0)
 
-pub too_high : (s : List ℕ) (f : Font) (g : ℕ) → f.count ≤ g → NotLocated (refusal Ask 0) ≡ bitmap_of s f g
+pub too_high : (s : List ℕ) (f : Font) (g : ℕ) → f.count ≤ g → Err (refusal Ask 0) ≡ bitmap_of s f g
 unfolding bitmap_of when
 too_high s f g h = rw (le-ltb g f.count h)
 
 -- a glyph whose bitmap is found is one of the font's
-pub found_below : (s : List ℕ) (f : Font) (g : ℕ) (b : Bitmap) → bitmap_of s f g ≡ Found b → g < f.count
+pub found_below : (s : List ℕ) (f : Font) (g : ℕ) (b : Bitmap) → bitmap_of s f g ≡ Ok b → g < f.count
 unfolding bitmap_of when
 found_below s f g b e = go (ltb g f.count) refl e
   where
-    go : (t : Bool) → ltb g f.count ≡ t → when t (kind_bitmap s f g f.kind) (NotLocated (refusal Ask 0)) ≡ Found b → g < f.count
+    go : (t : Bool) → ltb g f.count ≡ t → when t (kind_bitmap s f g f.kind) (Err (refusal Ask 0)) ≡ Ok b → g < f.count
     go true q e = ltb-true g f.count q
     go false q e = let z : ◌≡◌ {A = ℕ} 0 1 = cc in absurd (omega arith)
 
 -- a row and a pixel that a bitmap has, and a column that it has not
-pub row_in : (b : Bitmap) (y : ℕ) → y < b.height → row_of (Found b) y ≡ At (b.start + y * row_bytes b.width) (row_bytes b.width)
+pub row_in : (b : Bitmap) (y : ℕ) → y < b.height → row_of (Ok b) y ≡ Ok (record { start = b.start + y * row_bytes b.width; len = row_bytes b.width })
 unfolding when
 row_in b y h = rw (lt-ltb y b.height h)
 
 pub pixel_in : (s : List ℕ) (b : Bitmap) (y x : ℕ) → y < b.height → x < b.width →
-    pixel_of s (Found b) y x ≡ Bit (bit_of (get_or s (b.start + y * row_bytes b.width + x / 8) 0) (x % 8))
+    pixel_of s (Ok b) y x ≡ Ok (bit_of (get_or s (b.start + y * row_bytes b.width + x / 8) 0) (x % 8))
 unfolding when
 pixel_in s b y x h w = rw (lt-ltb y b.height h, lt-ltb x b.width w)
 
-pub pixel_past : (s : List ℕ) (b : Bitmap) (y x : ℕ) → y < b.height → b.width ≤ x → pixel_of s (Found b) y x ≡ NoPixel (refusal Ask 0)
+pub pixel_past : (s : List ℕ) (b : Bitmap) (y x : ℕ) → y < b.height → b.width ≤ x → pixel_of s (Ok b) y x ≡ Err (refusal Ask 0)
 unfolding when
 pixel_past s b y x h w = rw (lt-ltb y b.height h, le-ltb x b.width w)
 
@@ -104,24 +102,24 @@ module _ (s : List ℕ) (b : Bitmap) (i : Inside s b) (y : ℕ) (h : y < b.heigh
     pub row_fits : b.start + y * k + k ≤ length s
     row_fits = rw e row_inside
 
-    pub row_read : At (b.start + y * k) k ≡ row_of (Found b) y
+    pub row_read : Ok (record { start = b.start + y * k; len = k }) ≡ row_of (Ok b) y
     row_read = rw e (sym (row_in b y h))
 
     module _ (x : ℕ) (w : x < b.width) where
       pub pixel_inside : b.start + y * k + x / 8 < length s
       pixel_inside = let z : x / 8 < (b.width + 7) / 8 = omega arith in omega (arith, row_fits, e)
 
-      pub pixel_read : (v : ℕ) → v ≡ bit_of (get_or s (b.start + y * k + x / 8) 0) (x % 8) → Bit v ≡ pixel_of s (Found b) y x
+      pub pixel_read : (v : ℕ) → v ≡ bit_of (get_or s (b.start + y * k + x / 8) 0) (x % 8) → Ok v ≡ pixel_of s (Ok b) y x
       pixel_read v q = rw (q, e) (sym (pixel_in s b y x h w))
 
-  pub pixel_beside : (x : ℕ) → b.width ≤ x → NoPixel (refusal Ask 0) ≡ pixel_of s (Found b) y x
+  pub pixel_beside : (x : ℕ) → b.width ≤ x → Err (refusal Ask 0) ≡ pixel_of s (Ok b) y x
   pixel_beside x w = sym (pixel_past s b y x h w)
 
-pub row_below : (b : Bitmap) (y : ℕ) → b.height ≤ y → NoPart (refusal Ask 0) ≡ row_of (Found b) y
+pub row_below : (b : Bitmap) (y : ℕ) → b.height ≤ y → Err (refusal Ask 0) ≡ row_of (Ok b) y
 unfolding when
 row_below b y h = rw (le-ltb y b.height h)
 
-pub pixel_below : (s : List ℕ) (b : Bitmap) (y x : ℕ) → b.height ≤ y → NoPixel (refusal Ask 0) ≡ pixel_of s (Found b) y x
+pub pixel_below : (s : List ℕ) (b : Bitmap) (y x : ℕ) → b.height ≤ y → Err (refusal Ask 0) ≡ pixel_of s (Ok b) y x
 unfolding when
 pixel_below s b y x h = rw (le-ltb y b.height h)
 

@@ -1,5 +1,5 @@
 -- A glyph's bitmap and metrics: where it stands, how large it is, its pixels (document 01; source documents 000 and 004).
-use Rattle.std.specs.Prelude.{ℕ, ◌+◌, ◌-◌, ◌*◌, ◌/◌, ◌%◌, ◌^◌, ◌≡◌, List, [], pos, get_or, take, drop}
+use Rattle.std.specs.Prelude.{ℕ, ◌+◌, ◌-◌, ◌*◌, ◌/◌, ◌%◌, ◌^◌, ◌≡◌, List, [], pos, get_or, take, drop, Result, Ok, Err}
 use Rattle.header.specs.declared.Kind.{Kind}
 use Rattle.header.specs.declared.Kind.TheVariants.{Psf1, Psf2, Vfont2}
 use Rattle.header.specs.declared.Font.{Font}
@@ -8,7 +8,7 @@ use Rattle.entries.specs.declared.Metrics.{Metrics}
 use Rattle.entries.specs.Meaning.{entry_at, address_at, size_at, metrics_at, rows_at, cols_at, HasGlyph}
 use Rattle.bitmap.specs.declared.Bitmap as B
 use Rattle.bitmap.specs.declared.Part.{Part}
-use Rattle.bitmap.specs.declared.Part.TheVariants.{At, Refused as NoPart}
+use Rattle.refusal.specs.declared.Refusal.{Refusal}
 
 -- glyph g of a font whose bitmaps have one size: "The bitmap for a glyph is stored as height consecutive pixel rows"
 abbrev pub even_bitmap : Font → ℕ → B.Bitmap
@@ -45,6 +45,6 @@ abbrev pub pixel_in : List ℕ → B.Bitmap → ℕ → ℕ → ℕ
 pixel_in s b y x = bit_of (get_or s (row_start b y + x / 8) 0) (x % 8)
 
 -- the part of a file that an answer names: "the part alone, of length 0 if refused"
-abbrev pub view_of : List ℕ → Part → List ℕ
-view_of s (At start len) = take len (drop start s)
-view_of s (NoPart r) = []
+abbrev pub view_of : List ℕ → Result Part Refusal → List ℕ
+view_of s (Ok p) = take p.len (drop p.start s)
+view_of s (Err r) = []

@@ -3,13 +3,12 @@
 // the file (`Placed`), which the check of the font gives.
 #![tactic(auto)]
 
-ghost use Rattle.std.specs.Prelude.{◌≡◌, ◌+◌, ◌*◌, ◌≤◌, ◌<◌, length};
+ghost use Rattle.std.specs.Prelude.{◌≡◌, ◌+◌, ◌*◌, ◌≤◌, ◌<◌, length, Ok};
 ghost use Rattle.header.specs.Bounds.{Placed};
 ghost use Rattle.entries.specs.Reading.{entry_of};
 ghost use Rattle.bitmap.specs.Meaning.{even_bitmap, even_metrics, kind_metrics, bit_of};
 ghost use Rattle.bitmap.specs.Reading.{entry_located, bitmap_of, whole_of, row_of, pixel_of, metrics_of};
 ghost use Rattle.bitmap.specs.Bounds.{Inside, LocatedInside, PartInside};
-ghost use Rattle.bitmap.specs.declared.Located.TheVariants.{Found};
 
 use entries::{Entry, Metrics};
 use header::{Font, Kind};
@@ -25,31 +24,11 @@ pub struct Bitmap {
     pub width: usize,
 }
 
+// A part of the file.
 #[derive(Clone, Copy)]
-pub enum Located {
-    Found(Bitmap),
-    Refused(Refusal),
-}
-
-// A part of the file, offset and length; or the refusal.
-#[derive(Clone, Copy)]
-pub enum Part {
-    At(usize, usize),
-    Refused(Refusal),
-}
-
-// A pixel, 1 is drawn; or the refusal.
-#[derive(Clone, Copy)]
-pub enum Pixel {
-    Bit(u8),
-    Refused(Refusal),
-}
-
-// A glyph's metrics; or the refusal.
-#[derive(Clone, Copy)]
-pub enum GlyphMetrics {
-    Is(Metrics),
-    Refused(Refusal),
+pub struct Part {
+    pub start: usize,
+    pub len: usize,
 }
 
 // Glyph g of a font whose bitmaps have one size.
@@ -66,25 +45,25 @@ fn even_bitmap(f: Font, g: usize) -> Bitmap
 }
 
 // Glyph g, whose dispatch entry stands at `at`.
-fn entry_located(file: &[u8], f: Font, g: usize, at: usize) -> Located
+fn entry_located(file: &[u8], f: Font, g: usize, at: usize) -> Result<Bitmap, Refusal>
     requires { (at + 18 ≤ length file.now) × (f.bitmaps ≤ 1048576) }
     ensures { result ≡ entry_located file.now f g at (entry_of file.now f.size at) }
 {
     let e = entries::entry_at(file, f.size, at);
     match e {
-        Entry::Empty => Located::Refused(refusal::refuse(Reason::NoGlyph, 0)),
-        Entry::Glyph(rows, cols) => Located::Found(Bitmap {
+        Entry::Empty => Err(refusal::refuse(Reason::NoGlyph, 0)),
+        Entry::Glyph(rows, cols) => Ok(Bitmap {
             start: f.bitmaps + base::size(base::get32(file, at)),
             len: base::size(base::get32(file, at + 4)),
             height: rows,
             width: cols,
         }),
-        Entry::Broken => Located::Refused(refusal::refuse_at(Reason::Entry, at, g)),
+        Entry::Broken => Err(refusal::refuse_at(Reason::Entry, at, g)),
     }
 }
 
 // Glyph g's bitmap; and that it stands in the file. Asks for a font whose header passed (`Placed`), as do all public functions here.
-pub fn locate(file: &[u8], f: Font, g: usize) -> Located
+pub fn locate(file: &[u8], f: Font, g: usize) -> Result<Bitmap, Refusal>
     requires { Placed file.now f }
     ensures equal { result ≡ bitmap_of file.now f g }
     ensures bounded { LocatedInside file.now result }
@@ -92,51 +71,51 @@ pub fn locate(file: &[u8], f: Font, g: usize) -> Located
     if g < f.count {
         let k = f.kind;
         return match k {
-            Kind::Psf1 => Located::Found(even_bitmap(f, g)),
-            Kind::Psf2 => Located::Found(even_bitmap(f, g)),
+            Kind::Psf1 => Ok(even_bitmap(f, g)),
+            Kind::Psf2 => Ok(even_bitmap(f, g)),
             Kind::Vfont2 => entry_located(file, f, g, f.entries + g * Vfont2::ENTRY_LEN),
         };
     }
-    Located::Refused(refusal::refuse(Reason::Ask, 0))
+    Err(refusal::refuse(Reason::Ask, 0))
 }
 
 // Glyph g's bytes.
-pub fn glyph_part(file: &[u8], f: Font, g: usize) -> Part
+pub fn glyph_part(file: &[u8], f: Font, g: usize) -> Result<Part, Refusal>
     requires { Placed file.now f }
     ensures equal { result ≡ whole_of (bitmap_of file.now f g) }
     ensures bounded { PartInside file.now result }
 {
-    let l = locate(file, f, g);
-    match l {
-        Located::Found(b) => Part::At(b.start, b.len),
-        Located::Refused(r) => Part::Refused(r),
-    }
+    let b = locate(file, f, g)?;
+    Ok(Part {
+        start: b.start,
+        len: b.len,
+    })
 }
 
 // Row y of a bitmap that stands in a file.
-fn row_of(file: &[u8], b: Bitmap, y: usize) -> Part
+fn row_of(file: &[u8], b: Bitmap, y: usize) -> Result<Part, Refusal>
     requires { (length file.now ≤ 1048576) × Inside file.now b }
-    ensures equal { result ≡ row_of (Found b) y }
+    ensures equal { result ≡ row_of (Ok b) y }
     ensures bounded { PartInside file.now result }
 {
     if y < b.height {
         let stride = header::row_bytes(b.width);
-        return Part::At(b.start + y * stride, stride);
+        return Ok(Part {
+            start: b.start + y * stride,
+            len: stride,
+        });
     }
-    Part::Refused(refusal::refuse(Reason::Ask, 0))
+    Err(refusal::refuse(Reason::Ask, 0))
 }
 
 // Row y of glyph g.
-pub fn row_part(file: &[u8], f: Font, g: usize, y: usize) -> Part
+pub fn row_part(file: &[u8], f: Font, g: usize, y: usize) -> Result<Part, Refusal>
     requires { Placed file.now f }
     ensures equal { result ≡ row_of (bitmap_of file.now f g) y }
     ensures bounded { PartInside file.now result }
 {
-    let l = locate(file, f, g);
-    match l {
-        Located::Found(b) => row_of(file, b, y),
-        Located::Refused(r) => Part::Refused(r),
-    }
+    let b = locate(file, f, g)?;
+    row_of(file, b, y)
 }
 
 // Bit i of a byte, counted from the top bit. Asks for one of its eight bits.
@@ -161,30 +140,27 @@ fn bit_of(b: u8, i: usize) -> u8
 }
 
 // The pixel of row y and column x of a bitmap that stands in a file.
-fn pixel_of(file: &[u8], b: Bitmap, y: usize, x: usize) -> Pixel
+fn pixel_of(file: &[u8], b: Bitmap, y: usize, x: usize) -> Result<u8, Refusal>
     requires { (length file.now ≤ 1048576) × Inside file.now b }
-    ensures { result ≡ pixel_of file.now (Found b) y x }
+    ensures { result ≡ pixel_of file.now (Ok b) y x }
 {
     if y < b.height {
         if x < b.width {
             let at = b.start + y * header::row_bytes(b.width) + x / 8;
-            return Pixel::Bit(bit_of(file[at], x % 8));
+            return Ok(bit_of(file[at], x % 8));
         }
-        return Pixel::Refused(refusal::refuse(Reason::Ask, 0));
+        return Err(refusal::refuse(Reason::Ask, 0));
     }
-    Pixel::Refused(refusal::refuse(Reason::Ask, 0))
+    Err(refusal::refuse(Reason::Ask, 0))
 }
 
 // The pixel of row y and column x of glyph g.
-pub fn pixel_at(file: &[u8], f: Font, g: usize, y: usize, x: usize) -> Pixel
+pub fn pixel_at(file: &[u8], f: Font, g: usize, y: usize, x: usize) -> Result<u8, Refusal>
     requires { Placed file.now f }
     ensures { result ≡ pixel_of file.now (bitmap_of file.now f g) y x }
 {
-    let l = locate(file, f, g);
-    match l {
-        Located::Found(b) => pixel_of(file, b, y, x),
-        Located::Refused(r) => Pixel::Refused(r),
-    }
+    let b = locate(file, f, g)?;
+    pixel_of(file, b, y, x)
 }
 
 // The metrics of a glyph that fills its height and width. Asks for a height and a width within the formats' bounds.
@@ -215,13 +191,10 @@ fn kind_metrics(file: &[u8], f: Font, g: usize) -> Metrics
 }
 
 // Glyph g's metrics: up, down, left, right and logical width.
-pub fn metrics(file: &[u8], f: Font, g: usize) -> GlyphMetrics
+pub fn metrics(file: &[u8], f: Font, g: usize) -> Result<Metrics, Refusal>
     requires { Placed file.now f }
     ensures { result ≡ metrics_of file.now f g (bitmap_of file.now f g) }
 {
-    let l = locate(file, f, g);
-    match l {
-        Located::Found(_) => GlyphMetrics::Is(kind_metrics(file, f, g)),
-        Located::Refused(r) => GlyphMetrics::Refused(r),
-    }
+    locate(file, f, g)?;
+    Ok(kind_metrics(file, f, g))
 }

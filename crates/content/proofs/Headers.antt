@@ -16,11 +16,8 @@ use Rattle.base.proofs.Parts.{byte_at}
 use Rattle.base.proofs.Lists.{same4}
 use Rattle.header.specs.declared.Kind.{Kind}
 use Rattle.header.specs.declared.Kind.TheVariants.{Psf1, Psf2, Vfont2}
-use Rattle.header.specs.declared.Named.TheVariants.{Is}
 use Rattle.header.specs.declared.Fields.{Fields}
 use Rattle.header.specs.declared.Font.{Font}
-use Rattle.header.specs.declared.Head.TheVariants.{Read}
-use Rattle.header.specs.declared.Checked.TheVariants.{Sound}
 use Rattle.header.specs.Meaning.{glyph_bytes, psf1_font, psf2_font, vfont2_font, magic_of, header_len, psf1_count, psf1_table}
 use Rattle.header.specs.Reading.{kind_of, head_of, psf2_shaped, vfont2_shaped, on_fields, says_of, fields, flags_of, mode_of, fixed_fields, header_bytes}
 use Rattle.header.proofs.Cases.{psf1_read, head_read, psf2_sound, vfont2_sound, named_as}
@@ -28,6 +25,7 @@ use Rattle.header.proofs.Known.{source}
 use Rattle.header.proofs.Written.{header_length}
 use Rattle.content.specs.Meaning.{Plain}
 use Rattle.content.proofs.Magic.{magic_begins}
+use Rattle.std.specs.Prelude.{Ok, Some}
 
 -- a glyph's bytes are few
 pub glyph_small : (h w : ℕ) → h ≤ 255 → w ≤ 255 → glyph_bytes h w ≤ 8160
@@ -58,7 +56,7 @@ HeaderAsks Psf2 n z h w = (1 ≤ n) × (n ≤ 4096) × (1 ≤ h) × (h ≤ 255) 
 HeaderAsks Vfont2 n z h w = (1 ≤ n) × (n ≤ 4096) × (h ≤ 255) × (w ≤ 255) × (z < 4294967296)
 
 -- a header's magic tells its kind
-header_named : (k : Kind) (t : Bool) (n z h w : ℕ) (r : List ℕ) → kind_of (header_bytes k t n z h w ++ r) ≡ Is k
+header_named : (k : Kind) (t : Bool) (n z h w : ℕ) (r : List ℕ) → kind_of (header_bytes k t n z h w ++ r) ≡ Some k
 unfolding kind_of starts_with when header_bytes
 header_named Psf1 t n z h w r = refl
 header_named Psf2 t n z h w r = refl
@@ -84,12 +82,12 @@ module _ (t : Bool) (n z h w : ℕ) (r o : List ℕ) (e : o ≡ header_bytes Psf
   unfolding header_bytes
   psf1_fields = rw e (refl, refl)
 
-  psf1_says : HeaderAsks Psf1 n z h w → says_of o ≡ Sound (psf1_font n h t)
+  psf1_says : HeaderAsks Psf1 n z h w → says_of o ≡ Ok (psf1_font n h t)
   psf1_says (two, some) =
       let l : 4 ≤ length o = omega (arith, ap length e, length-append (header_bytes Psf1 t n z h w) r, header_length Psf1 t n z h w) in
       let f = psf1_fields in
       let m = mode_back n t two in
-      sym (named_as o (Is Psf1) (ap kind_of e ∙ header_named Psf1 t n z h w r))
+      sym (named_as o (Some Psf1) (ap kind_of e ∙ header_named Psf1 t n z h w r))
       ∙ sym (psf1_read o n h t 4 (sym (ap psf1_count f.0 ∙ m.0)) (sym f.1) (sym (ap psf1_table f.0 ∙ m.1)) refl
       ((l, omega (arith, f.0, m.2)), (λ q. omega (arith, f.1))))
 
@@ -104,31 +102,31 @@ module _ (a b c d : ℕ) (t : Bool) (n z h w : ℕ) (r o : List ℕ) (e : o ≡ 
     unfolding le32 fixed_fields fields bytes32
     fields4 = rw e (refl, refl, le32_bytes (flags_of t) (omega (arith, (flags_back t).1)))
 
-    head_written : 32 ≤ length o → 1 ≤ n → n ≤ 4096 → head_of o ≡ Read (written_fields t n z h w)
+    head_written : 32 ≤ length o → 1 ≤ n → n ≤ 4096 → head_of o ≡ Ok (written_fields t n z h w)
     head_written l an bn =
         let x = fields4 in
         let y = fields16 in
         let g = (flags_back t).1 in
         sym (head_read o 32 n z h w (flags_of t) (sym x.1, sym y.0, sym y.1, sym y.2, sym y.3, sym x.2)
         ((((l, x.0), omega (arith, x.2)), omega (arith, x.1), omega (arith, x.1)), (λ q. omega (arith, y.0)), omega (arith, y.0)))
-        ∙ ap (λ (v : Bool). Read (written_fields v n z h w)) (flags_back t).0
+        ∙ ap (λ (v : Bool). Ok (written_fields v n z h w)) (flags_back t).0
 
 -- a file that begins with a written header says the font that was written
 module _ (t : Bool) (n z h w : ℕ) (r o : List ℕ) where
-  psf2_says : o ≡ header_bytes Psf2 t n z h w ++ r → HeaderAsks Psf2 n z h w → says_of o ≡ Sound (psf2_font (written_fields t n z h w))
+  psf2_says : o ≡ header_bytes Psf2 t n z h w ++ r → HeaderAsks Psf2 n z h w → says_of o ≡ Ok (psf2_font (written_fields t n z h w))
   unfolding header_bytes
   psf2_says e (an, bn, ah, bh, aw, bw, ez) =
       let lz : z < 4294967296 = omega (arith, ez, glyph_small h w bh bw) in
       let l : 32 ≤ length o = omega (arith, ap length e, length-append (header_bytes Psf2 t n z h w) r, header_length Psf2 t n z h w) in
-      sym (named_as o (Is Psf2) (ap kind_of e ∙ header_named Psf2 t n z h w r))
+      sym (named_as o (Some Psf2) (ap kind_of e ∙ header_named Psf2 t n z h w r))
       ∙ ap (on_fields psf2_shaped) (head_written 0x72 0xB5 0x4A 0x86 t n z h w r o e (omega arith) lz (omega arith) (omega arith) l an bn)
       ∙ sym (psf2_sound (written_fields t n z h w) (((ah, bh), aw, bw), ez))
 
-  vfont2_says : o ≡ header_bytes Vfont2 t n z h w ++ r → HeaderAsks Vfont2 n z h w → says_of o ≡ Sound (vfont2_font (written_fields t n z h w))
+  vfont2_says : o ≡ header_bytes Vfont2 t n z h w ++ r → HeaderAsks Vfont2 n z h w → says_of o ≡ Ok (vfont2_font (written_fields t n z h w))
   unfolding header_bytes
   vfont2_says e (an, bn, bh, bw, lz) =
       let l : 32 ≤ length o = omega (arith, ap length e, length-append (header_bytes Vfont2 t n z h w) r, header_length Vfont2 t n z h w) in
-      sym (named_as o (Is Vfont2) (ap kind_of e ∙ header_named Vfont2 t n z h w r))
+      sym (named_as o (Some Vfont2) (ap kind_of e ∙ header_named Vfont2 t n z h w r))
       ∙ ap (on_fields vfont2_shaped) (head_written 0x27 0x5B 0xA4 0x68 t n z h w r o e (omega arith) lz (omega arith) (omega arith) l an bn)
       ∙ sym (vfont2_sound (written_fields t n z h w) (bh, bw))
 
@@ -149,7 +147,7 @@ module _ (t : Bool) (n z h w : ℕ) (r o : List ℕ) where
   header_plain Vfont2 e a = vfont2_plain e a
 
   -- the same, whatever the kind
-  pub says_written : (k : Kind) → o ≡ header_bytes k t n z h w ++ r → HeaderAsks k n z h w → says_of o ≡ Sound (written_font k t n z h w)
+  pub says_written : (k : Kind) → o ≡ header_bytes k t n z h w ++ r → HeaderAsks k n z h w → says_of o ≡ Ok (written_font k t n z h w)
   says_written Psf1 e a = psf1_says t n z h w r o e a
   says_written Psf2 e a = psf2_says e a
   says_written Vfont2 e a = vfont2_says e a
@@ -245,7 +243,7 @@ fields_back s m y l b e4 e12 e8 =
     i ∙ simp append_assoc
 
 -- a header with no extra bytes is the one that is written for what it says
-module _ (s : List ℕ) (f : Font) (y : Bytes s) (e : says_of s ≡ Sound f) where
+module _ (s : List ℕ) (f : Font) (y : Bytes s) (e : says_of s ≡ Ok f) where
   abbrev HeaderIs : Kind → Font → Type 0
   HeaderIs k g = take (header_len k) s ≡ header_bytes k g.table g.count g.size g.height g.width
 

@@ -8,7 +8,6 @@ use Rattle.base.specs.Meaning.{Bytes}
 use Rattle.table.specs.Meaning.{Desc, encode, Readable}
 use Rattle.header.specs.declared.Kind.{Kind}
 use Rattle.header.specs.declared.Font.{Font}
-use Rattle.header.specs.declared.Checked.TheVariants.{Sound}
 use Rattle.header.specs.Meaning.{limit, glyph_bytes, char_size, header_len, entry_len}
 use Rattle.layout.specs.Reading.{evenly, field_at20, font_bytes, glyphs_in}
 use Rattle.layout.proofs.Parts.{evenly_length}
@@ -24,6 +23,7 @@ use Rattle.content.proofs.Written.{WrittenAs, font_of, place_in, font_length, ev
 use Rattle.content.proofs.Octets.{written_bytes}
 use Rattle.content.proofs.Same.{SameGlyph, filled_same, described_moved, same_content}
 use Rattle.content.proofs.Self.{Bare, self}
+use Rattle.std.specs.Prelude.{Ok}
 
 -- a font's glyphs, written one after the other as a file of a kind, before a tail
 abbrev pub rewritten : List ℕ → Font → Kind → List ℕ → List ℕ
@@ -35,7 +35,7 @@ abbrev pub rewritten_font : List ℕ → Font → Kind → Font
 rewritten_font s f k = font_of k f.table f.count (char_size f) f.height f.width (glyphs_in s f)
 
 -- a file written with the bytes of each glyph of a font, wherever they stand, and a tail that carries the font's readings
-module _ (s : List ℕ) (f : Font) (y : Bytes s) (e : check_of s ≡ Sound f) (v : AllEven s f f.kind) (k : Kind) (xs b tl o : List ℕ)
+module _ (s : List ℕ) (f : Font) (y : Bytes s) (e : check_of s ≡ Ok f) (v : AllEven s f f.kind) (k : Kind) (xs b tl o : List ℕ)
     (r : WrittenAs k f.table f.count (char_size f) f.height f.width xs b tl o)
     (gs : (g : ℕ) → g < f.count → take (char_size f) (drop (place_in k (char_size f) xs g) b) ≡ take (char_size f) (drop (g * char_size f) (glyphs_in s f)))
     (c : Carries (coding_of f.kind) (coding_of k) (tail_of s f) tl) where
@@ -85,7 +85,7 @@ module _ (s : List ℕ) (f : Font) (y : Bytes s) (e : check_of s ≡ Sound f) (v
   kept_back p q tl' et = kept_again tl' et ∙ sym (self s f y e (evenly (char_size f) 0 f.count) p q)
 
 -- how many bytes it has, and that they are bytes
-module _ (s : List ℕ) (f : Font) (y : Bytes s) (e : check_of s ≡ Sound f) (k : Kind) (tl : List ℕ) where
+module _ (s : List ℕ) (f : Font) (y : Bytes s) (e : check_of s ≡ Ok f) (k : Kind) (tl : List ℕ) where
   -- a header, entries, bitmaps and the tail
   pub rewritten_length : AllEven s f f.kind → length (rewritten s f k tl) ≡ header_len k + f.count * entry_len k + f.count * char_size f + length tl
   rewritten_length v =
@@ -99,7 +99,7 @@ module _ (s : List ℕ) (f : Font) (y : Bytes s) (e : check_of s ≡ Sound f) (k
       written_bytes k f.table f.count (char_size f) f.height f.width (evenly (char_size f) 0 f.count) (glyphs_in s f) tl (is_placed s f y e).3
       (glyphs_bytes s f y e) b
 
-module _ (s : List ℕ) (f : Font) (y : Bytes s) (e : check_of s ≡ Sound f) (v : AllEven s f f.kind) (k : Kind) (tl : List ℕ)
+module _ (s : List ℕ) (f : Font) (y : Bytes s) (e : check_of s ≡ Ok f) (v : AllEven s f f.kind) (k : Kind) (tl : List ℕ)
     (ks : KindShape k f.count f.width) (c : Carries (coding_of f.kind) (coding_of k) (tail_of s f) tl) (short : length (rewritten s f k tl) ≤ limit) where
   -- it is written as its kind asks
   pub rewritten_as : WrittenAs k f.table f.count (char_size f) f.height f.width (evenly (char_size f) 0 f.count) (glyphs_in s f) tl (rewritten s f k tl)
@@ -117,7 +117,7 @@ module _ (s : List ℕ) (f : Font) (y : Bytes s) (e : check_of s ≡ Sound f) (v
       }
 
   -- it is accepted
-  pub rewritten_sound : check_of (rewritten s f k tl) ≡ Sound (rewritten_font s f k)
+  pub rewritten_sound : check_of (rewritten s f k tl) ≡ Ok (rewritten_font s f k)
   rewritten_sound = written_sound k f.table f.count (char_size f) f.height f.width (evenly (char_size f) 0 f.count) (glyphs_in s f) tl (rewritten s f k tl) rewritten_as
 
   -- its tail is the one that was given

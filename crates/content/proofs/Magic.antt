@@ -9,16 +9,15 @@ use Rattle.base.specs.Reading.{starts_with}
 use Rattle.base.proofs.Begins.{begins_exactly}
 use Rattle.header.specs.declared.Kind.{Kind}
 use Rattle.header.specs.declared.Kind.TheVariants.{Psf1, Psf2, Vfont2}
-use Rattle.header.specs.declared.Named.{Named}
-use Rattle.header.specs.declared.Named.TheVariants.{Is, Unknown}
 use Rattle.header.specs.Meaning.{magic_of}
 use Rattle.header.specs.Reading.{kind_of}
 use Rattle.header.proofs.Cases.{is_psf1, is_psf2, is_vfont2, no_kind}
+use Rattle.std.specs.Prelude.{Option, Some, None}
 
 -- what each answer says of the file's first bytes
-abbrev pub Begun : List ℕ → Named → Type 0
-Begun s (Is k) = Begins (magic_of k) s
-Begun s Unknown = (Begins (magic_of Psf1) s → ⊥) × (Begins (magic_of Psf2) s → ⊥) × (Begins (magic_of Vfont2) s → ⊥)
+abbrev pub Begun : List ℕ → Option Kind → Type 0
+Begun s (Some k) = Begins (magic_of k) s
+Begun s None = (Begins (magic_of Psf1) s → ⊥) × (Begins (magic_of Psf2) s → ⊥) × (Begins (magic_of Vfont2) s → ⊥)
 
 begins_not : (m s : List ℕ) → starts_with m s ≡ false → Begins m s → ⊥
 begins_not m s e b =
@@ -36,5 +35,5 @@ kind_says s = go (starts_with (magic_of Psf1) s) (starts_with (magic_of Psf2) s)
     go false false false a b d = subst (Begun s) (no_kind s a b d) (begins_not (magic_of Psf1) s a, begins_not (magic_of Psf2) s b, begins_not (magic_of Vfont2) s d)
 
 -- the magic of the kind that is named stands in front
-pub magic_begins : (s : List ℕ) (k : Kind) → kind_of s ≡ Is k → Begins (magic_of k) s
+pub magic_begins : (s : List ℕ) (k : Kind) → kind_of s ≡ Some k → Begins (magic_of k) s
 magic_begins s k e = subst (Begun s) e (kind_says s)

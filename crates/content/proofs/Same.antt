@@ -15,7 +15,6 @@ use Rattle.table.proofs.Meaning.{one_reading}
 use Rattle.header.specs.declared.Kind.{Kind}
 use Rattle.header.specs.declared.Kind.TheVariants.{Psf1, Psf2, Vfont2}
 use Rattle.header.specs.declared.Font.{Font}
-use Rattle.header.specs.declared.Checked.TheVariants.{Sound}
 use Rattle.header.specs.Meaning.{row_bytes, glyph_bytes}
 use Rattle.entries.specs.Meaning.{entry_at, size_at}
 use Rattle.bitmap.specs.declared.Bitmap.{Bitmap}
@@ -26,6 +25,8 @@ use Rattle.content.specs.Meaning.{Drawing, Content, bitmap_in, NoGlyph, Draws, D
 use Rattle.content.proofs.Stretches.{bytes_same}
 use Rattle.content.proofs.Tails.{Tail, tail_known}
 use Rattle.content.proofs.Shapes.{GlyphIs}
+use Rattle.refusal.specs.declared.Refusal.{Refusal}
+use Rattle.std.specs.Prelude.{Ok, Result}
 
 -- the byte of a pixel is one of the glyph's
 pub pixel_within : (h w y x : ℕ) → y < h → x < w → y * row_bytes w + x / 8 < glyph_bytes h w
@@ -89,11 +90,11 @@ drawn_same s f o f' g e (some d) (p, m, h, w, q) = (
   λ y x ly lx. e.pixels p y x (omega (arith, ly, h)) (omega (arith, lx, w)) ∙ q y x ly lx,
 )
 
-sound_same : (f g : Font) → Sound f ≡ Sound g → f ≡ g
+sound_same : (f g : Font) → ◌≡◌ {A = Result Font Refusal} (Ok f) (Ok g) → f ≡ g
 sound_same f g e = cc
 
 -- a file with the glyphs and descriptions of another has its content
-pub same_content : (s : List ℕ) (f : Font) (o : List ℕ) (f' : Font) → check_of s ≡ Sound f → check_of o ≡ Sound f' → f.count ≡ f'.count → f.table ≡ f'.table →
+pub same_content : (s : List ℕ) (f : Font) (o : List ℕ) (f' : Font) → check_of s ≡ Ok f → check_of o ≡ Ok f' → f.count ≡ f'.count → f.table ≡ f'.table →
     ((g : ℕ) → g < f.count → SameGlyph s f o f' g) → ((ds : List Desc) → Describes s f f.table ds → Describes o f' f.table ds) →
     (m : Content) → HasContent s m → HasContent o m
 same_content s f o f' es eo ec et gs dss m c =
@@ -154,7 +155,7 @@ read_of s f true v = (v.reading, (v.count, v.values, v.same))
 read_of s f false v = ([], refl)
 
 -- every accepted file has a content
-pub content_exists : (s : List ℕ) (f : Font) → Bytes s → check_of s ≡ Sound f → (m : Content) × HasContent s m
+pub content_exists : (s : List ℕ) (f : Font) → Bytes s → check_of s ≡ Ok f → (m : Content) × HasContent s m
 content_exists s f y e =
     let d = read_of s f f.table (tail_known s f y e) in
     let m : Content = record { count = f.count; table = f.table; glyph = λ g. glyph_of s f g f.kind; descriptions = d.0 } in (

@@ -10,7 +10,6 @@ use Rattle.base.specs.Meaning.{Bytes}
 use Rattle.header.specs.declared.Kind.{Kind}
 use Rattle.header.specs.declared.Kind.TheVariants.{Psf1, Psf2, Vfont2}
 use Rattle.header.specs.declared.Font.{Font}
-use Rattle.header.specs.declared.Checked.TheVariants.{Sound}
 use Rattle.header.specs.Meaning.{char_size, magic_of, header_len}
 use Rattle.header.specs.Reading.{mode_of, header_bytes}
 use Rattle.header.specs.Bounds.{Even}
@@ -23,6 +22,7 @@ use Rattle.content.specs.Meaning.{Plain}
 use Rattle.content.proofs.Magic.{magic_begins}
 use Rattle.content.proofs.Headers.{psf1_head, header_self}
 use Rattle.content.proofs.Source.{is_kind, says_font}
+use Rattle.std.specs.Prelude.{Ok}
 
 -- three parts, end to end
 three_parts : (s : List ℕ) (a m : ℕ) → s ≡ take a s ++ take m (drop a s) ++ drop (a + m) s
@@ -35,7 +35,7 @@ three_parts s a m =
 abbrev pub Bare : Kind → Type 0
 Bare k = (k ≡ Psf1) ⊎ (k ≡ Psf2)
 
-module _ (s : List ℕ) (f : Font) (y : Bytes s) (e : check_of s ≡ Sound f) (xs : List ℕ) where
+module _ (s : List ℕ) (f : Font) (y : Bytes s) (e : check_of s ≡ Ok f) (xs : List ℕ) where
   abbrev SelfOf : Kind → Type 0
   SelfOf k = s ≡ font_bytes k f.table f.count (char_size f) f.height f.width xs (glyphs_in s f) (tail_of s f)
 

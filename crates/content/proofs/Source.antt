@@ -13,7 +13,6 @@ use Rattle.base.proofs.Parts.{byte_at, bytes_drop, bytes_take}
 use Rattle.header.specs.declared.Kind.{Kind}
 use Rattle.header.specs.declared.Kind.TheVariants.{Psf1, Psf2, Vfont2}
 use Rattle.header.specs.declared.Font.{Font}
-use Rattle.header.specs.declared.Checked.TheVariants.{Sound}
 use Rattle.header.specs.Meaning.{char_size, psf1_count}
 use Rattle.header.specs.Bounds.{Placed, KindPlaced, Even, Dispatched}
 use Rattle.header.specs.Reading.{says_of}
@@ -28,6 +27,7 @@ use Rattle.bitmap.specs.Meaning.{EvenGlyph}
 use Rattle.content.proofs.Evens.{EvenFields, metrics_even, even_rows, even_cols, even_size, even_some}
 use Rattle.content.proofs.Gathered.{start_at, gathered_length, nth_gathered, gathered_bytes}
 use Rattle.content.proofs.Shapes.{Shape, GlyphIs, AllEven}
+use Rattle.std.specs.Prelude.{Ok}
 
 -- PSF1 has 256 glyphs or 512
 psf1_counts : (m : ℕ) → (psf1_count m ≡ 256) ⊎ (psf1_count m ≡ 512)
@@ -38,7 +38,7 @@ psf1_counts m = go (eqb (m % 2) 1)
     go true = inr refl
     go false = inl refl
 
-module _ (s : List ℕ) (f : Font) (y : Bytes s) (e : check_of s ≡ Sound f) where
+module _ (s : List ℕ) (f : Font) (y : Bytes s) (e : check_of s ≡ Ok f) where
   -- the parts of an accepted font stand in its file
   pub is_placed : Placed s f
   is_placed = placed s f (byte_at s y 3) (accepted s f e).0
@@ -48,7 +48,7 @@ module _ (s : List ℕ) (f : Font) (y : Bytes s) (e : check_of s ≡ Sound f) wh
   is_kind k q = subst (λ (x : Kind). KindPlaced f x) q is_placed.8
 
   -- and it is what its header says
-  pub says_font : says_of s ≡ Sound f
+  pub says_font : says_of s ≡ Ok f
   says_font = (passed_body s f (passed_entries s f (accepted s f e).0).0).1
 
   psf1_shape : f.kind ≡ Psf1 → Shape Psf1 f.count f.height f.width

@@ -8,17 +8,17 @@ use Rattle.coding.specs.declared.Coding.{Coding}
 use Rattle.table.specs.Meaning.{Desc, items, encode, Readable}
 use Rattle.table.specs.Reading.{steps_from, step_items}
 use Rattle.table.proofs.Reading.{items_bytes}
-use Rattle.transcode.specs.declared.Measured.TheVariants.{Length}
 use Rattle.transcode.specs.Reading.{table_len, recoded}
 use Rattle.transcode.proofs.Meaning.{length_exactly, recoded_table}
 use Rattle.content.proofs.Tails.{Tail}
+use Rattle.std.specs.Prelude.{Ok}
 
 -- no bytes stay no bytes
 pub nothing_recoded : (from to : Coding) → recoded from to [] ≡ []
 unfolding recoded step_items steps_from
 nothing_recoded from to = refl
 
-module _ (from to : Coding) (tl : List ℕ) (m : ℕ) (c : table_len from to tl ≡ Length m) where
+module _ (from to : Coding) (tl : List ℕ) (m : ℕ) (c : table_len from to tl ≡ Ok m) where
   -- each reading in one coding is one in the other
   pub carried_reading : (ds : List Desc) → Readable from ds → tl ≡ encode from ds → Readable to ds × (recoded from to tl ≡ encode to ds)
   carried_reading ds o e = (((length_exactly from to ds tl o e m).0 c).0, recoded_table from to ds tl o e)
@@ -33,7 +33,7 @@ module _ (from to : Coding) (tl : List ℕ) (m : ℕ) (c : table_len from to tl 
       (z, subst Bytes (sym z) tt)
 
 -- and back again it is what it was
-pub back_again : (from to : Coding) (tl : List ℕ) (m : ℕ) → table_len from to tl ≡ Length m → (t : Bool) (n : ℕ) → Tail t from n tl → recoded to from (recoded from to tl) ≡ tl
+pub back_again : (from to : Coding) (tl : List ℕ) (m : ℕ) → table_len from to tl ≡ Ok m → (t : Bool) (n : ℕ) → Tail t from n tl → recoded to from (recoded from to tl) ≡ tl
 back_again from to tl m c true n i =
     let r = carried_reading from to tl m c i.reading i.values i.same in
     recoded_table to from i.reading (recoded from to tl) r.0 r.1 ∙ sym i.same
@@ -46,7 +46,7 @@ pub record Carries (from to : Coding) (tl tl' : List ℕ) : Type 0 where
   pub reading : (ds : List Desc) → Readable from ds → tl ≡ encode from ds → Readable to ds × (tl' ≡ encode to ds)
 
 -- the tail in another coding does, where its every value is one of that coding's
-pub recoded_carries : (from to : Coding) (tl : List ℕ) (m : ℕ) → table_len from to tl ≡ Length m → Carries from to tl (recoded from to tl)
+pub recoded_carries : (from to : Coding) (tl : List ℕ) (m : ℕ) → table_len from to tl ≡ Ok m → Carries from to tl (recoded from to tl)
 recoded_carries from to tl m c = record { tail = carried_tail from to tl m c; reading = carried_reading from to tl m c }
 
 -- and so does the tail itself, in its own coding

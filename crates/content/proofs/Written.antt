@@ -10,7 +10,6 @@ use Rattle.base.specs.Meaning.{Bytes}
 use Rattle.header.specs.declared.Kind.{Kind}
 use Rattle.header.specs.declared.Kind.TheVariants.{Psf1, Psf2, Vfont2}
 use Rattle.header.specs.declared.Font.{Font}
-use Rattle.header.specs.declared.Checked.TheVariants.{Sound}
 use Rattle.header.specs.Meaning.{limit, glyph_bytes, header_len, entry_len}
 use Rattle.header.specs.Reading.{says_of, header_bytes}
 use Rattle.header.proofs.Known.{eight}
@@ -32,6 +31,7 @@ use Rattle.content.proofs.Evens.{EvenFields, even_metrics_lem, even_rows, even_c
 use Rattle.content.proofs.Gathered.{start_at, gathered_is}
 use Rattle.content.proofs.Shapes.{Shape, Fills, GlyphIs, AllEven, glyph_some}
 use Rattle.content.proofs.Dispatch.{entry_numbers, entry_fields, entry_says, scan_even}
+use Rattle.std.specs.Prelude.{Ok}
 
 -- where glyph g's bytes stand among the bitmaps
 abbrev pub place_in : Kind → ℕ → List ℕ → ℕ → ℕ
@@ -142,7 +142,7 @@ module _ (k : Kind) (t : Bool) (n c h w : ℕ) (xs b tl o : List ℕ) (r : Writt
   small : length b ≤ limit
   small = omega (arith, r.short, all_length, whole_length, length-append (head ++ table) b)
 
-  says : says_of o ≡ Sound font
+  says : says_of o ≡ Ok font
   says = says_written t n (field_at20 k c b) h w (table ++ (b ++ tl)) o k flat (asked t n c h w xs b k r.shape r.size (omega (arith, small)))
 
   -- its header has no extra bytes
@@ -150,8 +150,8 @@ module _ (k : Kind) (t : Bool) (n c h w : ℕ) (xs b tl o : List ℕ) (r : Writt
   written_plain =
       header_plain t n (field_at20 k c b) h w (table ++ (b ++ tl)) o k flat (asked t n c h w xs b k r.shape r.size (omega (arith, small)))
 
-  through_body_lem : through_body o ≡ Sound font
-  through_body_lem = sym (body_after o (Sound font) says r.short) ∙ sym (body_whole (length o) font (omega (arith, all_length)))
+  through_body_lem : through_body o ≡ Ok font
+  through_body_lem = sym (body_after o (Ok font) says r.short) ∙ sym (body_whole (length o) font (omega (arith, all_length)))
 
   -- its tail is the one that was written
   pub written_tail : tail_of o (font_of k t n c h w b) ≡ tl
@@ -205,7 +205,7 @@ module _ (t : Bool) (n c h w : ℕ) (xs b tl o : List ℕ) (r : WrittenAs Vfont2
         entry_says (header_bytes Vfont2 t n (length b) h w) xs (b ++ tl) o 32 c h w (flat Vfont2 t n c h w xs b tl o r) (header_length Vfont2 t n (length b) h w)
         few r.shape.3 r.shape.5 i in_list low (length b) r.size r.shape.2 r.shape.4 some_byte (r.addressed.1 i l)
 
-  scan_passes : scanned (font_of Vfont2 t n c h w b) (scan_of o (length b) 32 n 0 0 0) ≡ Sound (font_of Vfont2 t n c h w b)
+  scan_passes : scanned (font_of Vfont2 t n c h w b) (scan_of o (length b) 32 n 0 0 0) ≡ Ok (font_of Vfont2 t n c h w b)
   scan_passes =
       ap (scanned (font_of Vfont2 t n c h w b)) (scan_even o (length b) 32 h w n r.shape.0 r.shape.2 r.shape.4 entry_glyph)
       ∙ sym (greatest_right (font_of Vfont2 t n c h w b) h w (refl, refl))
@@ -216,7 +216,7 @@ pub written_address : (k : Kind) (t : Bool) (n c h w : ℕ) (xs b tl o : List �
 written_address k t n c h w xs b tl o r q i l = (numbers t n c h w xs b tl o (subst (λ (j : Kind). WrittenAs j t n c h w xs b tl o) q r) i l).0
 
 module _ (t : Bool) (n c h w : ℕ) (xs b tl o : List ℕ) where
-  entries_pass : (k : Kind) → WrittenAs k t n c h w xs b tl o → kind_entries o (font_of k t n c h w b) k ≡ Sound (font_of k t n c h w b)
+  entries_pass : (k : Kind) → WrittenAs k t n c h w xs b tl o → kind_entries o (font_of k t n c h w b) k ≡ Ok (font_of k t n c h w b)
   entries_pass Psf1 r = refl
   entries_pass Psf2 r = refl
   entries_pass Vfont2 r = scan_passes t n c h w xs b tl o r
@@ -252,14 +252,14 @@ written_width Psf2 t n z h w s = refl
 written_width Vfont2 t n z h w s = refl
 
 module _ (k : Kind) (t : Bool) (n c h w : ℕ) (xs b tl o : List ℕ) (r : WrittenAs k t n c h w xs b tl o) where
-  through_entries_lem : through_entries o ≡ Sound (font_of k t n c h w b)
+  through_entries_lem : through_entries o ≡ Ok (font_of k t n c h w b)
   through_entries_lem =
       let f = font_of k t n c h w b in
-      sym (entries_after o (Sound f) (through_body_lem k t n c h w xs b tl o r)) ∙ sym (entries_of_lem o f k (written_is k t n (field_at20 k c b) h w).0)
+      sym (entries_after o (Ok f) (through_body_lem k t n c h w xs b tl o r)) ∙ sym (entries_of_lem o f k (written_is k t n (field_at20 k c b) h w).0)
       ∙ entries_pass t n c h w xs b tl o k r
 
   -- it is accepted
-  pub written_sound : check_of o ≡ Sound (font_of k t n c h w b)
+  pub written_sound : check_of o ≡ Ok (font_of k t n c h w b)
   written_sound =
       let e = written_tail k t n c h w xs b tl o r in
       tail_sound o (font_of k t n c h w b) (subst Bytes (sym e) r.tail_bytes) through_entries_lem

@@ -1,13 +1,12 @@
 -- What a font is, whatever its kind of file: how many glyphs it has and whether it has a table; for each glyph its metrics and pixels, or
 -- that it has none; its descriptions.
-use Rattle.std.specs.Prelude.{ℕ, ◌≤◌, ◌<◌, ◌≡◌, Bool, true, false, List, [], length, get_or}
+use Rattle.std.specs.Prelude.{ℕ, ◌≤◌, ◌<◌, ◌≡◌, Bool, true, false, List, [], length, get_or, Ok}
 use Rattle.std.proofs.Math.Option.{Option, none, some}
 use Rattle.base.specs.Meaning.{le32}
 use Rattle.table.specs.Meaning.{Desc, encode, Readable}
 use Rattle.header.specs.declared.Kind.{Kind}
 use Rattle.header.specs.declared.Kind.TheVariants.{Psf1, Psf2, Vfont2}
 use Rattle.header.specs.declared.Font.{Font}
-use Rattle.header.specs.declared.Checked.TheVariants.{Sound}
 use Rattle.entries.specs.declared.Metrics.{Metrics}
 use Rattle.entries.specs.Meaning.{entry_at, size_at}
 use Rattle.bitmap.specs.declared.Bitmap.{Bitmap}
@@ -57,7 +56,7 @@ Describes s f false ds = ds ≡ []
 -- the content of an accepted file
 pub record HasContent (s : List ℕ) (m : Content) : Type 0 where
   pub font : Font
-  pub sound : check_of s ≡ Sound font
+  pub sound : check_of s ≡ Ok font
   pub count : font.count ≡ m.count
   pub table : font.table ≡ m.table
   pub glyphs : (g : ℕ) → g < m.count → Draws s font g (m.glyph g)

@@ -18,27 +18,19 @@ use Rattle.refusal.specs.declared.Reason.TheVariants.{WrongKind, Glyphs, Size}
 use Rattle.coding.specs.declared.Coding.TheVariants.{Utf8, Ucs2}
 use Rattle.table.specs.Reading.{table_of}
 use Rattle.transcode.specs.Reading.{table_len}
-use Rattle.transcode.specs.declared.Measured.{Measured}
-use Rattle.transcode.specs.declared.Measured.TheVariants.{Length}
 use Rattle.header.specs.declared.Kind.{Kind}
 use Rattle.header.specs.declared.Kind.TheVariants.{Psf1, Psf2, Vfont2}
 use Rattle.header.specs.declared.Font.{Font}
-use Rattle.header.specs.declared.Checked.{Checked}
-use Rattle.header.specs.declared.Checked.TheVariants.{Sound, Refused}
 use Rattle.header.specs.Bounds.{Placed}
 use Rattle.header.specs.Meaning.{limit, char_size, header_len, entry_len}
 use Rattle.entries.specs.Meaning.{entry_at, size_at}
 use Rattle.stages.specs.Meaning.{coding_of, tail_of}
-use Rattle.stages.specs.declared.TailAnswer.{TailAnswer}
 use Rattle.stages.specs.Reading.{told_at, table_tail, check_of}
 use Rattle.conversion.specs.declared.Conversion.{Conversion}
 use Rattle.conversion.specs.declared.Conversion.TheVariants.{Psf1ToPsf2, Psf2ToPsf1, Psf2ToVfont2, Vfont2ToPsf2}
-use Rattle.conversion.specs.declared.Evenness.TheVariants.{Even, UnevenAt}
-use Rattle.conversion.specs.declared.Suits.{Suits}
-use Rattle.conversion.specs.declared.Suits.TheVariants.{Yes, Refused as Unsuited}
-use Rattle.conversion.specs.declared.Prepared.TheVariants.{Ready, Refused as Unprepared}
 use Rattle.conversion.specs.Meaning.{source_kind, target_kind, front_len}
 use Rattle.conversion.specs.Reading.{same_kind, of_kind, opened_of, is_psf1_count, suits_psf1, is_even, evenness, even_suits, suits_of, measured_of, fitting, glyph_told, glyph_at, measured_then, opened_then, prepared_on, prepared_of}
+use Rattle.std.specs.Prelude.{Result, Ok, Err, Some, None}
 
 -- 17
 pub kind_same : (a b : Kind) → same_kind a b ≡ true → b ≡ a
@@ -52,16 +44,16 @@ kind_same Vfont2 Psf1 e = let z : ◌≡◌ {A = ℕ} 0 1 = cc in absurd (omega 
 kind_same Vfont2 Psf2 e = let z : ◌≡◌ {A = ℕ} 0 1 = cc in absurd (omega arith)
 kind_same Vfont2 Vfont2 e = refl
 
-module _ (k : Kind) (s : List ℕ) (f : Font) (e : check_of s ≡ Sound f) where
-  pub right_kind : same_kind k f.kind ≡ true → Sound f ≡ opened_of k s
+module _ (k : Kind) (s : List ℕ) (f : Font) (e : check_of s ≡ Ok f) where
+  pub right_kind : same_kind k f.kind ≡ true → Ok f ≡ opened_of k s
   unfolding opened_of of_kind when
   right_kind q = rw (e, q)
 
-  pub wrong_kind : same_kind k f.kind ≡ false → Refused (refusal WrongKind 0) ≡ opened_of k s
+  pub wrong_kind : same_kind k f.kind ≡ false → Err (refusal WrongKind 0) ≡ opened_of k s
   unfolding opened_of of_kind when
   wrong_kind q = rw (e, q)
 
-pub not_opened : (k : Kind) (s : List ℕ) (r : Refusal) → check_of s ≡ Refused r → Refused r ≡ opened_of k s
+pub not_opened : (k : Kind) (s : List ℕ) (r : Refusal) → check_of s ≡ Err r → Err r ≡ opened_of k s
 unfolding opened_of
 not_opened k s r e = rw e
 
@@ -76,25 +68,25 @@ module _ (n : ℕ) where
   count_512 e = rw (ne_eqb n 256 e)
 
 module _ (f : Font) where
-  pub count_wrong : is_psf1_count f.count ≡ false → Unsuited (refusal Glyphs 16) ≡ suits_psf1 f
+  pub count_wrong : is_psf1_count f.count ≡ false → Err (refusal Glyphs 16) ≡ suits_psf1 f
   unfolding suits_psf1 when
   count_wrong e = rw e
 
   module _ (e : is_psf1_count f.count ≡ true) where
-    pub width_other : (f.width ≡ 8 → ⊥) → Unsuited (refusal Glyphs 28) ≡ suits_psf1 f
+    pub width_other : (f.width ≡ 8 → ⊥) → Err (refusal Glyphs 28) ≡ suits_psf1 f
     unfolding suits_psf1 when
     width_other p = rw (e, ne_eqb _ _ p)
 
-    pub width_eight : f.width ≡ 8 → Yes ≡ suits_psf1 f
+    pub width_eight : f.width ≡ 8 → Ok tt ≡ suits_psf1 f
     unfolding suits_psf1 when
     width_eight p = rw (e, eq-eqb _ _ p)
 
 module _ (s : List ℕ) (h w at : ℕ) where
-  abbrev pub Some : Type 0
-  Some = size_at s at ≡ 0 → ⊥
+  abbrev pub HasGlyph : Type 0
+  HasGlyph = size_at s at ≡ 0 → ⊥
 
   abbrev pub Up : Type 0
-  Up = Some × (le16 s (at + 8) ≡ h)
+  Up = HasGlyph × (le16 s (at + 8) ≡ h)
 
   abbrev pub Down : Type 0
   Down = Up × (le16 s (at + 10) ≡ 0)
@@ -109,7 +101,7 @@ module _ (s : List ℕ) (h w at : ℕ) where
   unfolding is_even
   no_glyph p = search chain depth 30
 
-  pub other_up : Some × (le16 s (at + 8) ≡ h → ⊥) → false ≡ is_even s h w at
+  pub other_up : HasGlyph × (le16 s (at + 8) ≡ h → ⊥) → false ≡ is_even s h w at
   unfolding is_even
   other_up p = search chain depth 30
 
@@ -142,33 +134,33 @@ module _ (s : List ℕ) (h w start i at : ℕ) (here : at ≡ entry_at start i) 
       let q : is_even s h w (entry_at start i) ≡ true = ap (is_even s h w) (sym here) ∙ e in
       rw (q, z, add-one i)
 
-  pub at_uneven : (k : ℕ) → 0 < k → is_even s h w at ≡ false → evenness s h w start k i ≡ UnevenAt i
+  pub at_uneven : (k : ℕ) → 0 < k → is_even s h w at ≡ false → evenness s h w start k i ≡ Some i
   unfolding evenness when
   at_uneven zero p e = absurd (omega arith)
   at_uneven (suc k) p e =
       let q : is_even s h w (entry_at start i) ≡ false = ap (is_even s h w) (sym here) ∙ e in
       rw q
 
-pub all_even : (s : List ℕ) (h w start k i : ℕ) → k ≡ 0 → evenness s h w start k i ≡ Even
+pub all_even : (s : List ℕ) (h w start k i : ℕ) → k ≡ 0 → evenness s h w start k i ≡ None
 unfolding evenness
 all_even s h w start k i e = rw e
 
 -- an entry that is not even is one of them
-pub uneven_within : (s : List ℕ) (h w start k i x : ℕ) → evenness s h w start k i ≡ UnevenAt x → x < i + k
+pub uneven_within : (s : List ℕ) (h w start k i x : ℕ) → evenness s h w start k i ≡ Some x → x < i + k
 unfolding evenness when
 uneven_within s h w start zero i x e = let z : ◌≡◌ {A = ℕ} 0 1 = cc in absurd (omega arith)
 uneven_within s h w start (suc k) i x e = go (is_even s h w (entry_at start i)) (uneven_within s h w start k (suc i) x) e
   where
-    go : (t : Bool) → (evenness s h w start k (suc i) ≡ UnevenAt x → x < suc i + k) → when t (evenness s h w start k (suc i)) (UnevenAt i) ≡ UnevenAt x → x < i + suc k
+    go : (t : Bool) → (evenness s h w start k (suc i) ≡ Some x → x < suc i + k) → when t (evenness s h w start k (suc i)) (Some i) ≡ Some x → x < i + suc k
     go true ih e = let l = ih e in omega arith
     go false ih e = let q : i ≡ x = cc in omega arith
 
 -- by the conversion
-abbrev pub measured_by : Conversion → List ℕ → Measured
+abbrev pub measured_by : Conversion → List ℕ → Result ℕ ℕ
 measured_by Psf1ToPsf2 t = table_len Ucs2 Utf8 t
 measured_by Psf2ToPsf1 t = table_len Utf8 Ucs2 t
-measured_by Psf2ToVfont2 t = Length (length t)
-measured_by Vfont2ToPsf2 t = Length (length t)
+measured_by Psf2ToVfont2 t = Ok (length t)
+measured_by Vfont2ToPsf2 t = Ok (length t)
 
 pub measured_same : (c : Conversion) (t : List ℕ) → measured_by c t ≡ measured_of c t
 unfolding measured_of
@@ -180,10 +172,10 @@ measured_same Vfont2ToPsf2 t = refl
 pub measured_is : (d c : Conversion) (t : List ℕ) → c ≡ d → measured_by d t ≡ measured_of c t
 measured_is d c t e = measured_same d t ∙ ap (λ (x : Conversion). measured_of x t) (sym e)
 
-abbrev pub suits_by : Conversion → List ℕ → Font → Suits
-suits_by Psf1ToPsf2 s f = Yes
+abbrev pub suits_by : Conversion → List ℕ → Font → Result (Unit {0}) Refusal
+suits_by Psf1ToPsf2 s f = Ok tt
 suits_by Psf2ToPsf1 s f = suits_psf1 f
-suits_by Psf2ToVfont2 s f = Yes
+suits_by Psf2ToVfont2 s f = Ok tt
 suits_by Vfont2ToPsf2 s f = even_suits f (evenness s f.height f.width f.entries f.count 0)
 
 suits_same : (c : Conversion) (s : List ℕ) (f : Font) → suits_by c s f ≡ suits_of c s f
@@ -198,11 +190,11 @@ suits_is d c s f e = suits_same d s f ∙ ap (λ (x : Conversion). suits_of x s 
 
 -- 20
 module _ (f : Font) (need : ℕ) where
-  pub too_large : limit < need → Unprepared (refusal Size 0) ≡ fitting f need
+  pub too_large : limit < need → Err (refusal Size 0) ≡ fitting f need
   unfolding fitting
   too_large h = search chain depth 30
 
-  pub fits : need ≤ limit → Ready f need ≡ fitting f need
+  pub fits : need ≤ limit → Ok (f , need) ≡ fitting f need
   unfolding fitting
   fits h = search chain depth 30
 
@@ -213,15 +205,15 @@ front_is c f k a b z e ea eb ez = rw (ea, eb, ez, e)
 
 -- 18 to 20, and before them the font's own and 17
 module _ (c : Conversion) (s : List ℕ) (f : Font) where
-  pub suited : suits_of c s f ≡ Yes → measured_then c f (tail_of s f) (measured_of c (tail_of s f)) ≡ prepared_on c s f
+  pub suited : suits_of c s f ≡ Ok tt → measured_then c f (tail_of s f) (measured_of c (tail_of s f)) ≡ prepared_on c s f
   unfolding prepared_on
   suited e = rw e
 
-  pub unsuited : (r : Refusal) → suits_of c s f ≡ Unsuited r → Unprepared r ≡ prepared_on c s f
+  pub unsuited : (r : Refusal) → suits_of c s f ≡ Err r → Err r ≡ prepared_on c s f
   unfolding prepared_on
   unsuited r e = rw e
 
-pub opened_as : (c : Conversion) (s : List ℕ) (x : Checked) → opened_of (source_kind c) s ≡ x → opened_then x (prepared_on c s) ≡ prepared_of c s
+pub opened_as : (c : Conversion) (s : List ℕ) (x : Result Font Refusal) → opened_of (source_kind c) s ≡ x → opened_then x (prepared_on c s) ≡ prepared_of c s
 unfolding prepared_of
 opened_as c s x e = rw e
 
@@ -233,7 +225,7 @@ module _ (s : List ℕ) (f : Font) (k : ℕ) (h : f.end + k ≤ length s) where
   pub cut_placed : Placed s f → Placed (take (f.end + k) s) f
   cut_placed p = (omega (arith, cut_length, p.0), p.1, p.2, p.3, p.4, p.5, p.6, omega (arith, cut_length), p.8)
 
-  pub told_at_lem : (a : TailAnswer) → a ≡ table_tail (take (f.end + k) s) f → glyph_told a ≡ glyph_at f (tail_of s f) k
+  pub told_at_lem : (a : Result (Unit {0}) Refusal) → a ≡ table_tail (take (f.end + k) s) f → glyph_told a ≡ glyph_at f (tail_of s f) k
   unfolding glyph_at
   told_at_lem a q =
       let e : drop f.end (take (f.end + k) s) ≡ take k (drop f.end s) =

@@ -14,12 +14,10 @@ ghost use Rattle.stages.specs.Meaning.{tail_of};
 ghost use Rattle.conversion.specs.Bounds.{OpenedPlaced};
 
 use coding::Coding;
-use header::{Checked, Font, Kind};
+use header::{Font, Kind};
 use psf1::Psf1;
 use psf2::Psf2;
 use refusal::{Reason, Refusal};
-use stages::TailAnswer;
-use transcode::Measured;
 use vfont2::Vfont2;
 
 // Each conversion, by the kinds it goes between.
@@ -29,27 +27,6 @@ pub enum Conversion {
     Psf2ToPsf1,
     Psf2ToVfont2,
     Vfont2ToPsf2,
-}
-
-// What a conversion is about to do: the font, and how many bytes the output has; or the refusal.
-#[derive(Clone, Copy)]
-pub enum Prepared {
-    Ready(Font, usize),
-    Refused(Refusal),
-}
-
-// Whether the target can carry a font's glyphs.
-#[derive(Clone, Copy)]
-pub enum Suits {
-    Yes,
-    Refused(Refusal),
-}
-
-// Whether all entries have a glyph of the font's greatest height and width, or the number of the first that hasn't.
-#[derive(Clone, Copy)]
-pub enum Evenness {
-    Even,
-    UnevenAt(usize),
 }
 
 // The kind that a conversion wants.
@@ -121,21 +98,16 @@ fn same_kind(a: Kind, b: Kind) -> bool
 }
 
 // A sound font of a kind, or the refusal; and that its parts stand in the file.
-pub fn opened(file: &[u8], k: Kind) -> Checked
+pub fn opened(file: &[u8], k: Kind) -> Result<Font, Refusal>
     ensures equal { result ≡ opened_of k file.now }
     ensures bounded { OpenedPlaced k file.now result }
 {
-    let a = stages::check(file);
-    match a {
-        Checked::Sound(f) => {
-            let kind = f.kind;
-            if same_kind(k, kind) {
-                return Checked::Sound(f);
-            }
-            Checked::Refused(refusal::refuse(Reason::WrongKind, 0))
-        }
-        Checked::Refused(r) => Checked::Refused(r),
+    let f = stages::check(file)?;
+    let kind = f.kind;
+    if same_kind(k, kind) {
+        return Ok(f);
     }
+    Err(refusal::refuse(Reason::WrongKind, 0))
 }
 
 // "n is 256 or 512"
@@ -150,16 +122,16 @@ fn is_psf1_count(n: usize) -> bool
 
 // Refusal 18 to PSF1.
 #[tactic(auto, using(crate::proofs::Cases::width_other))]
-fn suits_psf1(f: Font) -> Suits
+fn suits_psf1(f: Font) -> Result<(), Refusal>
     ensures { result ≡ suits_psf1 f }
 {
     if !is_psf1_count(f.count) {
-        return Suits::Refused(refusal::refuse(Reason::Glyphs, 16));
+        return Err(refusal::refuse(Reason::Glyphs, 16));
     }
     if f.width != 8 {
-        return Suits::Refused(refusal::refuse(Reason::Glyphs, 28));
+        return Err(refusal::refuse(Reason::Glyphs, 28));
     }
-    Suits::Yes
+    Ok(())
 }
 
 // Whether the entry at `at` has a glyph, with the metrics (height, 0, 0, width, width). Asks that the entry stands in the file.
@@ -186,7 +158,7 @@ fn is_even(file: &[u8], height: usize, width: usize, at: usize) -> bool
 }
 
 // The first of n entries of the table that begins at `start` that is not even. Asks that they stand in the file.
-fn first_uneven(file: &[u8], height: usize, width: usize, n: usize, start: usize) -> Evenness
+fn first_uneven(file: &[u8], height: usize, width: usize, n: usize, start: usize) -> Option<usize>
     requires { entry_at start n ≤ length file.now }
     ensures { result ≡ evenness file.now height width start n 0 }
 {
@@ -197,21 +169,21 @@ fn first_uneven(file: &[u8], height: usize, width: usize, n: usize, start: usize
             at += Vfont2::ENTRY_LEN;
             i += 1;
         } else {
-            return Evenness::UnevenAt(i);
+            return Some(i);
         }
     }
-    Evenness::Even
+    None
 }
 
 // Refusal 18 from vfont2. Asks for a vfont2 font whose parts stand in the file.
-fn suits_psf2(file: &[u8], f: Font) -> Suits
+fn suits_psf2(file: &[u8], f: Font) -> Result<(), Refusal>
     requires { Placed file.now f × (f.kind ≡ vfont2) }
     ensures { result ≡ even_suits f (evenness file.now f.height f.width f.entries f.count 0) }
 {
     let e = first_uneven(file, f.height, f.width, f.count, f.entries);
     match e {
-        Evenness::Even => Suits::Yes,
-        Evenness::UnevenAt(i) => Suits::Refused(refusal::refuse_at(
+        None => Ok(()),
+        Some(i) => Err(refusal::refuse_at(
             Reason::Glyphs,
             f.entries + i * Vfont2::ENTRY_LEN,
             i,
@@ -220,20 +192,20 @@ fn suits_psf2(file: &[u8], f: Font) -> Suits
 }
 
 // Refusal 18. Asks for a font of the conversion's kind whose parts stand in the file.
-fn check_glyphs(c: Conversion, file: &[u8], f: Font) -> Suits
+fn check_glyphs(c: Conversion, file: &[u8], f: Font) -> Result<(), Refusal>
     requires { Placed file.now f × (f.kind ≡ source_kind c) }
     ensures { result ≡ suits_of c file.now f }
 {
     match c {
-        Conversion::Psf1ToPsf2 => Suits::Yes,
+        Conversion::Psf1ToPsf2 => Ok(()),
         Conversion::Psf2ToPsf1 => suits_psf1(f),
-        Conversion::Psf2ToVfont2 => Suits::Yes,
+        Conversion::Psf2ToVfont2 => Ok(()),
         Conversion::Vfont2ToPsf2 => suits_psf2(file, f),
     }
 }
 
 // How many bytes the table has in the target's coding, or the first value that it can't carry. Asks for a tail no longer than a file.
-fn table_len(c: Conversion, tail: &[u8]) -> Measured
+fn table_len(c: Conversion, tail: &[u8]) -> Result<usize, usize>
     requires { length tail.now ≤ 1048576 }
     ensures equal { result ≡ measured_of c tail.now }
     ensures bounded { MeasuredWithin (length tail.now) result }
@@ -241,8 +213,8 @@ fn table_len(c: Conversion, tail: &[u8]) -> Measured
     match c {
         Conversion::Psf1ToPsf2 => transcode::table_len(Coding::Ucs2, Coding::Utf8, tail),
         Conversion::Psf2ToPsf1 => transcode::table_len(Coding::Utf8, Coding::Ucs2, tail),
-        Conversion::Psf2ToVfont2 => Measured::Length(tail.len()),
-        Conversion::Vfont2ToPsf2 => Measured::Length(tail.len()),
+        Conversion::Psf2ToVfont2 => Ok(tail.len()),
+        Conversion::Vfont2ToPsf2 => Ok(tail.len()),
     }
 }
 
@@ -258,22 +230,22 @@ fn front_len(c: Conversion, f: Font) -> usize
 
 // Refusal 20, or that the output fits in a file.
 #[tactic(auto, using(crate::proofs::Cases::too_large))]
-fn fit(f: Font, need: usize) -> Prepared
+fn fit(f: Font, need: usize) -> Result<(Font, usize), Refusal>
     ensures { result ≡ fitting f need }
 {
     if header::LIMIT < need {
-        return Prepared::Refused(refusal::refuse(Reason::Size, 0));
+        return Err(refusal::refuse(Reason::Size, 0));
     }
-    Prepared::Ready(f, need)
+    Ok((f, need))
 }
 
 // The glyph that a tail's answer tells.
-fn glyph_in(a: TailAnswer) -> usize
+fn glyph_in(a: Result<(), Refusal>) -> usize
     ensures { result ≡ glyph_told a }
 {
     match a {
-        TailAnswer::Sound => refusal::NO_GLYPH,
-        TailAnswer::Refused(r) => r.glyph,
+        Ok(()) => refusal::NO_GLYPH,
+        Err(r) => r.glyph,
     }
 }
 
@@ -288,15 +260,15 @@ fn glyph_at(f: Font, file: &[u8], k: usize) -> usize
 }
 
 // Refusals 19 and 20. Asks for a font whose parts stand in the file.
-fn measured(c: Conversion, file: &[u8], f: Font) -> Prepared
+fn measured(c: Conversion, file: &[u8], f: Font) -> Result<(Font, usize), Refusal>
     requires { Placed file.now f }
     ensures { result ≡ measured_then c f (tail_of file.now f) (measured_of c (tail_of file.now f)) }
 {
     let end = f.end;
     let m = table_len(c, &file[end..]);
     match m {
-        Measured::Length(t) => fit(f, front_len(c, f) + t),
-        Measured::Uncarried(k) => Prepared::Refused(refusal::refuse_at(
+        Ok(t) => fit(f, front_len(c, f) + t),
+        Err(k) => Err(refusal::refuse_at(
             Reason::Value,
             end + k,
             glyph_at(f, file, k),
@@ -305,24 +277,18 @@ fn measured(c: Conversion, file: &[u8], f: Font) -> Prepared
 }
 
 // Refusals 18 to 20. Asks for a font of the conversion's kind whose parts stand in the file.
-fn prepare_font(c: Conversion, file: &[u8], f: Font) -> Prepared
+fn prepare_font(c: Conversion, file: &[u8], f: Font) -> Result<(Font, usize), Refusal>
     requires { Placed file.now f × (f.kind ≡ source_kind c) }
     ensures { result ≡ prepared_on c file.now f }
 {
-    let g = check_glyphs(c, file, f);
-    match g {
-        Suits::Yes => measured(c, file, f),
-        Suits::Refused(r) => Prepared::Refused(r),
-    }
+    check_glyphs(c, file, f)?;
+    measured(c, file, f)
 }
 
 // The font's own refusal, then 17 to 20; or the font and how long the output is.
-pub fn prepare(c: Conversion, file: &[u8]) -> Prepared
+pub fn prepare(c: Conversion, file: &[u8]) -> Result<(Font, usize), Refusal>
     ensures { result ≡ prepared_of c file.now }
 {
-    let a = opened(file, source_of(c));
-    match a {
-        Checked::Sound(f) => prepare_font(c, file, f),
-        Checked::Refused(r) => Prepared::Refused(r),
-    }
+    let f = opened(file, source_of(c))?;
+    prepare_font(c, file, f)
 }

@@ -6,7 +6,6 @@ use native.Mathlib.Omega.{arith}
 use lib.ListN.{length}
 use Rattle.base.specs.Meaning.{Bytes}
 use Rattle.coding.specs.declared.Coding.TheVariants.{Utf8, Ucs2}
-use Rattle.transcode.specs.declared.Measured.TheVariants.{Length}
 use Rattle.transcode.proofs.Measuring.{length_recoded}
 use Rattle.header.specs.declared.Kind.TheVariants.{Vfont2}
 use Rattle.header.specs.declared.Font.{Font}
@@ -20,20 +19,20 @@ use Rattle.content.proofs.Shapes.{AllEven}
 use Rattle.content.proofs.Source.{is_placed, source_length, entry_stands}
 use Rattle.conversion.specs.declared.Conversion.{Conversion}
 use Rattle.conversion.specs.declared.Conversion.TheVariants.{Psf1ToPsf2, Psf2ToPsf1, Psf2ToVfont2, Vfont2ToPsf2}
-use Rattle.conversion.specs.declared.Prepared.TheVariants.{Ready}
 use Rattle.conversion.specs.Meaning.{source_kind, front_len}
 use Rattle.conversion.specs.Reading.{table_in, measured_of, prepared_of}
 use Rattle.conversion.proofs.Cases.{measured_is, suits_is}
 use Rattle.conversion.proofs.Ready.{Known, known, even_fields, all_even}
+use Rattle.std.specs.Prelude.{Ok}
 
 -- the table's length is the one that was measured
-pub measured_length : (c : Conversion) (tl : List ℕ) (t : ℕ) → measured_of c tl ≡ Length t → t ≡ length (table_in c tl)
+pub measured_length : (c : Conversion) (tl : List ℕ) (t : ℕ) → measured_of c tl ≡ Ok t → t ≡ length (table_in c tl)
 measured_length Psf1ToPsf2 tl t e = length_recoded Ucs2 Utf8 tl t (measured_is Psf1ToPsf2 Psf1ToPsf2 tl refl ∙ e)
 measured_length Psf2ToPsf1 tl t e = length_recoded Utf8 Ucs2 tl t (measured_is Psf2ToPsf1 Psf2ToPsf1 tl refl ∙ e)
-measured_length Psf2ToVfont2 tl t e = let q : Length (length tl) ≡ Length t = measured_is Psf2ToVfont2 Psf2ToVfont2 tl refl ∙ e in let h : length tl ≡ t = cc in sym h
-measured_length Vfont2ToPsf2 tl t e = let q : Length (length tl) ≡ Length t = measured_is Vfont2ToPsf2 Vfont2ToPsf2 tl refl ∙ e in let h : length tl ≡ t = cc in sym h
+measured_length Psf2ToVfont2 tl t e = let q : Ok (length tl) ≡ Ok t = measured_is Psf2ToVfont2 Psf2ToVfont2 tl refl ∙ e in let h : length tl ≡ t = cc in sym h
+measured_length Vfont2ToPsf2 tl t e = let q : Ok (length tl) ≡ Ok t = measured_is Vfont2ToPsf2 Vfont2ToPsf2 tl refl ∙ e in let h : length tl ≡ t = cc in sym h
 
-module _ (c : Conversion) (s : List ℕ) (f : Font) (n : ℕ) (y : Bytes s) (e : prepared_of c s ≡ Ready f n) where
+module _ (c : Conversion) (s : List ℕ) (f : Font) (n : ℕ) (y : Bytes s) (e : prepared_of c s ≡ Ok (f , n)) where
   pub ready : Known c s f n
   ready = known c s f n e
 
@@ -64,8 +63,8 @@ module _ (c : Conversion) (s : List ℕ) (f : Font) (n : ℕ) (y : Bytes s) (e :
   ready_stands q i l = entry_stands s f y ready.sound q i l (subst (AllEven s f) q ready_even i l)
 
   -- its table is carried, and its output has the length that is told
-  pub ready_table : measured_of c (tail_of s f) ≡ Length (length (table_in c (tail_of s f)))
-  ready_table = ready.measured ∙ ap Length (measured_length c (tail_of s f) ready.table ready.measured)
+  pub ready_table : measured_of c (tail_of s f) ≡ Ok (length (table_in c (tail_of s f)))
+  ready_table = ready.measured ∙ ap Ok (measured_length c (tail_of s f) ready.table ready.measured)
 
   pub ready_long : n ≡ front_len c f + length (table_in c (tail_of s f))
   ready_long = ready.long ∙ ap (λ (x : ℕ). front_len c f + x) (measured_length c (tail_of s f) ready.table ready.measured)

@@ -21,24 +21,23 @@ use Rattle.layout.specs.Reading.{dispatch_bytes, field_at20, font_bytes, glyphs_
 use Rattle.layout.proofs.Parts.{dispatch_length, evenly_length}
 use Rattle.stages.specs.Meaning.{tail_of}
 use Rattle.conversion.specs.declared.Conversion.{Conversion}
-use Rattle.conversion.specs.declared.Prepared.TheVariants.{Ready, Refused as Unprepared}
 use Rattle.conversion.specs.Meaning.{target_kind}
 use Rattle.conversion.specs.Reading.{table_in, output_of, prepared_of}
-use Rattle.convert.specs.declared.Converted.TheVariants.{Wrote, Refused}
 use Rattle.convert.specs.Reading.{converted_of, converted_into}
+use Rattle.std.specs.Prelude.{Ok, Err}
 
 -- a refused font
 module _ (c : Conversion) (s xs : List ℕ) where
-  pub unprepared : (r : Refusal) → prepared_of c s ≡ Unprepared r → (Refused r ≡ converted_of c s (length xs)) × (xs ≡ converted_into c s xs)
+  pub unprepared : (r : Refusal) → prepared_of c s ≡ Err r → (Err r ≡ converted_of c s (length xs)) × (xs ≡ converted_into c s xs)
   unfolding converted_of converted_into
   unprepared r e = (rw e, rw e)
 
-  module _ (f : Font) (n : ℕ) (e : prepared_of c s ≡ Ready f n) where
-    pub no_room : length xs < n → (Refused (refusal Room n) ≡ converted_of c s (length xs)) × (xs ≡ converted_into c s xs)
+  module _ (f : Font) (n : ℕ) (e : prepared_of c s ≡ Ok (f , n)) where
+    pub no_room : length xs < n → (Err (refusal Room n) ≡ converted_of c s (length xs)) × (xs ≡ converted_into c s xs)
     unfolding converted_of converted_into when
     no_room h = (rw (e, lt-ltb (length xs) n h), rw (e, lt-ltb (length xs) n h))
 
-    pub wrote : n ≤ length xs → (Wrote n ≡ converted_of c s (length xs)) × (over (output_of c s f) xs ≡ converted_into c s xs)
+    pub wrote : n ≤ length xs → (Ok n ≡ converted_of c s (length xs)) × (over (output_of c s f) xs ≡ converted_into c s xs)
     unfolding converted_of converted_into when
     wrote h = (rw (e, le-ltb (length xs) n h), rw (e, le-ltb (length xs) n h))
 

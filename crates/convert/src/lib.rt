@@ -2,9 +2,8 @@
 // and leaves in the buffer), crate `conversion` (the outputs, and what refuses them).
 #![tactic(auto)]
 
-ghost use Rattle.std.specs.Prelude.{◌≡◌, ℕ, ◌+◌, ◌*◌, ◌≤◌, ◌<◌, length};
+ghost use Rattle.std.specs.Prelude.{◌≡◌, ℕ, ◌+◌, ◌*◌, ◌≤◌, ◌<◌, length, Ok};
 ghost use Rattle.base.specs.Reading.{over};
-ghost use Rattle.transcode.specs.declared.Measured.TheVariants.{Length};
 ghost use Rattle.header.specs.declared.Kind.TheVariants.{Vfont2 as vfont2};
 ghost use Rattle.header.specs.Bounds.{Placed};
 ghost use Rattle.entries.specs.Meaning.{entry_at, address_at};
@@ -16,16 +15,9 @@ ghost use Rattle.conversion.specs.Reading.{table_in, output_of, measured_of};
 ghost use Rattle.convert.specs.Reading.{converted_of, converted_into};
 
 use coding::Coding;
-use conversion::{Conversion, Prepared};
+use conversion::Conversion;
 use header::{Font, Kind};
 use refusal::{Reason, Refusal};
-
-// How many bytes were written to the buffer's front; or the refusal, and then the buffer is as it was.
-#[derive(Clone, Copy)]
-pub enum Converted {
-    Wrote(usize),
-    Refused(Refusal),
-}
 
 // The number at 20: bytes per glyph, or of all n bitmaps. Asks for small numbers: the check has bounded both.
 fn field_at_20(kind: Kind, n: usize, size: usize) -> usize
@@ -41,7 +33,7 @@ fn field_at_20(kind: Kind, n: usize, size: usize) -> usize
 
 // The table in the target's coding. Asks that it carries every value, and for room: `prepare` and the caller's test give both.
 fn put_table(c: Conversion, tail: &[u8], out: &mut [u8])
-    requires { (measured_of c tail.now ≡ Length (length (table_in c tail.now))) × (length (table_in c tail.now) ≤ length out.old) }
+    requires { (measured_of c tail.now ≡ Ok (length (table_in c tail.now))) × (length (table_in c tail.now) ≤ length out.old) }
     ensures { out.new ≡ over (table_in c tail.now) out.old }
 {
     match c {
@@ -55,7 +47,7 @@ fn put_table(c: Conversion, tail: &[u8], out: &mut [u8])
 // The output of a conversion, each part to its own stretch of the buffer. Asks for a font that the conversion is ready for, whose glyphs
 // stand in the file and are all of one size, and for room: `prepare` and the caller's test give it.
 fn write_font(c: Conversion, file: &[u8], f: Font, out: &mut [u8])
-    requires { Placed file.now f × (measured_of c (tail_of file.now f) ≡ Length (length (table_in c (tail_of file.now f))))
+    requires { Placed file.now f × (measured_of c (tail_of file.now f) ≡ Ok (length (table_in c (tail_of file.now f))))
         × (length (glyphs_in file.now f) ≡ f.count * char_size f)
         × (f.kind ≡ vfont2 → (i : ℕ) → i < f.count → f.bitmaps + address_at file.now (entry_at f.entries i) + char_size f ≤ length file.now)
         × (front_len c f + length (table_in c (tail_of file.now f)) ≤ length out.old) }
@@ -83,19 +75,14 @@ fn write_font(c: Conversion, file: &[u8], f: Font, out: &mut [u8])
 }
 
 // A conversion. Refusals: the font's own (1 to 12), WRONG KIND, GLYPHS, VALUE, SIZE, ROOM.
-pub fn convert(c: Conversion, file: &[u8], out: &mut [u8]) -> Converted
+pub fn convert(c: Conversion, file: &[u8], out: &mut [u8]) -> Result<usize, Refusal>
     ensures answer { result ≡ converted_of c file.now (length out.old) }
     ensures buffer { out.new ≡ converted_into c file.now out.old }
 {
-    let p = conversion::prepare(c, file);
-    match p {
-        Prepared::Ready(f, need) => {
-            if out.len() < need {
-                return Converted::Refused(refusal::refuse(Reason::Room, need));
-            }
-            write_font(c, file, f, out);
-            Converted::Wrote(need)
-        }
-        Prepared::Refused(r) => Converted::Refused(r),
+    let (f, need) = conversion::prepare(c, file)?;
+    if out.len() < need {
+        return Err(refusal::refuse(Reason::Room, need));
     }
+    write_font(c, file, f, out);
+    Ok(need)
 }

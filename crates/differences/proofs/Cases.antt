@@ -18,16 +18,15 @@ use Rattle.refusal.specs.Meaning.{refusal}
 use Rattle.refusal.specs.declared.Reason.TheVariants.{Room}
 use Rattle.refusal.specs.declared.Refusal.{Refusal}
 use Rattle.header.specs.declared.Font.{Font}
-use Rattle.header.specs.declared.Checked.{Checked}
-use Rattle.header.specs.declared.Checked.TheVariants.{Sound, Refused as Unsound}
 use Rattle.stages.specs.Meaning.{coding_of}
 use Rattle.stages.specs.Reading.{check_of}
 use Rattle.glyphs.specs.Reading.{glyph_kind}
-use Rattle.differences.specs.declared.Compared.{Compared}
-use Rattle.differences.specs.declared.Compared.TheVariants.{Pairs, Refused}
 use Rattle.differences.specs.Meaning.{numbers}
 use Rattle.differences.specs.Reading.{pair_of, table_kind, only_kind, common_from, rest_from, compared_start, compared_tail, common_pairs, rest_pairs, pairs_of, fitted, compared_with, compared_by, compare_answer, found_with, found_by, differences_of, left_by, compare_into}
 use Rattle.differences.proofs.Pairs.{no_pair, pair_most, common_most, common_bare, numbers_append, rest_length as rest-count}
+use Rattle.std.specs.Prelude.{Result, Ok, Err}
+use Rattle.differences.specs.declared.Uncompared.{Uncompared}
+use Rattle.differences.specs.declared.Uncompared.TheVariants.{First, Second, Neither}
 
 -- where the descriptions that are compared begin
 module _ (len : ℕ) (f h : Font) (k : ℕ) (e : k ≡ table_kind f.table h.table) where
@@ -120,11 +119,11 @@ last w xs v y n h = subst (Written w xs n v) (sym (append-nil y)) h
 
 -- room or not
 module _ (room n : ℕ) where
-  pub no_room : room < 2 * n → Refused 0 (refusal Room (2 * n)) ≡ fitted room n
+  pub no_room : room < 2 * n → Err (Neither (refusal Room (2 * n))) ≡ fitted room n
   unfolding fitted when
   no_room l = rw (lt-ltb room (2 * n) l)
 
-  pub has_room : 2 * n ≤ room → Pairs n ≡ fitted room n
+  pub has_room : 2 * n ≤ room → Ok n ≡ fitted room n
   unfolding fitted when
   has_room l = rw (le-ltb room (2 * n) l)
 
@@ -135,24 +134,24 @@ none_over [] xs e = over_none xs
 none_over (p ∷ ps) xs e = absurd (omega arith)
 
 -- the two calls on two files
-module _ (s : List ℕ) (f : Font) (o : List ℕ) (xs ys : List ℕ) (a : Compared) where
-  pub second_sound : (h : Font) → check_of o ≡ Sound h → (a ≡ fitted (length xs) (length (pairs_of s f o h))) × (ys ≡ left_by a (pairs_of s f o h) xs) →
+module _ (s : List ℕ) (f : Font) (o : List ℕ) (xs ys : List ℕ) (a : Result ℕ Uncompared) where
+  pub second_sound : (h : Font) → check_of o ≡ Ok h → (a ≡ fitted (length xs) (length (pairs_of s f o h))) × (ys ≡ left_by a (pairs_of s f o h) xs) →
       (a ≡ compared_with s f o (length xs) (check_of o)) × (ys ≡ left_by a (found_with s f o (check_of o)) xs)
-  second_sound h e w = (w.0 ∙ ap (compared_with s f o (length xs)) (sym e), w.1 ∙ ap (λ (x : Checked). left_by a (found_with s f o x) xs) (sym e))
+  second_sound h e w = (w.0 ∙ ap (compared_with s f o (length xs)) (sym e), w.1 ∙ ap (λ (x : Result Font Refusal). left_by a (found_with s f o x) xs) (sym e))
 
-  pub first_sound : check_of s ≡ Sound f → (a ≡ compared_with s f o (length xs) (check_of o)) × (ys ≡ left_by a (found_with s f o (check_of o)) xs) →
+  pub first_sound : check_of s ≡ Ok f → (a ≡ compared_with s f o (length xs) (check_of o)) × (ys ≡ left_by a (found_with s f o (check_of o)) xs) →
       (a ≡ compare_answer s o (length xs)) × (ys ≡ compare_into s o xs)
   unfolding compare_answer compare_into differences_of
   first_sound e w =
       let p : a ≡ compared_by s o (length xs) (check_of s) = w.0 ∙ ap (compared_by s o (length xs)) (sym e) in
       (p, w.1 ∙ (λ i. left_by (p i) (found_by s o (sym e i)) xs))
 
-pub second_refused : (s : List ℕ) (f : Font) (o xs : List ℕ) (r : Refusal) → check_of o ≡ Unsound r →
-    (Refused 2 r ≡ compared_with s f o (length xs) (check_of o)) × (xs ≡ left_by (Refused 2 r) (found_with s f o (check_of o)) xs)
+pub second_refused : (s : List ℕ) (f : Font) (o xs : List ℕ) (r : Refusal) → check_of o ≡ Err r →
+    (Err (Second r) ≡ compared_with s f o (length xs) (check_of o)) × (xs ≡ left_by (Err (Second r)) (found_with s f o (check_of o)) xs)
 second_refused s f o xs r e = (ap (compared_with s f o (length xs)) (sym e), refl)
 
-pub first_refused : (s o xs : List ℕ) (r : Refusal) → check_of s ≡ Unsound r → (Refused 1 r ≡ compare_answer s o (length xs)) × (xs ≡ compare_into s o xs)
+pub first_refused : (s o xs : List ℕ) (r : Refusal) → check_of s ≡ Err r → (Err (First r) ≡ compare_answer s o (length xs)) × (xs ≡ compare_into s o xs)
 unfolding compare_answer compare_into differences_of
 first_refused s o xs r e =
-    let p : Refused 1 r ≡ compared_by s o (length xs) (check_of s) = ap (compared_by s o (length xs)) (sym e) in
+    let p : Err (First r) ≡ compared_by s o (length xs) (check_of s) = ap (compared_by s o (length xs)) (sym e) in
     (p, λ i. left_by (p i) (found_by s o (sym e i)) xs)

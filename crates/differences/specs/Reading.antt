@@ -1,19 +1,18 @@
 -- The differences of two fonts as pairs of kind and glyph, in their order, and what the call answers and leaves (document 02, W5).
-use Rattle.std.specs.Prelude.{ℕ, zero, suc, ◌-◌, ◌*◌, min, max, Bool, true, false, List, [], ◌∷◌, ◌++◌, ltb, eqb, length, drop}
+use Rattle.std.specs.Prelude.{ℕ, zero, suc, ◌-◌, ◌*◌, min, max, Bool, true, false, List, [], ◌∷◌, ◌++◌, ltb, eqb, length, drop, Result, Ok, Err}
 use Rattle.base.specs.Reading.{when, over}
 use Rattle.refusal.specs.Meaning.{refusal}
 use Rattle.refusal.specs.declared.Reason.TheVariants.{Room}
 use Rattle.coding.specs.declared.Coding.{Coding}
 use Rattle.header.specs.declared.Font.{Font}
-use Rattle.header.specs.declared.Checked.{Checked}
-use Rattle.header.specs.declared.Checked.TheVariants.{Sound, Refused as Unsound}
 use Rattle.stages.specs.Meaning.{coding_of}
 use Rattle.stages.specs.Reading.{check_of}
 use Rattle.descriptions.specs.Reading.{same_at, end_at}
 use Rattle.glyphs.specs.Reading.{glyph_kind}
 use Rattle.differences.specs.Meaning.{numbers}
-use Rattle.differences.specs.declared.Compared.{Compared}
-use Rattle.differences.specs.declared.Compared.TheVariants.{Pairs, Refused}
+use Rattle.refusal.specs.declared.Refusal.{Refusal}
+use Rattle.differences.specs.declared.Uncompared.{Uncompared}
+use Rattle.differences.specs.declared.Uncompared.TheVariants.{First, Second, Neither}
 
 -- a pair of a kind and a glyph; none of kind 0
 unfoldable pub pair_of : ℕ → ℕ → List (ℕ × ℕ)
@@ -73,38 +72,38 @@ unfoldable pub pairs_of : List ℕ → Font → List ℕ → Font → List (ℕ 
 pairs_of s f o h = pair_of (table_kind f.table h.table) 0 ++ (common_pairs s f o h ++ rest_pairs f h)
 
 -- 21, "ROOM with the count of numbers needed", for a buffer of so many numbers; or "the count of pairs"
-unfoldable pub fitted : ℕ → ℕ → Compared
-fitted room n = when (ltb room (2 * n)) (Refused 0 (refusal Room (2 * n))) (Pairs n)
+unfoldable pub fitted : ℕ → ℕ → Result ℕ Uncompared
+fitted room n = when (ltb room (2 * n)) (Err (Neither (refusal Room (2 * n)))) (Ok n)
 
 -- "the first font's, else the second's, with which one it was"
-abbrev pub compared_with : List ℕ → Font → List ℕ → ℕ → Checked → Compared
-compared_with s f o room (Sound h) = fitted room (length (pairs_of s f o h))
-compared_with s f o room (Unsound r) = Refused 2 r
+abbrev pub compared_with : List ℕ → Font → List ℕ → ℕ → Result Font Refusal → Result ℕ Uncompared
+compared_with s f o room (Ok h) = fitted room (length (pairs_of s f o h))
+compared_with s f o room (Err r) = Err (Second r)
 
-abbrev pub compared_by : List ℕ → List ℕ → ℕ → Checked → Compared
-compared_by s o room (Sound f) = compared_with s f o room (check_of o)
-compared_by s o room (Unsound r) = Refused 1 r
+abbrev pub compared_by : List ℕ → List ℕ → ℕ → Result Font Refusal → Result ℕ Uncompared
+compared_by s o room (Ok f) = compared_with s f o room (check_of o)
+compared_by s o room (Err r) = Err (First r)
 
 -- what the call answers, for a buffer of so many numbers
-unfoldable pub compare_answer : List ℕ → List ℕ → ℕ → Compared
+unfoldable pub compare_answer : List ℕ → List ℕ → ℕ → Result ℕ Uncompared
 compare_answer s o room = compared_by s o room (check_of s)
 
 -- the pairs of two files, none where one is refused
-abbrev pub found_with : List ℕ → Font → List ℕ → Checked → List (ℕ × ℕ)
-found_with s f o (Sound h) = pairs_of s f o h
-found_with s f o (Unsound r) = []
+abbrev pub found_with : List ℕ → Font → List ℕ → Result Font Refusal → List (ℕ × ℕ)
+found_with s f o (Ok h) = pairs_of s f o h
+found_with s f o (Err r) = []
 
-abbrev pub found_by : List ℕ → List ℕ → Checked → List (ℕ × ℕ)
-found_by s o (Sound f) = found_with s f o (check_of o)
-found_by s o (Unsound r) = []
+abbrev pub found_by : List ℕ → List ℕ → Result Font Refusal → List (ℕ × ℕ)
+found_by s o (Ok f) = found_with s f o (check_of o)
+found_by s o (Err r) = []
 
 unfoldable pub differences_of : List ℕ → List ℕ → List (ℕ × ℕ)
 differences_of s o = found_by s o (check_of s)
 
 -- the buffer at the end: the pairs laid over its front, or as it was
-abbrev pub left_by : Compared → List (ℕ × ℕ) → List ℕ → List ℕ
-left_by (Pairs n) ps xs = over (numbers ps) xs
-left_by (Refused w r) ps xs = xs
+abbrev pub left_by : Result ℕ Uncompared → List (ℕ × ℕ) → List ℕ → List ℕ
+left_by (Ok n) ps xs = over (numbers ps) xs
+left_by (Err u) ps xs = xs
 
 unfoldable pub compare_into : List ℕ → List ℕ → List ℕ → List ℕ
 compare_into s o xs = left_by (compare_answer s o (length xs)) (differences_of s o) xs

@@ -11,15 +11,15 @@ ghost use Rattle.differences.specs.Meaning.{numbers};
 ghost use Rattle.differences.specs.Reading.{pair_of, glyph_pairs, table_kind, item_kind, only_kind, common_from, rest_from, compared_start, pairs_of, fitted, compared_with, found_with, compare_answer, left_by, compare_into};
 ghost use Rattle.stages.specs.Reading.{check_of};
 
-use header::{Checked, Font};
+use header::Font;
 use refusal::{Reason, Refusal};
 
-// How many pairs were written to the buffer's front; or the refusal, and whose it is: 1 the first font's, 2 the second's, 0 neither's, for a
-// buffer without room. Then the buffer is as it was.
+// Why two fonts are not compared: the first font's own refusal, the second's own, or neither's, for a buffer without room.
 #[derive(Clone, Copy)]
-pub enum Compared {
-    Pairs(usize),
-    Refused(u32, Refusal),
+pub enum Uncompared {
+    First(Refusal),
+    Second(Refusal),
+    Neither(Refusal),
 }
 
 // 6 where just one font has a table, else 0.
@@ -232,7 +232,7 @@ fn put_pairs(a: &[u8], f: Font, b: &[u8], h: Font, out: &mut [u32]) -> usize
 // The differences of two sound fonts: written at once where the buffer has room for any pairs of fonts of so many glyphs, which are no more than
 // they have glyphs together; else counted first, since a refused call writes nothing. Asks for fonts whose parts stand in the files.
 #[tactic(auto, using(crate::proofs::Cases::no_room))]
-fn compare_fonts(a: &[u8], f: Font, b: &[u8], h: Font, out: &mut [u32]) -> Compared
+fn compare_fonts(a: &[u8], f: Font, b: &[u8], h: Font, out: &mut [u32]) -> Result<usize, Uncompared>
     requires { Placed a.now f × Placed b.now h }
     ensures answer { result ≡ fitted (length out.old) (length (pairs_of a.now f b.now h)) }
     ensures buffer { out.new ≡ left_by result (pairs_of a.now f b.now h) out.old }
@@ -242,26 +242,26 @@ fn compare_fonts(a: &[u8], f: Font, b: &[u8], h: Font, out: &mut [u32]) -> Compa
         let n = count_pairs(a, f, b, h);
         let need = 2 * n;
         if out.len() < need {
-            return Compared::Refused(0, refusal::refuse(Reason::Room, need));
+            return Err(Uncompared::Neither(refusal::refuse(Reason::Room, need)));
         }
         if n == 0 {
-            return Compared::Pairs(0);
+            return Ok(0);
         }
     }
     let used = put_pairs(a, f, b, h, out);
-    Compared::Pairs(used / 2)
+    Ok(used / 2)
 }
 
 // The same, where the first font is sound: the second's refusal first.
-fn compare_second(a: &[u8], f: Font, b: &[u8], out: &mut [u32]) -> Compared
+fn compare_second(a: &[u8], f: Font, b: &[u8], out: &mut [u32]) -> Result<usize, Uncompared>
     requires { Placed a.now f }
     ensures answer { result ≡ compared_with a.now f b.now (length out.old) (check_of b.now) }
     ensures buffer { out.new ≡ left_by result (found_with a.now f b.now (check_of b.now)) out.old }
 {
     let y = stages::check(b);
     match y {
-        Checked::Sound(h) => compare_fonts(a, f, b, h, out),
-        Checked::Refused(r) => Compared::Refused(2, r),
+        Ok(h) => compare_fonts(a, f, b, h, out),
+        Err(r) => Err(Uncompared::Second(r)),
     }
 }
 
@@ -269,13 +269,13 @@ fn compare_second(a: &[u8], f: Font, b: &[u8], out: &mut [u32]) -> Compared
 // descriptions are compared; then by glyph, and by kind within it: 1 only in the first font, 2 only in the second, 3 metrics differ or just
 // one font has no glyph there, 4 pixels differ though metrics agree, 5 items differ. The count of pairs is answered; other numbers of out stay.
 // Refusals: the first font's own (1 to 12), the second font's own, ROOM with the count of numbers needed. A refused call leaves out as it was.
-pub fn compare(first: &[u8], second: &[u8], out: &mut [u32]) -> Compared
+pub fn compare(first: &[u8], second: &[u8], out: &mut [u32]) -> Result<usize, Uncompared>
     ensures answer { result ≡ compare_answer first.now second.now (length out.old) }
     ensures buffer { out.new ≡ compare_into first.now second.now out.old }
 {
     let x = stages::check(first);
     match x {
-        Checked::Sound(f) => compare_second(first, f, second, out),
-        Checked::Refused(r) => Compared::Refused(1, r),
+        Ok(f) => compare_second(first, f, second, out),
+        Err(r) => Err(Uncompared::First(r)),
     }
 }

@@ -19,40 +19,36 @@ use Rattle.utf8.specs.Reading.{is_scalar}
 use Rattle.utf8.proofs.Written.{scalar_exactly}
 use Rattle.header.specs.declared.Kind.TheVariants.{Psf2}
 use Rattle.header.specs.declared.Font.{Font}
-use Rattle.header.specs.declared.Checked.{Checked}
 use Rattle.header.specs.Meaning.{limit}
 use Rattle.stages.specs.Meaning.{tail_of}
 use Rattle.conversion.specs.Reading.{opened_of}
 use Rattle.moves.specs.Reading.{laid, inserted, removed}
 use Rattle.moves.proofs.Moves.{put_in}
 use Rattle.mapping.specs.declared.Mapping.{Mapping}
-use Rattle.mapping.specs.declared.Mapping.TheVariants.{Listed as ListedAt, Unlisted as UnlistedAt}
 use Rattle.mapping.specs.Reading.{mapping_of}
 use Rattle.mapping.specs.Bounds.{MappingWithin}
-use Rattle.edit.specs.declared.Sought.{Sought}
-use Rattle.edit.specs.declared.Sought.TheVariants.{Listed, Unlisted, Refused as NotSought}
-use Rattle.edit.specs.declared.Edited.{Edited}
-use Rattle.edit.specs.declared.Edited.TheVariants.{Length, Refused}
 use Rattle.edit.specs.Reading.{sought_at, sought_on, sought_in, sought_of, longer, fitted, insert_answer, left_by, add_answer, add_into, drop_answer, drop_into}
 use Rattle.edit.specs.Bounds.{SoughtWithin, SoughtInside}
+use Rattle.std.specs.Prelude.{Result, Err, Ok}
+use Rattle.mapping.specs.declared.Mapping.TheVariants.{Listed, Unlisted}
 
 -- a place within the table is one within the file
 placed : (n e v : ℕ) → e ≤ n → n ≤ limit → Scalar v → (m : Mapping) → MappingWithin (n - e) m → SoughtWithin n v (sought_at e m)
-placed n e v h l k (ListedAt at next) w = (omega (arith, w.0), omega (arith, w.1), l)
-placed n e v h l k (UnlistedAt at) w = (omega (arith, w), l, k)
+placed n e v h l k (Listed at next) w = (omega (arith, w.0), omega (arith, w.1), l)
+placed n e v h l k (Unlisted at) w = (omega (arith, w), l, k)
 
 -- 14, 13 for the glyph, 13 for the value; else what was found
 module _ (s : List ℕ) (g v : ℕ) (f : Font) where
-  pub bare : f.table ≡ false → NotSought (refusal NoTable 0) ≡ sought_on s g v f
+  pub bare : f.table ≡ false → Err (refusal NoTable 0) ≡ sought_on s g v f
   unfolding sought_on
   bare t = rw t
 
-  pub no_glyph : f.table ≡ true → f.count ≤ g → NotSought (refusal Ask 0) ≡ sought_on s g v f
+  pub no_glyph : f.table ≡ true → f.count ≤ g → Err (refusal Ask 0) ≡ sought_on s g v f
   unfolding sought_on when
   no_glyph t h = rw (t, le-leb f.count g h)
 
   module _ (t : f.table ≡ true) (h : g < f.count) (b : Bool) (e : b ≡ is_scalar v) where
-    pub no_value : b ≡ false → NotSought (refusal Ask 0) ≡ sought_on s g v f
+    pub no_value : b ≡ false → Err (refusal Ask 0) ≡ sought_on s g v f
     unfolding sought_on when
     no_value q = rw (t, lt-leb f.count g h, sym e ∙ q)
 
@@ -69,41 +65,41 @@ module _ (s : List ℕ) (g v : ℕ) (f : Font) where
         (ap (sought_at f.end) z ∙ sought_at_lem q, placed (length s) f.end v p l ((scalar_exactly v).0 (sym e ∙ q)) m n)
 
 -- what the check of the font hands on
-pub checked_as : (s : List ℕ) (g v : ℕ) (a b : Checked) → b ≡ opened_of Psf2 s → b ≡ a → sought_in s g v a ≡ sought_in s g v (opened_of Psf2 s)
+pub checked_as : (s : List ℕ) (g v : ℕ) (a b : Result Font Refusal) → b ≡ opened_of Psf2 s → b ≡ a → sought_in s g v a ≡ sought_in s g v (opened_of Psf2 s)
 checked_as s g v a b e q = ap (sought_in s g v) (sym q ∙ e)
 
 -- 13 for a length beyond the buffer; else the font in its first bytes
 module _ (xs : List ℕ) (len g v : ℕ) where
-  pub too_long : length xs < len → NotSought (refusal Ask 0) ≡ sought_of xs len g v
+  pub too_long : length xs < len → Err (refusal Ask 0) ≡ sought_of xs len g v
   unfolding sought_of when
   too_long h = rw (lt-ltb (length xs) len h)
 
-  pub in_buffer : len ≤ length xs → (r : Sought) → r ≡ sought_in (take len xs) g v (opened_of Psf2 (take len xs)) → r ≡ sought_of xs len g v
+  pub in_buffer : len ≤ length xs → (r : Result Mapping Refusal) → r ≡ sought_in (take len xs) g v (opened_of Psf2 (take len xs)) → r ≡ sought_of xs len g v
   unfolding sought_of when
   in_buffer h r e = rw (le-ltb (length xs) len h) e
 
-pub inside : (xs : List ℕ) (len v : ℕ) → len ≤ length xs → (r : Sought) → SoughtWithin (length (take len xs)) v r → SoughtInside (length xs) len v r
-inside xs len v h (Listed at next) w = let l = length-take-le len xs h in (h, w.0, omega (arith, w.1), omega (arith, w.2))
-inside xs len v h (Unlisted at) w = let l = length-take-le len xs h in (h, omega (arith, w.0), omega (arith, w.1), w.2)
-inside xs len v h (NotSought r) w = tt
+pub inside : (xs : List ℕ) (len v : ℕ) → len ≤ length xs → (r : Result Mapping Refusal) → SoughtWithin (length (take len xs)) v r → SoughtInside (length xs) len v r
+inside xs len v h (Ok (Listed at next)) w = let l = length-take-le len xs h in (h, w.0, omega (arith, w.1), omega (arith, w.2))
+inside xs len v h (Ok (Unlisted at)) w = let l = length-take-le len xs h in (h, omega (arith, w.0), omega (arith, w.1), w.2)
+inside xs len v h (Err r) w = tt
 
 -- 20, 21, and room enough
 module _ (room len v n : ℕ) (e : n ≡ length (utf8_bytes v)) where
-  pub over_limit : limit < len + n → Refused (refusal Size 0) ≡ fitted room (longer len v)
+  pub over_limit : limit < len + n → Err (refusal Size 0) ≡ fitted room (longer len v)
   unfolding fitted when
   over_limit h = rw (← e, lt-ltb limit (len + n) h)
 
-  pub no_room : len + n ≤ limit → room < len + n → Refused (refusal Room (len + n)) ≡ fitted room (longer len v)
+  pub no_room : len + n ≤ limit → room < len + n → Err (refusal Room (len + n)) ≡ fitted room (longer len v)
   unfolding fitted when
   no_room h k = rw (← e, le-ltb limit (len + n) h, lt-ltb room (len + n) k)
 
-  pub fits : len + n ≤ limit → len + n ≤ room → Length (len + n) ≡ fitted room (longer len v)
+  pub fits : len + n ≤ limit → len + n ≤ room → Ok (len + n) ≡ fitted room (longer len v)
   unfolding fitted when
   fits h k = rw (← e, le-ltb limit (len + n) h, le-ltb room (len + n) k)
 
 -- 13 for a noncharacter, and the rest
 module _ (room len v : ℕ) where
-  pub asked : is_noncharacter v ≡ true → Refused (refusal Ask 0) ≡ insert_answer room len v
+  pub asked : is_noncharacter v ≡ true → Err (refusal Ask 0) ≡ insert_answer room len v
   unfolding insert_answer when
   asked e = rw e
 
@@ -119,29 +115,29 @@ put s w ys len at v n h k e m y =
 
 -- the two edits, by what was sought
 module _ (xs : List ℕ) (len g v : ℕ) where
-  pub add_have : (at next : ℕ) → Listed at next ≡ sought_of xs len g v → (Refused (refusal Have 0) ≡ add_answer xs len g v) × (xs ≡ add_into xs len g v)
+  pub add_have : (at next : ℕ) → Ok (Listed at next) ≡ sought_of xs len g v → (Err (refusal Have 0) ≡ add_answer xs len g v) × (xs ≡ add_into xs len g v)
   unfolding add_answer add_into
   add_have at next e = (rw (sym e), rw (sym e))
 
-  pub add_refused : (r : Refusal) → NotSought r ≡ sought_of xs len g v → (Refused r ≡ add_answer xs len g v) × (xs ≡ add_into xs len g v)
+  pub add_refused : (r : Refusal) → Err r ≡ sought_of xs len g v → (Err r ≡ add_answer xs len g v) × (xs ≡ add_into xs len g v)
   unfolding add_answer add_into
   add_refused r e = (rw (sym e), rw (sym e))
 
-  pub add_put : (at : ℕ) (r : Edited) (ys : List ℕ) → Unlisted at ≡ sought_of xs len g v → r ≡ insert_answer (length xs) len v →
+  pub add_put : (at : ℕ) (r : Result ℕ Refusal) (ys : List ℕ) → Ok (Unlisted at) ≡ sought_of xs len g v → r ≡ insert_answer (length xs) len v →
       ys ≡ left_by r (inserted at (utf8_bytes v) (take len xs)) xs → (r ≡ add_answer xs len g v) × (ys ≡ add_into xs len g v)
   unfolding add_answer add_into
-  add_put at r ys e q u = (rw (sym e) q, rw (sym e) (u ∙ ap (λ (x : Edited). left_by x (inserted at (utf8_bytes v) (take len xs)) xs) q))
+  add_put at r ys e q u = (rw (sym e) q, rw (sym e) (u ∙ ap (λ (x : Result ℕ Refusal). left_by x (inserted at (utf8_bytes v) (take len xs)) xs) q))
 
-  pub drop_none : (at : ℕ) → Unlisted at ≡ sought_of xs len g v → (Refused (refusal NotThere 0) ≡ drop_answer xs len g v) × (xs ≡ drop_into xs len g v)
+  pub drop_none : (at : ℕ) → Ok (Unlisted at) ≡ sought_of xs len g v → (Err (refusal NotThere 0) ≡ drop_answer xs len g v) × (xs ≡ drop_into xs len g v)
   unfolding drop_answer drop_into
   drop_none at e = (rw (sym e), rw (sym e))
 
-  pub drop_refused : (r : Refusal) → NotSought r ≡ sought_of xs len g v → (Refused r ≡ drop_answer xs len g v) × (xs ≡ drop_into xs len g v)
+  pub drop_refused : (r : Refusal) → Err r ≡ sought_of xs len g v → (Err r ≡ drop_answer xs len g v) × (xs ≡ drop_into xs len g v)
   unfolding drop_answer drop_into
   drop_refused r e = (rw (sym e), rw (sym e))
 
-  pub drop_taken : (at next : ℕ) (ys : List ℕ) → Listed at next ≡ sought_of xs len g v →
+  pub drop_taken : (at next : ℕ) (ys : List ℕ) → Ok (Listed at next) ≡ sought_of xs len g v →
       ys ≡ over (removed at (next - at) (take len xs) ++ replicate (next - at) 0) xs →
-      (Length (len - (next - at)) ≡ drop_answer xs len g v) × (ys ≡ drop_into xs len g v)
+      (Ok (len - (next - at)) ≡ drop_answer xs len g v) × (ys ≡ drop_into xs len g v)
   unfolding drop_answer drop_into
   drop_taken at next ys e u = (rw (sym e), rw (sym e) u)

@@ -9,7 +9,7 @@ use Rattle.entries.specs.Meaning.{entry_at, address_at, size_at, rows_at, cols_a
 use Rattle.entries.specs.Reading.{entry_of, larger, scan_of}
 use Rattle.header.specs.Meaning.{glyph_bytes}
 use Rattle.entries.specs.declared.Entry.TheVariants.{Empty, Glyph, Broken}
-use Rattle.entries.specs.declared.Scan.TheVariants.{BrokenAt, Greatest}
+use Rattle.std.specs.Prelude.{Ok, Err}
 
 module _ (s : List ℕ) (total at : ℕ) where
   -- what holds of an entry with a glyph up to its rows, its columns, its size
@@ -82,13 +82,13 @@ module _ (s : List ℕ) (total start i at h w : ℕ) (here : at ≡ entry_at sta
       let f : entry_of s total (entry_at start i) ≡ Glyph r c = ap (entry_of s total) (sym here) ∙ e in
       rw (f, scan_of, z, add-one i)
 
-  pub at_broken : (k : ℕ) → 0 < k → entry_of s total at ≡ Broken → scan_of s total start k i h w ≡ BrokenAt i
+  pub at_broken : (k : ℕ) → 0 < k → entry_of s total at ≡ Broken → scan_of s total start k i h w ≡ Err i
   unfolding scan_of
   at_broken zero p e = absurd (omega arith)
   at_broken (suc k) p e =
       let f : entry_of s total (entry_at start i) ≡ Broken = ap (entry_of s total) (sym here) ∙ e in
       rw (f, scan_of)
 
-pub scanned : (s : List ℕ) (total start k i h w : ℕ) → k ≡ 0 → scan_of s total start k i h w ≡ Greatest h w
+pub scanned : (s : List ℕ) (total start k i h w : ℕ) → k ≡ 0 → scan_of s total start k i h w ≡ Ok (h , w)
 unfolding scan_of
 scanned s total start k i h w e = rw e

@@ -15,10 +15,9 @@ use Rattle.entries.specs.Reading.{entry_of, larger, scan_of}
 use Rattle.header.specs.Meaning.{glyph_bytes}
 use Rattle.entries.specs.declared.Entry.{Entry}
 use Rattle.entries.specs.declared.Entry.TheVariants.{Empty, Glyph, Broken}
-use Rattle.entries.specs.declared.Scan.{Scan}
-use Rattle.entries.specs.declared.Scan.TheVariants.{BrokenAt, Greatest}
 use Rattle.entries.proofs.Cases as cases
 use Rattle.entries.proofs.Inverse.{KeepsRules, keeps}
+use Rattle.std.specs.Prelude.{Result, Ok, Err}
 
 -- what each answer on an entry says
 abbrev pub EntrySays : List ℕ → ℕ → ℕ → Entry → Type 0
@@ -142,9 +141,9 @@ module _ (s : List ℕ) (total start : ℕ) where
   abbrev Fine : ℕ → ℕ → Type 0
   Fine i j = (x : ℕ) → i ≤ x → x < j → Breaks s total (entry_at start x) → ⊥
 
-  abbrev ScanSays : ℕ → ℕ → ℕ → ℕ → Scan → Type 0
-  ScanSays i k h w (BrokenAt x) = (i ≤ x) × (x < i + k) × Breaks s total (entry_at start x) × Fine i x
-  ScanSays i k h w (Greatest y z) = Fine i (i + k) × Grown s start (rows_at s) i k h y × Grown s start (cols_at s) i k w z
+  abbrev ScanSays : ℕ → ℕ → ℕ → ℕ → Result (ℕ × ℕ) ℕ → Type 0
+  ScanSays i k h w (Err x) = (i ≤ x) × (x < i + k) × Breaks s total (entry_at start x) × Fine i x
+  ScanSays i k h w (Ok (y , z)) = Fine i (i + k) × Grown s start (rows_at s) i k h y × Grown s start (cols_at s) i k w z
 
   -- one entry more that breaks no rule
   fine_more : (i j n : ℕ) → j ≡ n → (Breaks s total (entry_at start i) → ⊥) → Fine (suc i) j → Fine i n
@@ -158,9 +157,9 @@ module _ (s : List ℕ) (total start : ℕ) where
   past : (i k h w h' w' : ℕ) → (Breaks s total (entry_at start i) → ⊥) →
       ((z : ℕ) → Grown s start (rows_at s) (suc i) k h' z → Grown s start (rows_at s) i (suc k) h z) →
       ((z : ℕ) → Grown s start (cols_at s) (suc i) k w' z → Grown s start (cols_at s) i (suc k) w z) →
-      (x : Scan) → ScanSays (suc i) k h' w' x → ScanSays i (suc k) h w x
-  past i k h w h' w' fine f g (BrokenAt x) (a, l, b, c) = (omega arith, omega arith, b, fine_more i x x refl fine c)
-  past i k h w h' w' fine f g (Greatest y z) (c, a, b) = (fine_more i (suc i + k) (i + suc k) (omega arith) fine c, f y a, g z b)
+      (x : Result (ℕ × ℕ) ℕ) → ScanSays (suc i) k h' w' x → ScanSays i (suc k) h w x
+  past i k h w h' w' fine f g (Err x) (a, l, b, c) = (omega arith, omega arith, b, fine_more i x x refl fine c)
+  past i k h w h' w' fine f g (Ok (y , z)) (c, a, b) = (fine_more i (suc i + k) (i + suc k) (omega arith) fine c, f y a, g z b)
 
   scan_says : (k i h w : ℕ) → ScanSays i k h w (scan_of s total start k i h w)
   unfolding scan_of
@@ -168,7 +167,7 @@ module _ (s : List ℕ) (total start : ℕ) where
   scan_says (suc k) i h w = go (λ a b. scan_says k (suc i) a b) (entry_of s total (entry_at start i)) (entry_meaning s total (entry_at start i))
     where
       go : ((a b : ℕ) → ScanSays (suc i) k a b (scan_of s total start k (suc i) a b)) → (x : Entry) → EntrySays s total (entry_at start i) x →
-          ScanSays i (suc k) h w (elim x [ Empty ↦ scan_of s total start k (suc i) h w | Glyph r c ↦ scan_of s total start k (suc i) (larger h r) (larger w c) | Broken ↦ BrokenAt i ])
+          ScanSays i (suc k) h w (elim x [ Empty ↦ scan_of s total start k (suc i) h w | Glyph r c ↦ scan_of s total start k (suc i) (larger h r) (larger w c) | Broken ↦ Err i ])
       go ih Empty e =
           past i k h w h w (λ b. e b.0) (λ z. skip s start (rows_at s) i k h z e) (λ z. skip s start (cols_at s) i k w z e) (scan_of s total start k (suc i) h w) (ih h w)
       go ih (Glyph r c) e =
@@ -199,13 +198,13 @@ keeps_rules s total at b h = go (entry_of s total at) (entry_meaning s total at)
     go Broken e = absurd (b e)
 
 -- the scan stops at the first entry that breaks a rule
-pub scan_broken : (s : List ℕ) (total n start i : ℕ) → scan_of s total start n 0 0 0 ≡ BrokenAt i → FirstBroken s total n start i
+pub scan_broken : (s : List ℕ) (total n start i : ℕ) → scan_of s total start n 0 0 0 ≡ Err i → FirstBroken s total n start i
 scan_broken s total n start i e =
     let g = rw e at (scan_says s total start n 0 0 0) in
     record { within = omega (arith, g.1); breaks = g.2; first = λ j l p. g.3 j (omega arith) l p }
 
 -- or no entry does, and it gives the largest sums over the entries with a glyph
-pub scan_greatest : (s : List ℕ) (total n start h w : ℕ) → scan_of s total start n 0 0 0 ≡ Greatest h w →
+pub scan_greatest : (s : List ℕ) (total n start h w : ℕ) → scan_of s total start n 0 0 0 ≡ Ok (h , w) →
     ((i : ℕ) → i < n → Breaks s total (entry_at start i) → ⊥) × IsGreatest s n start (rows_at s) h × IsGreatest s n start (cols_at s) w
 scan_greatest s total n start h w e =
     let g = rw e at (scan_says s total start n 0 0 0) in

@@ -16,13 +16,6 @@ pub enum Entry {
     Broken,
 }
 
-// What all entries say: the number of the first that breaks a rule, or the greatest numbers of rows and columns.
-#[derive(Clone, Copy)]
-pub enum Scan {
-    BrokenAt(usize),
-    Greatest(usize, usize),
-}
-
 // A glyph's metrics: how far it reaches up, down, left and right of its origin, and its logical width.
 #[derive(Clone, Copy)]
 pub struct Metrics {
@@ -141,7 +134,7 @@ pub fn entry_at(file: &[u8], total: usize, at: usize) -> Entry
 }
 
 // What the n entries of the table that begins at `start` say. Asks that they stand in the file: the caller has tested the length.
-pub fn scan_entries(file: &[u8], total: usize, n: usize, start: usize) -> Scan
+pub fn scan_entries(file: &[u8], total: usize, n: usize, start: usize) -> Result<(usize, usize), usize>
     requires { entry_at start n ≤ length file.now }
     ensures { result ≡ scan_of file.now total start n 0 0 0 }
 {
@@ -160,8 +153,8 @@ pub fn scan_entries(file: &[u8], total: usize, n: usize, start: usize) -> Scan
                 height = larger_of(height, rows);
                 width = larger_of(width, cols);
             }
-            Entry::Broken => return Scan::BrokenAt(here),
+            Entry::Broken => return Err(here),
         }
     }
-    Scan::Greatest(height, width)
+    Ok((height, width))
 }

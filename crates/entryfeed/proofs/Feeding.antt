@@ -10,8 +10,6 @@ use lib.Seq.{drop_at, drop-drop, length-take-le}
 use borrow.Author.Tests.{eq-eqb, ne_eqb}
 use Rattle.base.specs.Meaning.{pick}
 use Rattle.base.proofs.Tests.{same}
-use Rattle.entries.specs.declared.Scan.{Scan}
-use Rattle.entries.specs.declared.Scan.TheVariants.{BrokenAt, Greatest}
 use Rattle.entries.specs.Meaning.{entry_at}
 use Rattle.entries.specs.Reading.{larger, scan_of}
 use Rattle.unfinished.specs.declared.Held.{Held}
@@ -21,6 +19,7 @@ use Rattle.entryfeed.specs.declared.Sums.{Sums}
 use Rattle.entryfeed.specs.declared.Fed.{Fed}
 use Rattle.entryfeed.specs.Reading.{after_scan, sums_of, whole_in, behind_whole, entries_read, entries_fed}
 use Rattle.entryfeed.proofs.Scanning.{scan_drop, scan_front, scan_split, scan_raised, raised, numbered, goes_on}
+use Rattle.std.specs.Prelude.{Result, Ok, Err}
 
 -- entries of s from a start on
 module _ (size at : ℕ) (x : Sums) (s : List ℕ) (start k : ℕ) where
@@ -33,12 +32,12 @@ module _ (size at : ℕ) (x : Sums) (s : List ℕ) (start k : ℕ) where
       let e : start + 0 ≡ start = omega arith in
       scan_raised (drop start s) size 0 k 0 x.height x.width ∙ ap (raised x.height x.width) (sym (rw e at (scan_drop s size start 0 k 0 0)))
 
-  pub found : x.broken ≡ 0 → (r : Scan) (i : ℕ) → r ≡ BrokenAt i → r ≡ scan_of s size start k 0 0 0 →
+  pub found : x.broken ≡ 0 → (r : Result (ℕ × ℕ) ℕ) (i : ℕ) → r ≡ Err i → r ≡ scan_of s size start k 0 0 0 →
       record { broken = at + start + i * 18; height = 0; width = 0 } ≡ sums_of size (at + start) x (drop start s) k
   unfolding sums_of
   found h r i e q = rw (eq-eqb x.broken 0 h, here, ← q, e)
 
-  pub taller : x.broken ≡ 0 → (r : Scan) (h w a b : ℕ) → r ≡ Greatest h w → r ≡ scan_of s size start k 0 0 0 → a ≡ larger x.height h → b ≡ larger x.width w →
+  pub taller : x.broken ≡ 0 → (r : Result (ℕ × ℕ) ℕ) (h w a b : ℕ) → r ≡ Ok (h , w) → r ≡ scan_of s size start k 0 0 0 → a ≡ larger x.height h → b ≡ larger x.width w →
       record { broken = 0; height = a; width = b } ≡ sums_of size (at + start) x (drop start s) k
   unfolding sums_of
   taller z r h w a b e q f g = rw (eq-eqb x.broken 0 z, here, ← q, e, f, g)
@@ -76,15 +75,15 @@ sums_front size at x p s k h = rw (scan_front p s size k x.height x.width h)
 
 -- in two goes: p is j entries
 module _ (size at : ℕ) (there : 1 ≤ at) where
-  told : (x : Sums) (p s : List ℕ) (j k : ℕ) → length p ≡ j * 18 → x.broken ≡ 0 → (r : Scan) → scan_of p size 0 j 0 x.height x.width ≡ r →
+  told : (x : Sums) (p s : List ℕ) (j k : ℕ) → length p ≡ j * 18 → x.broken ≡ 0 → (r : Result (ℕ × ℕ) ℕ) → scan_of p size 0 j 0 x.height x.width ≡ r →
       after_scan at (goes_on (λ a b. numbered j (scan_of s size 0 k 0 a b)) r) ≡ sums_of size (at + j * 18) (after_scan at r) s k
   unfolding sums_of
-  told x p s j k l z (BrokenAt i) e = let n : entry_at at i ≡ 0 → ⊥ = λ m. omega arith in rw (ne_eqb (entry_at at i) 0 n)
-  told x p s j k l z (Greatest a b) e = go (scan_of s size 0 k 0 a b)
+  told x p s j k l z (Err i) e = let n : entry_at at i ≡ 0 → ⊥ = λ m. omega arith in rw (ne_eqb (entry_at at i) 0 n)
+  told x p s j k l z (Ok (a , b)) e = go (scan_of s size 0 k 0 a b)
     where
-      go : (r : Scan) → after_scan at (numbered j r) ≡ after_scan (at + j * 18) r
-      go (BrokenAt i) = let m : entry_at at (j + i) ≡ entry_at (at + j * 18) i = omega arith in λ n. record { broken = m n; height = 0; width = 0 }
-      go (Greatest h w) = refl
+      go : (r : Result (ℕ × ℕ) ℕ) → after_scan at (numbered j r) ≡ after_scan (at + j * 18) r
+      go (Err i) = let m : entry_at at (j + i) ≡ entry_at (at + j * 18) i = omega arith in λ n. record { broken = m n; height = 0; width = 0 }
+      go (Ok (h , w)) = refl
 
   sums_split : (x : Sums) (p s : List ℕ) (j k : ℕ) → length p ≡ j * 18 → sums_of size at x (p ++ s) (j + k) ≡ sums_of size (at + j * 18) (sums_of size at x p j) s k
   sums_split x p s j k l = go (same x.broken 0)

@@ -10,10 +10,9 @@ use Rattle.base.proofs.Tests.{below}
 use Rattle.base.proofs.Numbers.{le16_drop, le32_drop, le16_before, le32_before}
 use Rattle.entries.specs.declared.Entry.{Entry}
 use Rattle.entries.specs.declared.Entry.TheVariants.{Empty, Glyph, Broken}
-use Rattle.entries.specs.declared.Scan.{Scan}
-use Rattle.entries.specs.declared.Scan.TheVariants.{BrokenAt, Greatest}
 use Rattle.entries.specs.Meaning.{entry_at, rows_at, cols_at}
 use Rattle.entries.specs.Reading.{entry_of, larger, scan_of}
+use Rattle.std.specs.Prelude.{Result, Ok, Err}
 
 -- an entry in a list and in what is left of it
 pub entry_drop : (s : List ℕ) (total d at : ℕ) → entry_of s total (d + at) ≡ entry_of (drop d s) total at
@@ -29,10 +28,10 @@ entry_front p s total at h =
     rw (le32_before p s (at + 4) (omega arith), le32_before p s at (omega arith), le16_before p s (at + 8) (omega arith), le16_before p s (at + 10) (omega arith), le16_before p s (at + 12) (omega arith), le16_before p s (at + 14) (omega arith))
 
 -- what an entry does to the scan of those behind it
-abbrev on_entry : ℕ → ℕ → ℕ → (ℕ → ℕ → Scan) → Entry → Scan
+abbrev on_entry : ℕ → ℕ → ℕ → (ℕ → ℕ → Result (ℕ × ℕ) ℕ) → Entry → Result (ℕ × ℕ) ℕ
 on_entry i h w f Empty = f h w
 on_entry i h w f (Glyph r c) = f (larger h r) (larger w c)
-on_entry i h w f Broken = BrokenAt i
+on_entry i h w f Broken = Err i
 
 first : (s : List ℕ) (total start k i h w : ℕ) (e : Entry) → entry_of s total (entry_at start i) ≡ e →
     scan_of s total start (suc k) i h w ≡ on_entry i h w (λ a b. scan_of s total start k (suc i) a b) e
@@ -42,9 +41,9 @@ first s total start k i h w (Glyph r c) e = rw (e, scan_of)
 first s total start k i h w Broken e = rw (e, scan_of)
 
 -- entries that read alike scan alike; j is added to the number of one that breaks a rule
-abbrev pub numbered : ℕ → Scan → Scan
-numbered j (BrokenAt i) = BrokenAt (j + i)
-numbered j (Greatest h w) = Greatest h w
+abbrev pub numbered : ℕ → Result (ℕ × ℕ) ℕ → Result (ℕ × ℕ) ℕ
+numbered j (Err i) = Err (j + i)
+numbered j (Ok (h , w)) = Ok (h , w)
 
 alike : (s t : List ℕ) (total a b j k i : ℕ) → ((n : ℕ) → n < k → entry_of s total (entry_at a (j + (i + n))) ≡ entry_of t total (entry_at b (i + n))) →
     (h w : ℕ) → scan_of s total a k (j + i) h w ≡ numbered j (scan_of t total b k i h w)
@@ -68,9 +67,9 @@ alike s t total a b j (suc k) i f h w =
         first s total a k (j + i) h w (Glyph r c) (f0 ∙ e) ∙ rw y at (ih (larger h r) (larger w c)) ∙ ap (numbered j) (sym (first t total b k i h w (Glyph r c) e))
     go Broken e f0 ih = first s total a k (j + i) h w Broken (f0 ∙ e) ∙ ap (numbered j) (sym (first t total b k i h w Broken e))
 
-unnumbered : (x : Scan) → numbered 0 x ≡ x
-unnumbered (BrokenAt i) = let e : 0 + i ≡ i = omega arith in ap BrokenAt e
-unnumbered (Greatest h w) = refl
+unnumbered : (x : Result (ℕ × ℕ) ℕ) → numbered 0 x ≡ x
+unnumbered (Err i) = let e : 0 + i ≡ i = omega arith in ap Err e
+unnumbered (Ok (h , w)) = refl
 
 -- a table that begins behind d bytes of a list
 pub scan_drop : (s : List ℕ) (total d start k h w : ℕ) → scan_of s total (d + start) k 0 h w ≡ scan_of (drop d s) total start k 0 h w
@@ -89,9 +88,9 @@ scan_front p s total k h w l =
     ∙ unnumbered _
 
 -- in two goes
-abbrev pub goes_on : (ℕ → ℕ → Scan) → Scan → Scan
-goes_on f (BrokenAt i) = BrokenAt i
-goes_on f (Greatest h w) = f h w
+abbrev pub goes_on : (ℕ → ℕ → Result (ℕ × ℕ) ℕ) → Result (ℕ × ℕ) ℕ → Result (ℕ × ℕ) ℕ
+goes_on f (Err i) = Err i
+goes_on f (Ok (h , w)) = f h w
 
 two_goes : (s : List ℕ) (total start j k i h w : ℕ) →
     scan_of s total start (j + k) i h w ≡ goes_on (λ a b. scan_of s total start k (j + i) a b) (scan_of s total start j i h w)
@@ -124,9 +123,9 @@ scan_split s total j k h w =
         (λ n g. let e : entry_at 0 (j + (0 + n)) ≡ j * 18 + entry_at 0 (0 + n) = omega arith in rw e (entry_drop s total (j * 18) (entry_at 0 (0 + n))))
         a b
 
-    go : (x : Scan) → goes_on (λ a b. scan_of s total 0 k (j + 0) a b) x ≡ goes_on (λ a b. numbered j (scan_of (drop (j * 18) s) total 0 k 0 a b)) x
-    go (BrokenAt i) = refl
-    go (Greatest a b) = next a b
+    go : (x : Result (ℕ × ℕ) ℕ) → goes_on (λ a b. scan_of s total 0 k (j + 0) a b) x ≡ goes_on (λ a b. numbered j (scan_of (drop (j * 18) s) total 0 k 0 a b)) x
+    go (Err i) = refl
+    go (Ok (a , b)) = next a b
 
 -- the sums brought along
 larger_larger : (a b c : ℕ) → larger (larger a b) c ≡ larger a (larger b c)
@@ -141,9 +140,9 @@ larger_larger a b c = go (below a b) (below b c)
 larger_none : (a : ℕ) → larger a 0 ≡ a
 larger_none a = let k : 0 ≤ a = omega arith in rw (le-ltb a 0 k)
 
-abbrev pub raised : ℕ → ℕ → Scan → Scan
-raised a b (BrokenAt i) = BrokenAt i
-raised a b (Greatest h w) = Greatest (larger a h) (larger b w)
+abbrev pub raised : ℕ → ℕ → Result (ℕ × ℕ) ℕ → Result (ℕ × ℕ) ℕ
+raised a b (Err i) = Err i
+raised a b (Ok (h , w)) = Ok ((larger a h) , (larger b w))
 
 scan_along : (s : List ℕ) (total start k i a b h w : ℕ) → scan_of s total start k i (larger a h) (larger b w) ≡ raised a b (scan_of s total start k i h w)
 unfolding scan_of

@@ -1,8 +1,6 @@
 -- The entries of a vfont2 file, fed part by part: what whole entries say, and the bytes of the one that is left unfinished.
-use Rattle.std.specs.Prelude.{ℕ, ◌-◌, ◌*◌, ◌/◌, List, ◌++◌, eqb, length, drop}
+use Rattle.std.specs.Prelude.{ℕ, ◌-◌, ◌*◌, ◌/◌, List, ◌++◌, eqb, length, drop, Result, Ok, Err}
 use Rattle.base.specs.Meaning.{pick}
-use Rattle.entries.specs.declared.Scan.{Scan}
-use Rattle.entries.specs.declared.Scan.TheVariants.{BrokenAt, Greatest}
 use Rattle.entries.specs.Meaning.{entry_at}
 use Rattle.entries.specs.Reading.{scan_of}
 use Rattle.unfinished.specs.declared.Held.{Held}
@@ -11,9 +9,9 @@ use Rattle.entryfeed.specs.declared.Sums.{Sums}
 use Rattle.entryfeed.specs.declared.Fed.{Fed}
 
 -- what entries say that begin at a place of the file
-abbrev pub after_scan : ℕ → Scan → Sums
-after_scan at (BrokenAt i) = record { broken = entry_at at i; height = 0; width = 0 }
-after_scan at (Greatest h w) = record { broken = 0; height = h; width = w }
+abbrev pub after_scan : ℕ → Result (ℕ × ℕ) ℕ → Sums
+after_scan at (Err i) = record { broken = entry_at at i; height = 0; width = 0 }
+after_scan at (Ok (h , w)) = record { broken = 0; height = h; width = w }
 
 -- the sums with k entries more, at the front of q, which begins at a place of the file; the first broken entry stays the first
 unfoldable pub sums_of : ℕ → ℕ → Sums → List ℕ → ℕ → Sums

@@ -5,7 +5,6 @@
 ghost use Rattle.std.specs.Prelude.{◌≡◌, ◌+◌, ◌*◌, ◌≤◌, ◌<◌, length, drop};
 ghost use Rattle.entryfeed.specs.Reading.{sums_of, entries_read, entries_fed};
 
-use entries::Scan;
 use unfinished::Held;
 use vfont2::Vfont2;
 
@@ -49,12 +48,12 @@ fn more_sums(size: usize, at: usize, x: Sums, s: &[u8], start: usize, k: usize) 
     }
     let r = entries::scan_entries(s, size, k, start);
     match r {
-        Scan::BrokenAt(i) => Sums {
+        Err(i) => Sums {
             broken: at + start + i * Vfont2::ENTRY_LEN,
             height: 0,
             width: 0,
         },
-        Scan::Greatest(h, w) => Sums {
+        Ok((h, w)) => Sums {
             broken: 0,
             height: entries::larger_of(x.height, h),
             width: entries::larger_of(x.width, w),

@@ -12,8 +12,8 @@ use std::io::{self, Read};
 fn show(rt: &impl Print, file: &[u8], out: &mut [u8]) -> io::Result<()> {
     let a = listing::list(file, out);
     match a {
-        Listed::Wrote(n) => rt.write_all(&out[..n]),
-        Listed::Refused(_) => Ok(()),
+        Ok(n) => rt.write_all(&out[..n]),
+        Err(_) => Ok(()),
     }
 }
 

@@ -11,8 +11,9 @@ use Rattle.base.specs.Reading.{when}
 use Rattle.refusal.specs.declared.Reason.TheVariants.{Line}
 use Rattle.refusal.specs.Meaning.{refusal}
 use Rattle.frames.specs.declared.Frames.{Frames}
-use Rattle.frames.specs.declared.Outcome.TheVariants.{Refused, TooBig}
 use Rattle.frames.specs.Reading.{counted_of, ended_of, with_of, took_of, byte_of, fed_of, last_of, closed_of}
+use Rattle.std.specs.Prelude.{Err}
+use Rattle.frames.specs.declared.Failure.TheVariants.{Refused, TooBig}
 
 pub next : (f : Frames) (s : List ℕ) (i : ℕ) → i < length s → fed_of f (drop i s) ≡ fed_of (byte_of f (get_or s i 0)) (drop (i + 1) s)
 unfolding fed_of
@@ -56,7 +57,7 @@ module _ (f : Frames) (b : ℕ) where
 
 -- the answer
 module _ (f : Frames) where
-  pub last_bad : 0 < f.bad → last_of f ≡ Refused (refusal Line f.bad)
+  pub last_bad : 0 < f.bad → last_of f ≡ Err (Refused (refusal Line f.bad))
   unfolding last_of when
   last_bad h = rw (lt-ltb 0 f.bad h)
 
@@ -64,7 +65,7 @@ module _ (f : Frames) where
   unfolding closed_of when
   closed_bad h = rw (lt-ltb 0 f.bad h)
 
-  pub closed_full : f.bad ≤ 0 → 4194304 < f.taken → closed_of f ≡ TooBig
+  pub closed_full : f.bad ≤ 0 → 4194304 < f.taken → closed_of f ≡ Err TooBig
   unfolding closed_of when
   closed_full h l = rw (le-ltb 0 f.bad h, lt-ltb 4194304 f.taken l)
 
@@ -78,11 +79,11 @@ unfolding fed_of
 bad_stays [] f h = refl
 bad_stays (b ∷ s) f h = ap (λ (g : Frames). fed_of g s) (byte_bad f b h) ∙ bad_stays s f h
 
-pub bad_answered : (s : List ℕ) (f : Frames) → 0 < f.bad → closed_of (fed_of f s) ≡ Refused (refusal Line f.bad)
+pub bad_answered : (s : List ℕ) (f : Frames) → 0 < f.bad → closed_of (fed_of f s) ≡ Err (Refused (refusal Line f.bad))
 bad_answered s f h = ap closed_of (bad_stays s f h) ∙ closed_bad f h ∙ last_bad f h
 
 -- behind the limit bytes are only counted
-pub full_answered : (s : List ℕ) (f : Frames) → f.bad ≤ 0 → 4194304 < f.taken → closed_of (fed_of f s) ≡ TooBig
+pub full_answered : (s : List ℕ) (f : Frames) → f.bad ≤ 0 → 4194304 < f.taken → closed_of (fed_of f s) ≡ Err TooBig
 unfolding fed_of
 full_answered [] f h l = closed_full f h l
 full_answered (b ∷ s) f h l =

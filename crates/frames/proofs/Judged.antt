@@ -19,8 +19,6 @@ use Rattle.hexline.proofs.Meaning.{Read, decided, frame_read, bad_read, front}
 use Rattle.loader.specs.declared.Loader.{Loader}
 use Rattle.loader.specs.Reading.{fed_of as pieceFed, close_answer}
 use Rattle.frames.specs.declared.Frames.{Frames}
-use Rattle.frames.specs.declared.Outcome.{Outcome}
-use Rattle.frames.specs.declared.Outcome.TheVariants.{Refused, TooBig}
 use Rattle.loader.specs.Meaning.{fed_all}
 use Rattle.frames.specs.Meaning.{limit, AreFrames}
 use Rattle.frames.specs.Reading.{counted_of, fresh_of, ended_of, with_of, took_of, byte_of, fed_of, answered_of, last_of, closed_of}
@@ -28,22 +26,25 @@ use Rattle.frames.proofs.Feeding.{counted_more, byte_full, byte_newline, byte_ch
 use Rattle.frames.proofs.Held.{Holds, nothing_held, held_read, Longer, longer}
 use Rattle.frames.proofs.Ended.{fed_line, bad_line, good_ended, bad_ended}
 use Rattle.frames.proofs.Lines.{lines_in, more_than, newline, char}
+use Rattle.std.specs.Prelude.{Result, Err}
+use Rattle.frames.specs.declared.Failure.{Failure}
+use Rattle.frames.specs.declared.Failure.TheVariants.{Refused, TooBig}
 
 -- what is answered on lines, behind n lines that were fed to l
-abbrev pub judge : ℕ → Loader → Bool → List (List ℕ) → Outcome
-judge n l big [] = pick big TooBig (answered_of (close_answer l))
+abbrev pub judge : ℕ → Loader → Bool → List (List ℕ) → Result (Unit {0}) Failure
+judge n l big [] = pick big (Err TooBig) (answered_of (close_answer l))
 judge n l big (x ∷ xs) =
-    pick (frame_of x).good (judge (n + 1) (pieceFed l (take (frame_of x).len (frame_of x).bytes)) big xs) (Refused (refusal Line (n + 1)))
+    pick (frame_of x).good (judge (n + 1) (pieceFed l (take (frame_of x).len (frame_of x).bytes)) big xs) (Err (Refused (refusal Line (n + 1))))
 
 module _ (n : ℕ) (l : Loader) (big : Bool) (x : List ℕ) (xs : List (List ℕ)) where
   pub judge_good : (bs : List ℕ) → frame_of x ≡ good_frame bs → judge n l big (x ∷ xs) ≡ judge (n + 1) (pieceFed l bs) big xs
   judge_good bs e =
-      ap (λ (g : Frame). pick g.good (judge (n + 1) (pieceFed l (take g.len g.bytes)) big xs) (Refused (refusal Line (n + 1)))) e
+      ap (λ (g : Frame). pick g.good (judge (n + 1) (pieceFed l (take g.len g.bytes)) big xs) (Err (Refused (refusal Line (n + 1))))) e
       ∙ ap (λ (z : List ℕ). judge (n + 1) (pieceFed l z) big xs) (front bs)
 
-  pub judge_bad : frame_of x ≡ bad_frame → judge n l big (x ∷ xs) ≡ Refused (refusal Line (n + 1))
+  pub judge_bad : frame_of x ≡ bad_frame → judge n l big (x ∷ xs) ≡ Err (Refused (refusal Line (n + 1)))
   judge_bad e =
-      ap (λ (g : Frame). pick g.good (judge (n + 1) (pieceFed l (take g.len g.bytes)) big xs) (Refused (refusal Line (n + 1)))) e
+      ap (λ (g : Frame). pick g.good (judge (n + 1) (pieceFed l (take g.len g.bytes)) big xs) (Err (Refused (refusal Line (n + 1))))) e
 
 -- a state before a line is bad: p is held, and k bytes are left to the limit
 pub record Fine (f : Frames) (p : List ℕ) (k : ℕ) : Type 0 where
@@ -137,7 +138,7 @@ module _ (b : ℕ) (s : List ℕ) (k : ℕ) (ih : Loads s k) (f : Frames) (p : L
   at_byte (inr e) = at_char e
 
 -- the limit is reached
-at_limit : (b : ℕ) (s : List ℕ) (f : Frames) (p : List ℕ) → Fine f p 0 → closed_of (fed_of (byte_of f b) s) ≡ TooBig
+at_limit : (b : ℕ) (s : List ℕ) (f : Frames) (p : List ℕ) → Fine f p 0 → closed_of (fed_of (byte_of f b) s) ≡ Err TooBig
 at_limit b s f p i =
     ap (λ (g : Frames). closed_of (fed_of g s)) (byte_full f b i.none_bad (omega (arith, i.room)))
     ∙ full_answered s (took_of f) i.none_bad (omega (arith, i.room, counted_more f.taken (omega (arith, i.room))))
@@ -149,24 +150,24 @@ loads (b ∷ s) zero f p i = at_limit b s f p i
 loads (b ∷ s) (suc k) f p i = at_byte b s k (loads s k) f p i (same b 10)
 
 -- lines that are all frames
-pub judge_frames : (ls ps : List (List ℕ)) (n : ℕ) (l : Loader) (big : Bool) → AreFrames ls ps → judge n l big ls ≡ pick big TooBig (answered_of (close_answer (fed_all l ps)))
+pub judge_frames : (ls ps : List (List ℕ)) (n : ℕ) (l : Loader) (big : Bool) → AreFrames ls ps → judge n l big ls ≡ pick big (Err TooBig) (answered_of (close_answer (fed_all l ps)))
 judge_frames [] [] n l big a = refl
 judge_frames [] (p ∷ ps) n l big a = absurd a
 judge_frames (x ∷ ls) [] n l big a = absurd a
 judge_frames (x ∷ ls) (p ∷ ps) n l big a = judge_good n l big x ls p (frame_read x p a.0) ∙ judge_frames ls ps (n + 1) (pieceFed l p) big a.1
 
 -- a first one that is none
-pub judge_first : (before ps : List (List ℕ)) (line : List ℕ) (after : List (List ℕ)) (n : ℕ) (l : Loader) (big : Bool) → AreFrames before ps → NoFrame line → judge n l big (before ++ (line ∷ after)) ≡ Refused (refusal Line (n + length before + 1))
+pub judge_first : (before ps : List (List ℕ)) (line : List ℕ) (after : List (List ℕ)) (n : ℕ) (l : Loader) (big : Bool) → AreFrames before ps → NoFrame line → judge n l big (before ++ (line ∷ after)) ≡ Err (Refused (refusal Line (n + length before + 1)))
 judge_first [] [] line after n l big a none =
     let e : n + 1 ≡ n + 0 + 1 = omega arith in
-    judge_bad n l big line after (bad_read line none) ∙ ap (λ (m : ℕ). Refused (refusal Line m)) e
+    judge_bad n l big line after (bad_read line none) ∙ ap (λ (m : ℕ). Err (Refused (refusal Line m))) e
 judge_first [] (p ∷ ps) line after n l big a none = absurd a
 judge_first (x ∷ before) [] line after n l big a none = absurd a
 judge_first (x ∷ before) (p ∷ ps) line after n l big a none =
     let e : n + 1 + length before + 1 ≡ n + length (x ∷ before) + 1 = omega arith in
     judge_good n l big x (before ++ (line ∷ after)) p (frame_read x p a.0)
     ∙ judge_first before ps line after (n + 1) (pieceFed l p) big a.1 none
-    ∙ ap (λ (m : ℕ). Refused (refusal Line m)) e
+    ∙ ap (λ (m : ℕ). Err (Refused (refusal Line m))) e
 
 -- lines are all frames, or there is a first one that is none
 pub record Pieces (ls : List (List ℕ)) : Type 0 where

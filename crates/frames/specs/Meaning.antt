@@ -1,7 +1,7 @@
 -- The program `fontload` (document 02, W2): "A program reads lines of hexadecimal, one frame a line: 0 to 128 upper-case digits, an even
 -- number, each line one piece; the last needs no newline. Of more than 4,194,304 bytes of input only the lines ended within them are read,
 -- and `too big` is written if none is bad. It writes `sound` or the refusal line." Frames: crates/hexline.
-use Rattle.std.specs.Prelude.{ℕ, ◌+◌, ◌≤◌, ◌<◌, ◌≡◌, List, [], ◌∷◌, ◌++◌, length, replicate, take}
+use Rattle.std.specs.Prelude.{ℕ, ◌+◌, ◌≤◌, ◌<◌, ◌≡◌, List, [], ◌∷◌, ◌++◌, length, replicate, take, Result, Ok, Err}
 use Rattle.base.specs.Reading.{over}
 use Rattle.refusal.specs.declared.Reason.TheVariants.{Line}
 use Rattle.refusal.specs.Meaning.{refusal}
@@ -11,9 +11,9 @@ use Rattle.loader.specs.Meaning.{fed_all}
 use Rattle.loader.specs.Reading.{fresh_of, close_answer}
 use Rattle.frames.specs.declared.Frames.{Frames}
 use Rattle.frames.specs.declared.Output.{Output}
-use Rattle.frames.specs.declared.Outcome.{Outcome}
-use Rattle.frames.specs.declared.Outcome.TheVariants.{Sound, Refused, TooBig}
 use Rattle.frames.specs.Reading.{answered_of, fed_of as chunkFed}
+use Rattle.frames.specs.declared.Failure.{Failure}
+use Rattle.frames.specs.declared.Failure.TheVariants.{Refused, TooBig}
 
 abbrev pub limit : ℕ
 limit = 4194304
@@ -54,13 +54,13 @@ pub data BadLine (s : List ℕ) (i : ℕ) : Type 0 where
 
 -- what the program answers on an input: "LINE (23, place the line's number from 1) for a bad line, where the program stops"; `too big` if
 -- none is bad; and else what is said of the pieces
-pub data Answers (said : List (List ℕ) → Outcome) (s : List ℕ) (o : Outcome) : Type 0 where
-  bad_line : (i : ℕ) → BadLine s i → o ≡ Refused (refusal Line i) → Answers said s o
-  too_big : (ls ps : List (List ℕ)) → Reads s ls → AreFrames ls ps → limit < length s → o ≡ TooBig → Answers said s o
+pub data Answers (said : List (List ℕ) → Result (Unit {0}) Failure) (s : List ℕ) (o : Result (Unit {0}) Failure) : Type 0 where
+  bad_line : (i : ℕ) → BadLine s i → o ≡ Err (Refused (refusal Line i)) → Answers said s o
+  too_big : (ls ps : List (List ℕ)) → Reads s ls → AreFrames ls ps → limit < length s → o ≡ Err TooBig → Answers said s o
   closed : (ls ps : List (List ℕ)) → Reads s ls → AreFrames ls ps → length s ≤ limit → o ≡ said ps → Answers said s o
 
 -- what the loader's close says of pieces
-abbrev pub loader_says : List (List ℕ) → Outcome
+abbrev pub loader_says : List (List ℕ) → Result (Unit {0}) Failure
 loader_says ps = answered_of (close_answer (fed_all fresh_of ps))
 
 -- a state fed by chunks, in order
@@ -73,10 +73,10 @@ abbrev pub sound_text : List ℕ
 sound_text = 115 ∷ 111 ∷ 117 ∷ 110 ∷ 100 ∷ 10 ∷ []
 
 -- an answer as text
-abbrev pub outcome_text : Outcome → List ℕ
-outcome_text Sound = sound_text
-outcome_text (Refused r) = refused_text r
-outcome_text TooBig = big_text
+abbrev pub outcome_text : Result (Unit {0}) Failure → List ℕ
+outcome_text (Ok tt) = sound_text
+outcome_text (Err (Refused r)) = refused_text r
+outcome_text (Err TooBig) = big_text
 
 -- a text as a line of output
 abbrev pub output_of : List ℕ → Output

@@ -1,18 +1,18 @@
 -- The state of the input, byte by byte, and what is answered where it ends.
-use Rattle.std.specs.Prelude.{ℕ, ◌+◌, List, [], ◌∷◌, ltb, eqb, replicate, set, take}
+use Rattle.std.specs.Prelude.{ℕ, ◌+◌, List, [], ◌∷◌, ltb, eqb, replicate, set, take, Result, Ok, Err}
 use Rattle.base.specs.Meaning.{pick}
 use Rattle.base.specs.Reading.{when}
 use Rattle.refusal.specs.declared.Reason.TheVariants.{Line}
 use Rattle.refusal.specs.Meaning.{refusal}
-use Rattle.header.specs.declared.Checked.{Checked}
-use Rattle.header.specs.declared.Checked.TheVariants.{Sound as Accepted, Refused as NotAccepted}
 use Rattle.hexline.specs.declared.Frame.{Frame}
 use Rattle.hexline.specs.Meaning.{bad_frame}
 use Rattle.hexline.specs.Reading.{frame_of}
 use Rattle.loader.specs.Reading.{fresh_of as no_piece, fed_of as pieceFed, close_answer}
 use Rattle.frames.specs.declared.Frames.{Frames}
-use Rattle.frames.specs.declared.Outcome.{Outcome}
-use Rattle.frames.specs.declared.Outcome.TheVariants.{Sound, Refused, TooBig}
+use Rattle.frames.specs.declared.Failure.{Failure}
+use Rattle.header.specs.declared.Font.{Font}
+use Rattle.refusal.specs.declared.Refusal.{Refusal}
+use Rattle.frames.specs.declared.Failure.TheVariants.{Refused, TooBig}
 
 -- one more, up to one more than the limit
 unfoldable pub counted_of : ℕ → ℕ
@@ -60,14 +60,14 @@ fed_of f [] = f
 fed_of f (b ∷ s) = fed_of (byte_of f b) s
 
 -- what the loader answers
-abbrev pub answered_of : Checked → Outcome
-answered_of (Accepted f) = Sound
-answered_of (NotAccepted r) = Refused r
+abbrev pub answered_of : Result Font Refusal → Result (Unit {0}) Failure
+answered_of (Ok f) = Ok tt
+answered_of (Err r) = Err (Refused r)
 
 -- the answer where all lines are ended
-unfoldable pub last_of : Frames → Outcome
-last_of f = when (ltb 0 f.bad) (Refused (refusal Line f.bad)) (answered_of (close_answer f.loader))
+unfoldable pub last_of : Frames → Result (Unit {0}) Failure
+last_of f = when (ltb 0 f.bad) (Err (Refused (refusal Line f.bad))) (answered_of (close_answer f.loader))
 
 -- the answer where the input ends: what is left is the last line, unless there was more than the limit
-unfoldable pub closed_of : Frames → Outcome
-closed_of f = when (ltb 0 f.bad) (last_of f) (when (ltb 4194304 f.taken) TooBig (last_of (ended_of f)))
+unfoldable pub closed_of : Frames → Result (Unit {0}) Failure
+closed_of f = when (ltb 0 f.bad) (last_of f) (when (ltb 4194304 f.taken) (Err TooBig) (last_of (ended_of f)))

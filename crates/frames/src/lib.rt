@@ -7,7 +7,7 @@ ghost use Rattle.words.specs.Meaning.{refused_text};
 ghost use Rattle.frames.specs.Meaning.{outcome_text, output_of};
 ghost use Rattle.frames.specs.Reading.{counted_of, held_frame, fresh_of, ended_of, with_of, byte_of, fed_of, answered_of, last_of, closed_of};
 
-use header::Checked;
+use header::Font;
 use hexline::Frame;
 use loader::Loader;
 use refusal::{Reason, Refusal};
@@ -31,10 +31,9 @@ pub struct Frames {
     pub taken: usize,
 }
 
-// What the program answers.
+// Why the program does not answer `sound`.
 #[derive(Clone, Copy)]
-pub enum Outcome {
-    Sound,
+pub enum Failure {
     Refused(Refusal),
     TooBig,
 }
@@ -186,35 +185,35 @@ pub fn fed(f: Frames, chunk: &[u8]) -> Frames
 }
 
 // What the loader answers.
-fn answered(a: Checked) -> Outcome
+fn answered(a: Result<Font, Refusal>) -> Result<(), Failure>
     ensures { result ≡ answered_of a }
 {
     match a {
-        Checked::Sound(_) => Outcome::Sound,
-        Checked::Refused(r) => Outcome::Refused(r),
+        Ok(_) => Ok(()),
+        Err(r) => Err(Failure::Refused(r)),
     }
 }
 
 // The answer where all lines are ended.
-fn last(f: Frames) -> Outcome
+fn last(f: Frames) -> Result<(), Failure>
     ensures { result ≡ last_of f }
 {
     if 0 < f.bad {
-        return Outcome::Refused(refusal::refuse(Reason::Line, f.bad));
+        return Err(Failure::Refused(refusal::refuse(Reason::Line, f.bad)));
     }
     answered(loader::closed_answer(f.loader))
 }
 
 // The answer where the input ends. Refusals: LINE, place the first bad line's number, and those of the loader.
 #[tactic(auto, using(crate::proofs::Feeding::closed_full))]
-pub fn close(f: Frames) -> Outcome
+pub fn close(f: Frames) -> Result<(), Failure>
     ensures { result ≡ closed_of f }
 {
     if 0 < f.bad {
         return last(f);
     }
     if LIMIT < f.taken {
-        return Outcome::TooBig;
+        return Err(Failure::TooBig);
     }
     last(end_line(f))
 }
@@ -247,13 +246,13 @@ fn refused_output(r: Refusal) -> Output
 }
 
 // An answer as the program's line.
-pub fn written(o: Outcome) -> Output
+pub fn written(o: Result<(), Failure>) -> Output
     ensures equal { result ≡ output_of (outcome_text o) }
     ensures bounded { (result.len ≤ 96) × (length result.bytes ≡ 96) }
 {
     match o {
-        Outcome::Sound => output_of(b"sound\n"),
-        Outcome::Refused(r) => refused_output(r),
-        Outcome::TooBig => output_of(b"too big\n"),
+        Ok(()) => output_of(b"sound\n"),
+        Err(Failure::Refused(r)) => refused_output(r),
+        Err(Failure::TooBig) => output_of(b"too big\n"),
     }
 }

@@ -11,14 +11,14 @@ use Rattle.header.specs.declared.Font.{Font}
 use Rattle.header.specs.Meaning.{glyph_bytes}
 use Rattle.header.specs.Bounds.{Placed}
 use Rattle.bitmap.specs.declared.Bitmap.{Bitmap}
-use Rattle.bitmap.specs.declared.Located.{Located}
-use Rattle.bitmap.specs.declared.Located.TheVariants.{Found}
 use Rattle.bitmap.specs.Reading.{bitmap_of}
 use Rattle.bitmap.specs.Bounds.{Inside}
 use Rattle.pixels.specs.Reading.{same_pixels}
 use Rattle.glyphs.specs.declared.Words.{Words}
 use Rattle.glyphs.specs.Reading.{words_of, same_words, bytes_of, pixel_kind, located_kind, glyph_kind}
 use Rattle.glyphs.proofs.Metrics.{rows_of, cols_of, same_words_lem, located_sizes}
+use Rattle.std.specs.Prelude.{Result, Ok}
+use Rattle.refusal.specs.declared.Refusal.{Refusal}
 
 -- a bitmap's bytes as the part from its start to its end
 abbrev part_for : List ℕ → Bitmap → List ℕ
@@ -50,16 +50,16 @@ module _ (s : List ℕ) (f : Font) (o : List ℕ) (h : Font) (g : ℕ) (p q : Bi
   known_words : same_words v w ≡ same_words (words_of s f g f.kind) (words_of o h g h.kind)
   known_words = λ i. same_words (ev i) (ew i)
 
-  pub other_metrics : same_words v w ≡ false → 3 ≡ located_kind s f o h g (Found p) (Found q)
+  pub other_metrics : same_words v w ≡ false → 3 ≡ located_kind s f o h g (Ok p) (Ok q)
   unfolding when
   other_metrics e = let z = sym known_words ∙ e in rw z
 
-  pub same_metrics : (k : ℕ) → same_words v w ≡ true → k ≡ pixel_kind s p o q → k ≡ located_kind s f o h g (Found p) (Found q)
+  pub same_metrics : (k : ℕ) → same_words v w ≡ true → k ≡ pixel_kind s p o q → k ≡ located_kind s f o h g (Ok p) (Ok q)
   unfolding when
   same_metrics k e r = let z = sym known_words ∙ e in rw z r
 
   -- with the same metrics it has the same rows and columns
-  pub same_sizes : Placed s f → Placed o h → g < f.count → g < h.count → bitmap_of s f g ≡ Found p → bitmap_of o h g ≡ Found q → same_words v w ≡ true →
+  pub same_sizes : Placed s f → Placed o h → g < f.count → g < h.count → bitmap_of s f g ≡ Ok p → bitmap_of o h g ≡ Ok q → same_words v w ≡ true →
       (p.height ≡ q.height) × (p.width ≡ q.width)
   same_sizes ls lo bs bo ep eq e =
       let m = located_sizes s f g ls bs p ep in
@@ -68,6 +68,6 @@ module _ (s : List ℕ) (f : Font) (o : List ℕ) (h : Font) (g : ℕ) (p q : Bi
       (m.0 ∙ ap rows_of z ∙ sym n.0, m.1 ∙ ap cols_of z ∙ sym n.1)
 
 -- what was located
-pub glyph_kind_lem : (s : List ℕ) (f : Font) (o : List ℕ) (h : Font) (g k : ℕ) (x y : Located) → bitmap_of s f g ≡ x → bitmap_of o h g ≡ y → k ≡ located_kind s f o h g x y → k ≡ glyph_kind s f o h g
+pub glyph_kind_lem : (s : List ℕ) (f : Font) (o : List ℕ) (h : Font) (g k : ℕ) (x y : Result Bitmap Refusal) → bitmap_of s f g ≡ x → bitmap_of o h g ≡ y → k ≡ located_kind s f o h g x y → k ≡ glyph_kind s f o h g
 unfolding glyph_kind
 glyph_kind_lem s f o h g k x y p q e = e ∙ λ i. located_kind s f o h g (sym p i) (sym q i)

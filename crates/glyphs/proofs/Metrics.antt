@@ -19,11 +19,12 @@ use Rattle.entries.specs.Reading.{entry_of}
 use Rattle.entries.proofs.Inverse.{keeps}
 use Rattle.entries.proofs.Sums.{low}
 use Rattle.bitmap.specs.declared.Bitmap.{Bitmap}
-use Rattle.bitmap.specs.declared.Located.TheVariants.{Found}
 use Rattle.bitmap.specs.Reading.{entry_located, kind_bitmap, bitmap_of}
 use Rattle.bitmap.proofs.Places.{known}
 use Rattle.glyphs.specs.declared.Words.{Words}
 use Rattle.glyphs.specs.Reading.{even_words, words_of, same_words}
+use Rattle.refusal.specs.declared.Refusal.{Refusal}
+use Rattle.std.specs.Prelude.{Result, Ok}
 
 -- the test, one metric after the other
 module _ (a b : Words) where
@@ -93,7 +94,7 @@ module _ (s : List ℕ) (f : Font) (g : ℕ) (l : Placed s f) (b : g < f.count) 
   abbrev Sizes : Kind → Bitmap → Type 0
   Sizes k p = (p.height ≡ rows_of (words_of s f g k)) × (p.width ≡ cols_of (words_of s f g k))
 
-  by_entry : (p : Bitmap) (x : Entry) → entry_of s f.size (entry_at f.entries g) ≡ x → entry_located s f g (entry_at f.entries g) x ≡ Found p → Sizes Vfont2 p
+  by_entry : (p : Bitmap) (x : Entry) → entry_of s f.size (entry_at f.entries g) ≡ x → entry_located s f g (entry_at f.entries g) x ≡ Ok p → Sizes Vfont2 p
   unfolding rows_at cols_at
   by_entry p Empty q e = let z : ◌≡◌ {A = ℕ} 0 1 = cc in absurd (omega arith)
   by_entry p (Glyph r c) q e =
@@ -102,17 +103,17 @@ module _ (s : List ℕ) (f : Font) (g : ℕ) (l : Placed s f) (b : g < f.count) 
       let ec : p.width ≡ c = ap (λ (m : Bitmap). m.width) (found_is _ _ (sym e)) in
       (er ∙ k.1, ec ∙ k.2)
     where
-      found_is : (u v : Bitmap) → Found u ≡ Found v → u ≡ v
+      found_is : (u v : Bitmap) → ◌≡◌ {A = Result Bitmap Refusal} (Ok u) (Ok v) → u ≡ v
       found_is u v h = cc
   by_entry p Broken q e = let z : ◌≡◌ {A = ℕ} 0 1 = cc in absurd (omega arith)
 
-  by_kind : (k : Kind) (p : Bitmap) → kind_bitmap s f g k ≡ Found p → Sizes k p
+  by_kind : (k : Kind) (p : Bitmap) → kind_bitmap s f g k ≡ Ok p → Sizes k p
   by_kind Psf1 p e = even p e
     where
-      even : (p : Bitmap) → kind_bitmap s f g Psf1 ≡ Found p → Sizes Psf1 p
+      even : (p : Bitmap) → kind_bitmap s f g Psf1 ≡ Ok p → Sizes Psf1 p
       even p e = let q : p.height ≡ f.height = cc in let r : p.width ≡ f.width = cc in (q ∙ even_rows _ f.width l.3, r ∙ even_cols f.height _ l.4)
   by_kind Psf2 p e = let q : p.height ≡ f.height = cc in let r : p.width ≡ f.width = cc in (q ∙ even_rows _ f.width l.3, r ∙ even_cols f.height _ l.4)
   by_kind Vfont2 p e = by_entry p (entry_of s f.size (entry_at f.entries g)) refl e
 
-  pub located_sizes : (p : Bitmap) → bitmap_of s f g ≡ Found p → Sizes f.kind p
+  pub located_sizes : (p : Bitmap) → bitmap_of s f g ≡ Ok p → Sizes f.kind p
   located_sizes p e = by_kind f.kind p (known s f g l b f.kind refl ∙ e)

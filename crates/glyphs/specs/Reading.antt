@@ -1,5 +1,5 @@
 -- How glyph g of two fonts differs: its metrics, as the numbers of 16 bits that a vfont2 entry has, and its pixels.
-use Rattle.std.specs.Prelude.{ℕ, ◌+◌, Bool, false, List, eqb, take, drop}
+use Rattle.std.specs.Prelude.{ℕ, ◌+◌, Bool, false, List, eqb, take, drop, Result, Ok, Err}
 use Rattle.base.specs.Meaning.{le16}
 use Rattle.base.specs.Reading.{when}
 use Rattle.header.specs.declared.Kind.{Kind}
@@ -7,11 +7,10 @@ use Rattle.header.specs.declared.Kind.TheVariants.{Psf1, Psf2, Vfont2}
 use Rattle.header.specs.declared.Font.{Font}
 use Rattle.entries.specs.Meaning.{entry_at}
 use Rattle.bitmap.specs.declared.Bitmap.{Bitmap}
-use Rattle.bitmap.specs.declared.Located.{Located}
-use Rattle.bitmap.specs.declared.Located.TheVariants.{Found, Refused as NotLocated}
 use Rattle.bitmap.specs.Reading.{bitmap_of}
 use Rattle.pixels.specs.Reading.{same_pixels}
 use Rattle.glyphs.specs.declared.Words.{Words}
+use Rattle.refusal.specs.declared.Refusal.{Refusal}
 
 -- "(height, 0, 0, width, width)"
 abbrev pub even_words : ℕ → ℕ → Words
@@ -41,11 +40,11 @@ unfoldable pub pixel_kind : List ℕ → Bitmap → List ℕ → Bitmap → ℕ
 pixel_kind s p o q = when (same_pixels (bytes_of s p) (bytes_of o q) p.height p.width) 0 4
 
 -- 3: "metrics differ or just one has no glyph"; "two missing glyphs agree"
-abbrev pub located_kind : List ℕ → Font → List ℕ → Font → ℕ → Located → Located → ℕ
-located_kind s f o h g (Found p) (Found q) = when (same_words (words_of s f g f.kind) (words_of o h g h.kind)) (pixel_kind s p o q) 3
-located_kind s f o h g (Found p) (NotLocated r) = 3
-located_kind s f o h g (NotLocated r) (Found q) = 3
-located_kind s f o h g (NotLocated r) (NotLocated r') = 0
+abbrev pub located_kind : List ℕ → Font → List ℕ → Font → ℕ → Result Bitmap Refusal → Result Bitmap Refusal → ℕ
+located_kind s f o h g (Ok p) (Ok q) = when (same_words (words_of s f g f.kind) (words_of o h g h.kind)) (pixel_kind s p o q) 3
+located_kind s f o h g (Ok p) (Err r) = 3
+located_kind s f o h g (Err r) (Ok q) = 3
+located_kind s f o h g (Err r) (Err r') = 0
 
 -- how glyph g differs: 3, 4, or 0 where it does not
 unfoldable pub glyph_kind : List ℕ → Font → List ℕ → Font → ℕ → ℕ

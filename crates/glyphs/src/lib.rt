@@ -2,14 +2,13 @@
 // that the fonts' parts stand in their files (`Placed`) and that both have the glyph, which the check and the counts give.
 #![tactic(auto)]
 
-ghost use Rattle.std.specs.Prelude.{◌≡◌, ◌+◌, ◌≤◌, ◌<◌, length};
+ghost use Rattle.std.specs.Prelude.{◌≡◌, ◌+◌, ◌≤◌, ◌<◌, length, Ok};
 ghost use Rattle.header.specs.Bounds.{Placed};
 ghost use Rattle.bitmap.specs.Bounds.{Inside};
-ghost use Rattle.bitmap.specs.declared.Located.TheVariants.{Found};
 ghost use Rattle.bitmap.specs.Reading.{bitmap_of};
 ghost use Rattle.glyphs.specs.Reading.{even_words, entry_words, words_of, same_words, pixel_kind, located_kind, glyph_kind};
 
-use bitmap::{Bitmap, Located};
+use bitmap::Bitmap;
 use header::{Font, Kind};
 use vfont2::Vfont2;
 
@@ -100,8 +99,8 @@ fn pixel_kind(a: &[u8], p: Bitmap, b: &[u8], q: Bitmap) -> u32
 
 // How a glyph that both fonts draw differs. Asks for the bitmaps that were located.
 fn drawn_kind(a: &[u8], f: Font, p: Bitmap, b: &[u8], h: Font, q: Bitmap, g: usize) -> u32
-    requires { Placed a.now f × Placed b.now h × (g < f.count) × (g < h.count) × (bitmap_of a.now f g ≡ Found p) × (bitmap_of b.now h g ≡ Found q) × Inside a.now p × Inside b.now q }
-    ensures { result ≡ located_kind a.now f b.now h g (Found p) (Found q) }
+    requires { Placed a.now f × Placed b.now h × (g < f.count) × (g < h.count) × (bitmap_of a.now f g ≡ Ok p) × (bitmap_of b.now h g ≡ Ok q) × Inside a.now p × Inside b.now q }
+    ensures { result ≡ located_kind a.now f b.now h g (Ok p) (Ok q) }
 {
     let v = words_of(a, f, g);
     let w = words_of(b, h, g);
@@ -119,13 +118,13 @@ pub fn compare(a: &[u8], f: Font, b: &[u8], h: Font, g: usize) -> u32
     let x = bitmap::locate(a, f, g);
     let y = bitmap::locate(b, h, g);
     match x {
-        Located::Found(p) => match y {
-            Located::Found(q) => drawn_kind(a, f, p, b, h, q, g),
-            Located::Refused(_) => 3,
+        Ok(p) => match y {
+            Ok(q) => drawn_kind(a, f, p, b, h, q, g),
+            Err(_) => 3,
         },
-        Located::Refused(_) => match y {
-            Located::Found(_) => 3,
-            Located::Refused(_) => 0,
+        Err(_) => match y {
+            Ok(_) => 3,
+            Err(_) => 0,
         },
     }
 }

@@ -14,14 +14,12 @@ use Rattle.base.proofs.Begins.{begins_before}
 use Rattle.base.proofs.Numbers.{le32_before}
 use Rattle.header.specs.declared.Kind.{Kind}
 use Rattle.header.specs.declared.Kind.TheVariants.{Psf1, Psf2, Vfont2}
-use Rattle.header.specs.declared.Named.{Named}
-use Rattle.header.specs.declared.Named.TheVariants.{Is, Unknown}
 use Rattle.header.specs.declared.Font.{Font}
-use Rattle.header.specs.declared.Checked.TheVariants.{Sound}
 use Rattle.header.specs.Meaning.{magic_of, psf1_count}
 use Rattle.header.specs.Reading.{kind_of, psf1_says, head_of, psf2_shaped, vfont2_shaped, on_fields, named_says, says_of}
 use Rattle.header.specs.Bounds.{Parts}
 use Rattle.header.proofs.Known.{Source, source}
+use Rattle.std.specs.Prelude.{Ok, Option, Some, None}
 
 module _ (p s : List ℕ) (h : 32 ≤ length p) where
   long : (k : ℕ) → k ≤ 32 → ltb (length (p ++ s)) k ≡ false
@@ -53,11 +51,11 @@ module _ (p s : List ℕ) (h : 32 ≤ length p) where
         le32_before p s 28 (omega arith),
       )
 
-  named_front : (k : Named) → named_says (p ++ s) k ≡ named_says p k
-  named_front (Is Psf1) = psf1_front
-  named_front (Is Psf2) = ap (on_fields psf2_shaped) head_front
-  named_front (Is Vfont2) = ap (on_fields vfont2_shaped) head_front
-  named_front Unknown = refl
+  named_front : (k : Option Kind) → named_says (p ++ s) k ≡ named_says p k
+  named_front (Some Psf1) = psf1_front
+  named_front (Some Psf2) = ap (on_fields psf2_shaped) head_front
+  named_front (Some Vfont2) = ap (on_fields vfont2_shaped) head_front
+  named_front None = refl
 
   pub says_front : says_of (p ++ s) ≡ says_of p
   unfolding says_of
@@ -79,5 +77,5 @@ by_kind s f Psf1 (q, (e, l, m, z)) =
 by_kind s f Psf2 (q, h, (e, a, b, c, d, z)) = subst Parts e (omega (arith, h.3), omega arith, omega (arith, h.3), refl)
 by_kind s f Vfont2 (q, h, (e, a, b)) = subst Parts e (omega (arith, h.3), omega arith, omega (arith, h.3), (h.3, refl))
 
-pub parts : (s : List ℕ) (f : Font) → says_of s ≡ Sound f → Parts f
+pub parts : (s : List ℕ) (f : Font) → says_of s ≡ Ok f → Parts f
 parts s f e = by_kind s f f.kind (source s f f.kind refl e)

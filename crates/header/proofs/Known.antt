@@ -12,28 +12,23 @@ use Rattle.base.specs.Reading.{when}
 use Rattle.refusal.specs.declared.Refusal.{Refusal}
 use Rattle.header.specs.declared.Kind.{Kind}
 use Rattle.header.specs.declared.Kind.TheVariants.{Psf1, Psf2, Vfont2}
-use Rattle.header.specs.declared.Named.{Named}
-use Rattle.header.specs.declared.Named.TheVariants.{Is, Unknown}
 use Rattle.header.specs.declared.Font.{Font}
 use Rattle.header.specs.declared.Fields.{Fields}
-use Rattle.header.specs.declared.Head.{Head}
-use Rattle.header.specs.declared.Head.TheVariants.{Read, Refused as NoHead}
-use Rattle.header.specs.declared.Checked.{Checked}
-use Rattle.header.specs.declared.Checked.TheVariants.{Sound, Refused}
 use Rattle.header.specs.Meaning.{glyph_bytes, psf1_font, fields_of, psf2_font, vfont2_font, psf1_count, psf1_table}
 use Rattle.header.specs.Reading.{kind_of, psf1_says, head_of, psf2_shaped, vfont2_shaped, on_fields, named_says, says_of}
 use Rattle.header.specs.Bounds.{Described}
+use Rattle.std.specs.Prelude.{Result, Ok, Err, Option, Some, None}
 
-pub never : (r : Refusal) (f : Font) → Refused r ≡ Sound f → ⊥
+pub never : (r : Refusal) (f : Font) → Err r ≡ Ok f → ⊥
 never r f e = let z : ◌≡◌ {A = ℕ} 0 1 = cc in omega arith
 
 -- a check that does not refuse does not hold, and the rest decides
-pub passes : (t : Bool) (r : Refusal) (y : Checked) (f : Font) → when t (Refused r) y ≡ Sound f → (t ≡ false) × (y ≡ Sound f)
+pub passes : (t : Bool) (r : Refusal) (y : Result Font Refusal) (f : Font) → when t (Err r) y ≡ Ok f → (t ≡ false) × (y ≡ Ok f)
 unfolding when
 passes true r y f e = absurd (never r f e)
 passes false r y f e = (refl, e)
 
-reads : (t : Bool) (r : Refusal) (y : Head) (f : Fields) → when t (NoHead r) y ≡ Read f → (t ≡ false) × (y ≡ Read f)
+reads : (t : Bool) (r : Refusal) (y : Result Fields Refusal) (f : Fields) → when t (Err r) y ≡ Ok f → (t ≡ false) × (y ≡ Ok f)
 unfolding when
 reads true r y f e = let z : ◌≡◌ {A = ℕ} 0 1 = cc in absurd (omega arith)
 reads false r y f e = (refl, e)
@@ -44,7 +39,7 @@ module _ (s : List ℕ) where
   Psf1Known f =
       (psf1_font (psf1_count (get_or s 2 0)) (get_or s 3 0) (psf1_table (get_or s 2 0)) ≡ f) × (4 ≤ length s) × (get_or s 2 0 ≤ 5) × (get_or s 3 0 ≡ 0 → ⊥)
 
-  psf1_known : (f : Font) → psf1_says s ≡ Sound f → Psf1Known f
+  psf1_known : (f : Font) → psf1_says s ≡ Ok f → Psf1Known f
   unfolding psf1_says
   psf1_known f e =
       let a = passes _ _ _ f e in
@@ -57,7 +52,7 @@ module _ (s : List ℕ) where
   HeadKnown =
       (32 ≤ length s) × (le32 s 4 ≡ 0) × (le32 s 12 ≤ 1) × (32 ≤ le32 s 8) × (le32 s 8 ≤ 4096) × (le32 s 16 ≡ 0 → ⊥) × (le32 s 16 ≤ 4096)
 
-  head_known : (k : Fields) → head_of s ≡ Read k → (fields_of s ≡ k) × HeadKnown
+  head_known : (k : Fields) → head_of s ≡ Ok k → (fields_of s ≡ k) × HeadKnown
   unfolding head_of
   head_known k e =
       let a = reads _ _ _ k e in
@@ -73,7 +68,7 @@ module _ (s : List ℕ) where
 abbrev pub Psf2Known : Fields → Font → Type 0
 Psf2Known k f = (psf2_font k ≡ f) × (1 ≤ k.height) × (k.height ≤ 255) × (1 ≤ k.width) × (k.width ≤ 255) × (k.size ≡ glyph_bytes k.height k.width)
 
-psf2_known : (k : Fields) (f : Font) → psf2_shaped k ≡ Sound f → Psf2Known k f
+psf2_known : (k : Fields) (f : Font) → psf2_shaped k ≡ Ok f → Psf2Known k f
 unfolding psf2_shaped
 psf2_known k f e =
     let a = passes _ _ _ f e in
@@ -87,7 +82,7 @@ psf2_known k f e =
 abbrev pub Vfont2Known : Fields → Font → Type 0
 Vfont2Known k f = (vfont2_font k ≡ f) × (k.height ≤ 255) × (k.width ≤ 255)
 
-vfont2_known : (k : Fields) (f : Font) → vfont2_shaped k ≡ Sound f → Vfont2Known k f
+vfont2_known : (k : Fields) (f : Font) → vfont2_shaped k ≡ Ok f → Vfont2Known k f
 unfolding vfont2_shaped
 vfont2_known k f e =
     let a = passes _ _ _ f e in
@@ -97,22 +92,22 @@ vfont2_known k f e =
 -- what a header said, by the kind of its magic
 module _ (s : List ℕ) (f : Font) where
   abbrev pub Source : Kind → Type 0
-  Source Psf1 = (kind_of s ≡ Is Psf1) × Psf1Known s f
-  Source Psf2 = (kind_of s ≡ Is Psf2) × HeadKnown s × Psf2Known (fields_of s) f
-  Source Vfont2 = (kind_of s ≡ Is Vfont2) × HeadKnown s × Vfont2Known (fields_of s) f
+  Source Psf1 = (kind_of s ≡ Some Psf1) × Psf1Known s f
+  Source Psf2 = (kind_of s ≡ Some Psf2) × HeadKnown s × Psf2Known (fields_of s) f
+  Source Vfont2 = (kind_of s ≡ Some Vfont2) × HeadKnown s × Vfont2Known (fields_of s) f
 
-  on_fields_lem : (Known : Fields → Font → Type 0) (shaped : Fields → Checked) → ((k : Fields) → shaped k ≡ Sound f → Known k f) →
-      (x : Head) → head_of s ≡ x → on_fields shaped x ≡ Sound f → HeadKnown s × Known (fields_of s) f
-  on_fields_lem Known shaped known (Read k) q e = let h = head_known s k q in (h.1, subst (λ (j : Fields). Known j f) (sym h.0) (known k e))
-  on_fields_lem Known shaped known (NoHead r) q e = absurd (never r f e)
+  on_fields_lem : (Known : Fields → Font → Type 0) (shaped : Fields → Result Font Refusal) → ((k : Fields) → shaped k ≡ Ok f → Known k f) →
+      (x : Result Fields Refusal) → head_of s ≡ x → on_fields shaped x ≡ Ok f → HeadKnown s × Known (fields_of s) f
+  on_fields_lem Known shaped known (Ok k) q e = let h = head_known s k q in (h.1, subst (λ (j : Fields). Known j f) (sym h.0) (known k e))
+  on_fields_lem Known shaped known (Err r) q e = absurd (never r f e)
 
-  by_named : (x : Named) → kind_of s ≡ x → named_says s x ≡ Sound f → (k : Kind) × (f.kind ≡ k) × Source k
-  by_named (Is Psf1) q e = let k = psf1_known s f e in (Psf1, sym (ap (λ (g : Font). g.kind) k.0), (q, k))
-  by_named (Is Psf2) q e = let h = on_fields_lem Psf2Known psf2_shaped (λ k. psf2_known k f) (head_of s) refl e in (Psf2, sym (ap (λ (g : Font). g.kind) h.1.0), (q, h.0, h.1))
-  by_named (Is Vfont2) q e = let h = on_fields_lem Vfont2Known vfont2_shaped (λ k. vfont2_known k f) (head_of s) refl e in (Vfont2, sym (ap (λ (g : Font). g.kind) h.1.0), (q, h.0, h.1))
-  by_named Unknown q e = absurd (never _ f e)
+  by_named : (x : Option Kind) → kind_of s ≡ x → named_says s x ≡ Ok f → (k : Kind) × (f.kind ≡ k) × Source k
+  by_named (Some Psf1) q e = let k = psf1_known s f e in (Psf1, sym (ap (λ (g : Font). g.kind) k.0), (q, k))
+  by_named (Some Psf2) q e = let h = on_fields_lem Psf2Known psf2_shaped (λ k. psf2_known k f) (head_of s) refl e in (Psf2, sym (ap (λ (g : Font). g.kind) h.1.0), (q, h.0, h.1))
+  by_named (Some Vfont2) q e = let h = on_fields_lem Vfont2Known vfont2_shaped (λ k. vfont2_known k f) (head_of s) refl e in (Vfont2, sym (ap (λ (g : Font). g.kind) h.1.0), (q, h.0, h.1))
+  by_named None q e = absurd (never _ f e)
 
-  pub source : (k : Kind) → f.kind ≡ k → says_of s ≡ Sound f → Source k
+  pub source : (k : Kind) → f.kind ≡ k → says_of s ≡ Ok f → Source k
   unfolding says_of
   source k p e = let n = by_named (kind_of s) refl e in subst Source (sym n.1 ∙ p) n.2
 
@@ -141,5 +136,5 @@ module _ (s : List ℕ) (f : Font) (byte : get_or s 3 0 < 256) where
       let some : le32 s 16 ≡ 0 → ⊥ = h.5 in
       subst Described e (omega arith, h.6, a, b, omega arith, omega arith, (refl, refl))
 
-  pub described : says_of s ≡ Sound f → Described f
+  pub described : says_of s ≡ Ok f → Described f
   described e = by_kind f.kind (source s f f.kind refl e)

@@ -1,16 +1,16 @@
 -- Bounds of what a header says, and where the parts of a font stand in its file: what the calls above ask of a font and its file.
-use Rattle.std.specs.Prelude.{ℕ, ◌+◌, ◌*◌, ◌≤◌, ◌<◌, List, ◌≡◌, length}
+use Rattle.std.specs.Prelude.{ℕ, ◌+◌, ◌*◌, ◌≤◌, ◌<◌, List, ◌≡◌, length, Result, Ok, Err}
 use Rattle.header.specs.declared.Kind.{Kind}
 use Rattle.header.specs.declared.Kind.TheVariants.{Psf1, Psf2, Vfont2}
 use Rattle.header.specs.declared.Font.{Font}
-use Rattle.header.specs.declared.Head.{Head}
-use Rattle.header.specs.declared.Head.TheVariants.{Read, Refused}
 use Rattle.header.specs.Meaning.{limit, glyph_bytes, entry_len}
+use Rattle.header.specs.declared.Fields.{Fields}
+use Rattle.refusal.specs.declared.Refusal.{Refusal}
 
 -- the bounds of the fields read
-abbrev pub HeadWithin : Head → Type 0
-HeadWithin (Read f) = (1 ≤ f.count) × (f.header ≤ 4096) × (f.count ≤ 4096) × (f.size < 4294967296)
-HeadWithin (Refused r) = Unit {0}
+abbrev pub HeadWithin : Result Fields Refusal → Type 0
+HeadWithin (Ok f) = (1 ≤ f.count) × (f.header ≤ 4096) × (f.count ≤ 4096) × (f.size < 4294967296)
+HeadWithin (Err r) = Unit {0}
 
 -- bitmaps of one size, end to end
 abbrev pub Even : Font → Type 0

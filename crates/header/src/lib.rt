@@ -22,13 +22,6 @@ pub enum Kind {
 // The file limit.
 pub const LIMIT: usize = 1048576;
 
-// The kind that a file's first bytes name.
-#[derive(Clone, Copy)]
-pub enum Named {
-    Is(Kind),
-    Unknown,
-}
-
 // What an accepted font's header says: all that any other call needs. Offsets are in the file.
 #[derive(Clone, Copy)]
 pub struct Font {
@@ -49,12 +42,6 @@ pub struct Font {
     pub table: bool,
 }
 
-#[derive(Clone, Copy)]
-pub enum Checked {
-    Sound(Font),
-    Refused(Refusal),
-}
-
 // The fields that PSF2 and vfont2 have at the same places.
 #[derive(Clone, Copy)]
 pub struct Fields {
@@ -64,12 +51,6 @@ pub struct Fields {
     pub height: usize,
     pub width: usize,
     pub table: bool,
-}
-
-#[derive(Clone, Copy)]
-pub enum Head {
-    Read(Fields),
-    Refused(Refusal),
 }
 
 // The bytes of a row of so many pixels. Asks for a width that can be added to: widths are below 65,536.
@@ -91,37 +72,37 @@ pub fn glyph_bytes(height: usize, width: usize) -> usize
 // The fields that PSF2 and vfont2 have at the same places: refusals 3 to 6; and their bounds, for the sums that follow. Asks for the
 // kind's header length.
 #[tactic(auto, using(crate::proofs::Cases::head_high))]
-pub fn head_of(file: &[u8], fixed: usize) -> Head
+pub fn head_of(file: &[u8], fixed: usize) -> Result<Fields, Refusal>
     requires { fixed ≡ header_len psf2 }
     ensures equal { result ≡ head_of file.now }
     ensures bounded { HeadWithin result }
 {
     let len = file.len();
     if len < fixed {
-        return Head::Refused(refusal::refuse(Reason::HeaderCut, len));
+        return Err(refusal::refuse(Reason::HeaderCut, len));
     }
     if base::get32(file, 4) != 0 {
-        return Head::Refused(refusal::refuse(Reason::Version, 4));
+        return Err(refusal::refuse(Reason::Version, 4));
     }
     let flags = base::get32(file, 12);
     if 1 < flags {
-        return Head::Refused(refusal::refuse(Reason::Version, 12));
+        return Err(refusal::refuse(Reason::Version, 12));
     }
     let header = base::size(base::get32(file, 8));
     if header < fixed {
-        return Head::Refused(refusal::refuse(Reason::HeaderSize, 8));
+        return Err(refusal::refuse(Reason::HeaderSize, 8));
     }
     if 4096 < header {
-        return Head::Refused(refusal::refuse(Reason::HeaderSize, 8));
+        return Err(refusal::refuse(Reason::HeaderSize, 8));
     }
     let count = base::size(base::get32(file, 16));
     if count == 0 {
-        return Head::Refused(refusal::refuse(Reason::Count, 16));
+        return Err(refusal::refuse(Reason::Count, 16));
     }
     if 4096 < count {
-        return Head::Refused(refusal::refuse(Reason::Count, 16));
+        return Err(refusal::refuse(Reason::Count, 16));
     }
-    Head::Read(Fields {
+    Ok(Fields {
         header: header,
         count: count,
         size: base::size(base::get32(file, 20)),

@@ -13,23 +13,20 @@ use Rattle.coding.specs.declared.Coding.TheVariants.{Utf8}
 use Rattle.utf8.specs.Meaning.{utf8_bytes}
 use Rattle.table.specs.Meaning.{Desc, items, encode, Readable}
 use Rattle.table.proofs.Reading.{items_bytes}
-use Rattle.lookup.specs.declared.Found.{Found}
-use Rattle.lookup.specs.declared.Found.TheVariants.{At, Nothing}
 use Rattle.lookup.specs.Reading.{find_value}
 use Rattle.header.specs.Meaning.{limit}
-use Rattle.questions.specs.declared.Lookup.TheVariants.{Glyph}
 use Rattle.questions.specs.Reading.{lookup_of}
 use Rattle.fonts.specs.Reading.{value_glyph, sequence_glyph}
 use Rattle.mapping.specs.Meaning.{with_single, added, dropped}
 use Rattle.mapping.proofs.Changing.{length_changed, readable_added, added_dropped, added_lists}
 use Rattle.mapping.proofs.Places.{Hole, Gap}
 use Rattle.mapping.proofs.Looking.{lower_of, added_other, sequence_same, added_value}
-use Rattle.edit.specs.declared.Edited.TheVariants.{Length}
 use Rattle.edit.specs.Reading.{add_into, drop_answer, drop_into}
 use Rattle.laws.specs.Meaning.{gives, refuses, lookup_says, Edits}
 use Rattle.laws.proofs.Converting.{rest_is}
 use Rattle.laws.proofs.Retabled.{over_front, over_over, Editable, same_front, new_tail, new_sound, edits, value_moved, sequence_moved, old_value, new_value}
 use Rattle.laws.proofs.Editing.{given_length, no_refusal_lem, scalar_value, either_way, drops, drops_into, adds_into, AddGood, longer_by}
+use Rattle.std.specs.Prelude.{Ok, Option, Some, None}
 
 -- a good add: what the buffer holds then
 module _ (xs : List ℕ) (y : Bytes xs) (len g v n : ℕ) (r : AddGood xs y len g v n) where
@@ -81,7 +78,7 @@ module _ (xs : List ℕ) (y : Bytes xs) (len g v n : ℕ) (r : AddGood xs y len 
   pub add_sequence : (vs : List ℕ) → sequence_glyph (take n out) vs ≡ sequence_glyph old vs
   add_sequence vs = sequence_moved xs y len g v ds a (with_single v) values n out laid long small room vs (sequence_same g ds (with_single v) (λ d. refl) vs)
 
-  add_value : value_glyph (take n out) v ≡ Glyph (lower_of g (find_value v 0 (items ds)))
+  add_value : value_glyph (take n out) v ≡ Ok (lower_of g (find_value v 0 (items ds)))
   add_value =
       new_value xs y len g v ds a (with_single v) values n out laid long small room
       ∙ ap lookup_of (added_value g ds v (let l = a.low in omega (arith, a.count)))
@@ -89,16 +86,16 @@ module _ (xs : List ℕ) (y : Bytes xs) (len g v n : ℕ) (r : AddGood xs y len 
   pub add_mapped : (h : ℕ) → lookup_says (value_glyph old v) ≡ gives h → lookup_says (value_glyph (take n out) v) ≡ gives (min g h)
   add_mapped h e = ap lookup_says add_value ∙ go (find_value v 0 (items ds)) (sym (ap lookup_says (old_value xs y len g v ds a (with_single v) values n out laid long small room)) ∙ e)
     where
-      go : (x : Found) → lookup_says (lookup_of x) ≡ gives h → gives (lower_of g x) ≡ gives (min g h)
-      go (At j) q = let z : j ≡ h = given_length q in ap (λ (k : ℕ). gives (min g k)) z
-      go Nothing q = no_refusal_lem (sym q)
+      go : (x : Option ℕ) → lookup_says (lookup_of x) ≡ gives h → gives (lower_of g x) ≡ gives (min g h)
+      go (Some j) q = let z : j ≡ h = given_length q in ap (λ (k : ℕ). gives (min g k)) z
+      go None q = no_refusal_lem (sym q)
 
   pub add_unmapped : lookup_says (value_glyph old v) ≡ refuses 15 0 → lookup_says (value_glyph (take n out) v) ≡ gives g
   add_unmapped e = ap lookup_says add_value ∙ go (find_value v 0 (items ds)) (sym (ap lookup_says (old_value xs y len g v ds a (with_single v) values n out laid long small room)) ∙ e)
     where
-      go : (x : Found) → lookup_says (lookup_of x) ≡ refuses 15 0 → gives (lower_of g x) ≡ gives g
-      go (At j) q = no_refusal_lem q
-      go Nothing q = refl
+      go : (x : Option ℕ) → lookup_says (lookup_of x) ≡ refuses 15 0 → gives (lower_of g x) ≡ gives g
+      go (Some j) q = no_refusal_lem q
+      go None q = refl
 
   -- the drop after it: the new font is one that the drop may be asked of, and glyph g lists v
   out_bytes : Bytes out
@@ -131,10 +128,10 @@ module _ (xs : List ℕ) (y : Bytes xs) (len g v n : ℕ) (r : AddGood xs y len 
       go (inl h) = h
       go (inr p) = absurd (p.unlisted (added_lists v g ds (let l = a.low in omega (arith, a.count))))
 
-  pub drop_after : drop_answer out n g v ≡ Length len
+  pub drop_after : drop_answer out n g v ≡ Ok len
   drop_after =
       let z : n - length (utf8_bytes v) ≡ len = omega (arith, r.grown) in
-      drops out out_bytes n g v (added v g ds) again again_hole ∙ ap Length z
+      drops out out_bytes n g v (added v g ds) again again_hole ∙ ap Ok z
 
   font_back : take a.font.end (take n out) ++ encode Utf8 (dropped v g (added v g ds)) ≡ old
   font_back =

@@ -15,14 +15,12 @@ use Rattle.base.proofs.Tests.{below}
 use Rattle.header.specs.declared.Kind.{Kind}
 use Rattle.header.specs.declared.Kind.TheVariants.{Psf1, Psf2, Vfont2}
 use Rattle.header.specs.declared.Font.{Font}
-use Rattle.header.specs.declared.Checked.TheVariants.{Sound}
 use Rattle.header.specs.Meaning.{row_bytes}
 use Rattle.header.specs.Bounds.{Placed}
 use Rattle.entries.specs.declared.Metrics.{Metrics}
 use Rattle.entries.specs.Meaning.{signed16, metrics_at, entry_at}
 use Rattle.entries.proofs.Sums.{low, high}
 use Rattle.bitmap.specs.declared.Bitmap.{Bitmap}
-use Rattle.bitmap.specs.declared.Located.TheVariants.{Found}
 use Rattle.bitmap.specs.Meaning.{even_metrics, kind_metrics, bit_of, pixel_in}
 use Rattle.bitmap.specs.Reading.{bitmap_of}
 use Rattle.bitmap.specs.Bounds.{Inside, LocatedInside}
@@ -41,6 +39,7 @@ use Rattle.content.proofs.Same.{pixel_within}
 use Rattle.content.proofs.Source.{is_placed}
 use Rattle.content.proofs.Stretches.{byte_of_part}
 use Rattle.laws.specs.Meaning.{OtherMetrics, OtherPixels}
+use Rattle.std.specs.Prelude.{Ok}
 
 -- metrics as the numbers of 16 bits that stand for them
 abbrev as_metrics : Words → Metrics
@@ -110,7 +109,7 @@ pub data Compares (k : ℕ) (x z : Option Drawing) : Type 0 where
   by_pixels : k ≡ 4 → OtherPixels x z → Compares k x z
 
 -- two sound fonts that both have glyph g
-module _ (s : List ℕ) (f : Font) (ys : Bytes s) (es : check_of s ≡ Sound f) (o : List ℕ) (h : Font) (yo : Bytes o) (eo : check_of o ≡ Sound h) (g : ℕ) (ls : g < f.count) (lo : g < h.count) where
+module _ (s : List ℕ) (f : Font) (ys : Bytes s) (es : check_of s ≡ Ok f) (o : List ℕ) (h : Font) (yo : Bytes o) (eo : check_of o ≡ Ok h) (g : ℕ) (ls : g < f.count) (lo : g < h.count) where
   ps : Placed s f
   ps = is_placed s f ys es
 
@@ -125,10 +124,10 @@ module _ (s : List ℕ) (f : Font) (ys : Bytes s) (es : check_of s ≡ Sound f) 
 
   -- both draw it
   module _ (d e : Drawing) (a : Draws s f g (some d)) (b : Draws o h g (some e)) where
-    found_p : bitmap_of s f g ≡ Found p
+    found_p : bitmap_of s f g ≡ Ok p
     found_p = glyph_found s f ys es g ls a.0
 
-    found_q : bitmap_of o h g ≡ Found q
+    found_q : bitmap_of o h g ≡ Ok q
     found_q = glyph_found o h yo eo g lo b.0
 
     inside_p : Inside s p

@@ -14,30 +14,22 @@ use Rattle.refusal.specs.declared.Reason.TheVariants.{Ask, NoTable}
 use Rattle.refusal.specs.declared.Refusal.{Refusal}
 use Rattle.table.specs.declared.Item.{Item}
 use Rattle.table.specs.Meaning.{Desc, encode, Readable}
-use Rattle.lookup.specs.declared.Walked.{Walked}
-use Rattle.lookup.specs.declared.Walked.TheVariants.{Found as Got, Nothing as NoItem}
-use Rattle.lookup.specs.declared.Found.{Found}
-use Rattle.lookup.specs.declared.Found.TheVariants.{At, Nothing}
 use Rattle.lookup.specs.Reading.{item_at, find_value, find_sequence}
 use Rattle.lookup.specs.Meaning.{Any, ListsValue, ListsSequence, Lowest, Nowhere, ItemIs}
 use Rattle.lookup.proofs.Meaning as looked
 use Rattle.header.specs.declared.Font.{Font}
-use Rattle.header.specs.declared.Checked.TheVariants.{Sound, Refused}
 use Rattle.stages.specs.Meaning.{coding_of, tail_of}
 use Rattle.stages.specs.Reading.{check_of}
-use Rattle.questions.specs.declared.Walk.{Walk}
-use Rattle.questions.specs.declared.Walk.TheVariants.{Refused as NoWalk}
-use Rattle.questions.specs.declared.Lookup.{Lookup}
-use Rattle.questions.specs.declared.Lookup.TheVariants.{Refused as NoLookup}
 use Rattle.questions.specs.Reading.{font_items, walk_of, lookup_of, any_high, askable}
 use Rattle.content.specs.Meaning.{Describes}
 use Rattle.content.proofs.Tails.{Tail, tail_known}
 use Rattle.fonts.specs.Reading.{item_of, value_glyph, sequence_glyph}
 use Rattle.laws.specs.Meaning.{Exact, Said, gives, refuses, walk_says, lookup_says, Row, Gives, ItemRows, ValueRows, SequenceRows}
 use Rattle.laws.proofs.Exactly.{row, own_first, reading_of, is_some, less}
+use Rattle.std.specs.Prelude.{Result, Ok, Err, Option, Some, None}
 
 -- the reading of a sound font
-module _ (s : List ℕ) (f : Font) (y : Bytes s) (sound : check_of s ≡ Sound f) where
+module _ (s : List ℕ) (f : Font) (y : Bytes s) (sound : check_of s ≡ Ok f) where
   pub described : (ds : List Desc) × Describes s f f.table ds
   described = go f.table (tail_known s f y sound)
     where
@@ -121,17 +113,17 @@ pub is_askable : (vs : List ℕ) → (Unaskable vs → ⊥) → askable vs ≡ t
 is_askable vs n = not_bare (askable vs) (λ e. n (not_askable vs e))
 
 -- what the questions answer of a font's items, by whether it has a table
-abbrev pub item_with : Bool → ℕ → ℕ → List Item → Walk
-item_with t g k is = pick t (walk_of (item_at g k is)) (NoWalk (refusal NoTable 0))
+abbrev pub item_with : Bool → ℕ → ℕ → List Item → Result Item Refusal
+item_with t g k is = pick t (walk_of (item_at g k is)) (Err (refusal NoTable 0))
 
-abbrev pub value_with : Bool → ℕ → List Item → Lookup
-value_with t v is = pick t (when (ltb 0x10FFFF v) (NoLookup (refusal Ask 0)) (lookup_of (find_value v 0 is))) (NoLookup (refusal NoTable 0))
+abbrev pub value_with : Bool → ℕ → List Item → Result ℕ Refusal
+value_with t v is = pick t (when (ltb 0x10FFFF v) (Err (refusal Ask 0)) (lookup_of (find_value v 0 is))) (Err (refusal NoTable 0))
 
-abbrev pub sequence_with : Bool → List ℕ → List Item → Lookup
-sequence_with t vs is = pick t (when (askable vs) (lookup_of (find_sequence vs is)) (NoLookup (refusal Ask 0))) (NoLookup (refusal NoTable 0))
+abbrev pub sequence_with : Bool → List ℕ → List Item → Result ℕ Refusal
+sequence_with t vs is = pick t (when (askable vs) (lookup_of (find_sequence vs is)) (Err (refusal Ask 0))) (Err (refusal NoTable 0))
 
 -- on a sound font
-module _ (s : List ℕ) (f : Font) (sound : check_of s ≡ Sound f) where
+module _ (s : List ℕ) (f : Font) (sound : check_of s ≡ Ok f) where
   pub item_asked : (g k : ℕ) → item_of s g k ≡ item_with f.table g k (font_items s f)
   unfolding item_of
   item_asked g k = rw sound
@@ -145,15 +137,15 @@ module _ (s : List ℕ) (f : Font) (sound : check_of s ≡ Sound f) where
   sequence_asked vs = rw sound
 
   module _ (bare : f.table ≡ false) where
-    item_bare : (g k : ℕ) → item_of s g k ≡ NoWalk (refusal NoTable 0)
+    item_bare : (g k : ℕ) → item_of s g k ≡ Err (refusal NoTable 0)
     unfolding item_of
     item_bare g k = rw (sound, bare)
 
-    value_bare : (v : ℕ) → value_glyph s v ≡ NoLookup (refusal NoTable 0)
+    value_bare : (v : ℕ) → value_glyph s v ≡ Err (refusal NoTable 0)
     unfolding value_glyph
     value_bare v = rw (sound, bare)
 
-    sequence_bare : (vs : List ℕ) → sequence_glyph s vs ≡ NoLookup (refusal NoTable 0)
+    sequence_bare : (vs : List ℕ) → sequence_glyph s vs ≡ Err (refusal NoTable 0)
     unfolding sequence_glyph
     sequence_bare vs = rw (sound, bare)
 
@@ -162,7 +154,7 @@ module _ (s : List ℕ) (f : Font) (sound : check_of s ≡ Sound f) where
     unfolding item_of
     walks g k = rw (sound, marked)
 
-    value_high : (v : ℕ) → 0x10FFFF < v → value_glyph s v ≡ NoLookup (refusal Ask 0)
+    value_high : (v : ℕ) → 0x10FFFF < v → value_glyph s v ≡ Err (refusal Ask 0)
     unfolding value_glyph when
     value_high v h = rw (sound, marked, lt-ltb 0x10FFFF v h)
 
@@ -170,7 +162,7 @@ module _ (s : List ℕ) (f : Font) (sound : check_of s ≡ Sound f) where
     unfolding value_glyph when
     looks v h = rw (sound, marked, le-ltb 0x10FFFF v h)
 
-    sequence_high : (vs : List ℕ) → askable vs ≡ false → sequence_glyph s vs ≡ NoLookup (refusal Ask 0)
+    sequence_high : (vs : List ℕ) → askable vs ≡ false → sequence_glyph s vs ≡ Err (refusal Ask 0)
     unfolding sequence_glyph when
     sequence_high vs h = rw (sound, marked, h)
 
@@ -179,16 +171,16 @@ module _ (s : List ℕ) (f : Font) (sound : check_of s ≡ Sound f) where
     seeks vs h = rw (sound, marked, h)
 
 -- the font's own refusal
-module _ (s : List ℕ) (r : Refusal) (refused : check_of s ≡ Refused r) where
-  item_own : (g k : ℕ) → item_of s g k ≡ NoWalk r
+module _ (s : List ℕ) (r : Refusal) (refused : check_of s ≡ Err r) where
+  item_own : (g k : ℕ) → item_of s g k ≡ Err r
   unfolding item_of
   item_own g k = rw refused
 
-  value_own : (v : ℕ) → value_glyph s v ≡ NoLookup r
+  value_own : (v : ℕ) → value_glyph s v ≡ Err r
   unfolding value_glyph
   value_own v = rw refused
 
-  sequence_own : (vs : List ℕ) → sequence_glyph s vs ≡ NoLookup r
+  sequence_own : (vs : List ℕ) → sequence_glyph s vs ≡ Err r
   unfolding sequence_glyph
   sequence_own vs = rw refused
 
@@ -206,17 +198,17 @@ module _ (s : List ℕ) (y : Bytes s) where
       (λ u. ap walk_says (walks s f e t g k ∙ ap walk_of (o.1 u)))
       (λ i h. ap walk_says (walks s f e t g k ∙ ap walk_of ((m i).1 h))))))
     where
-      which : (f : Font) (ds : List Desc) (w : Walked) → item_at g k (font_items s f) ≡ w →
-          ((i : Item) → (item_at g k (font_items s f) ≡ Got i) ↔ ItemIs ds g k i) → (item_at g k (font_items s f) ≡ NoItem) ↔ ((i : Item) → ItemIs ds g k i → ⊥) →
+      which : (f : Font) (ds : List Desc) (w : Option Item) → item_at g k (font_items s f) ≡ w →
+          ((i : Item) → (item_at g k (font_items s f) ≡ Some i) ↔ ItemIs ds g k i) → (item_at g k (font_items s f) ≡ None) ↔ ((i : Item) → ItemIs ds g k i → ⊥) →
           ((i : Item) × ItemIs ds g k i) ⊎ ((i : Item) → ItemIs ds g k i → ⊥)
-      which f ds (Got i) q m o = inl (i, (m i).0 q)
-      which f ds NoItem q m o = inr (o.0 q)
+      which f ds (Some i) q m o = inl (i, (m i).0 q)
+      which f ds None q m o = inr (o.0 q)
 
   -- a lookup that found something or nothing
-  looked_up : (P : Desc → Type 0) (ds : List Desc) (w : Found) → ((g : ℕ) → (w ≡ At g) ↔ Lowest P 0 ds g) → (w ≡ Nothing) ↔ Nowhere P 0 ds →
+  looked_up : (P : Desc → Type 0) (ds : List Desc) (w : Option ℕ) → ((g : ℕ) → (w ≡ Some g) ↔ Lowest P 0 ds g) → (w ≡ None) ↔ Nowhere P 0 ds →
       ((g : ℕ) × Lowest P 0 ds g) ⊎ Nowhere P 0 ds
-  looked_up P ds (At g) m o = inl (g, (m g).0 refl)
-  looked_up P ds Nothing m o = inr (o.0 refl)
+  looked_up P ds (Some g) m o = inl (g, (m g).0 refl)
+  looked_up P ds None m o = inr (o.0 refl)
 
   pub value_rows : (v : ℕ) → Exact (lookup_says (value_glyph s v)) (ValueRows s v)
   value_rows v =

@@ -9,7 +9,6 @@ use lib.ListN.{length, get_or}
 use Rattle.base.specs.Meaning.{Bytes}
 use Rattle.header.specs.declared.Kind.TheVariants.{Psf1, Psf2, Vfont2}
 use Rattle.header.specs.declared.Font.{Font}
-use Rattle.header.specs.declared.Checked.TheVariants.{Sound}
 use Rattle.entries.specs.Meaning.{entry_at, address_at, size_at, rows_at, cols_at, Breaks}
 use Rattle.bitmap.specs.Meaning.{bit_of, view_of}
 use Rattle.stages.specs.Reading.{check_of}
@@ -18,6 +17,7 @@ use Rattle.content.proofs.Source.{unbroken}
 use Rattle.fonts.specs.Reading.{glyph_part_of, row_part_of, pixel_at, glyph_metrics_of}
 use Rattle.laws.specs.Meaning.{Exact, gives, part_says, pixel_says, metrics_says, GlyphPartRows, RowPartRows, PixelRows, MetricsRows, joined}
 use Rattle.laws.proofs.Located.{part_rows, row_rows, pixel_rows, metrics_rows, bitmap_inside, rows_whole, pixel_of_lem}
+use Rattle.std.specs.Prelude.{Ok}
 
 module _ (s : List ℕ) (y : Bytes s) where
   pub glyph_exactly : (g : ℕ) → Exact (part_says (glyph_part_of s g)) (GlyphPartRows s g)
@@ -47,7 +47,7 @@ module _ (s : List ℕ) (f : Font) (g : ℕ) where
       Is (f.bitmaps + address_at s (entry_at f.entries g)) (size_at s (entry_at f.entries g)) (rows_at s (entry_at f.entries g)) (cols_at s (entry_at f.entries g))
   vfont2_bitmap k = rw k (refl, refl, refl, refl)
 
-module _ (s : List ℕ) (y : Bytes s) (f : Font) (sound : check_of s ≡ Sound f) (g : ℕ) (l : g < f.count) where
+module _ (s : List ℕ) (y : Bytes s) (f : Font) (sound : check_of s ≡ Ok f) (g : ℕ) (l : g < f.count) where
   -- no entry of a sound font breaks a rule
   pub no_entry_breaks : f.kind ≡ Vfont2 → Breaks s f.size (entry_at f.entries g) → ⊥
   no_entry_breaks k = unbroken s f y sound k g l

@@ -6,19 +6,19 @@ use Prim.Native.Nat.{ℕ}
 use native.Mathlib.Omega.{arith}
 use Rattle.base.specs.Meaning.{Bytes}
 use Rattle.header.specs.declared.Font.{Font}
-use Rattle.header.specs.declared.Checked.{Checked}
-use Rattle.header.specs.declared.Checked.TheVariants.{Sound, Refused}
 use Rattle.stages.specs.Reading.{through_entries, check_of}
 use Rattle.stages.proofs.Cases.{tail_after}
 use Rattle.laws.specs.Meaning.{Exact, gives, check_says, RowsTo9, TailRows, CheckRows}
 use Rattle.laws.proofs.Exactly.{is}
 use Rattle.laws.proofs.Deciding.{rows_then}
 use Rattle.laws.proofs.Tails.{tail_rows}
+use Rattle.std.specs.Prelude.{Result, Ok, Err}
+use Rattle.refusal.specs.declared.Refusal.{Refusal}
 
 -- all rows, 1 to 12
 pub check_exactly : (s : List ℕ) → Bytes s → Exact (check_says (check_of s)) (CheckRows s)
 check_exactly s y =
-    rows_then s (λ f. TailRows s f f.table) (check_says (check_of s)) (λ r e. ap check_says (sym (tail_after s (Refused r) (sym e))))
+    rows_then s (λ f. TailRows s f f.table) (check_says (check_of s)) (λ r e. ap check_says (sym (tail_after s (Err r) (sym e))))
     (λ f e. tail_rows s y f (sym e) f.table refl)
 
 -- rows 1 to 9, of what stands before the tail
@@ -26,10 +26,10 @@ pub to_9_exactly : (s : List ℕ) → Exact (check_says (through_entries s)) (Ro
 to_9_exactly s = rows_then s (λ f a. a ≡ gives f) (check_says (through_entries s)) (λ r e. ap check_says (sym e)) (λ f e. is _ (gives f) (ap check_says (sym e)))
 
 -- a sound font by what is said of it
-pub sound_said : (a : Checked) (f : Font) → check_says a ≡ gives f → a ≡ Sound f
-sound_said (Sound g) f e = let h : g ≡ f = cc in ap Sound h
-sound_said (Refused r) f e = let z : ◌≡◌ {A = ℕ} 0 1 = cc in absurd (omega arith)
+pub sound_said : (a : Result Font Refusal) (f : Font) → check_says a ≡ gives f → a ≡ Ok f
+sound_said (Ok g) f e = let h : g ≡ f = cc in ap Ok h
+sound_said (Err r) f e = let z : ◌≡◌ {A = ℕ} 0 1 = cc in absurd (omega arith)
 
 -- a font that none of rows 1 to 9 applies to passed the stages before its tail
-pub passed_9 : (s : List ℕ) (f : Font) → RowsTo9 s (gives f) → through_entries s ≡ Sound f
+pub passed_9 : (s : List ℕ) (f : Font) → RowsTo9 s (gives f) → through_entries s ≡ Ok f
 passed_9 s f r = sound_said (through_entries s) f ((to_9_exactly s (gives f)).1 r)

@@ -17,13 +17,9 @@ use Rattle.refusal.specs.declared.Reason.TheVariants.{Room}
 use Rattle.refusal.specs.declared.Refusal.{Refusal}
 use Rattle.lookup.specs.Meaning.{Nth}
 use Rattle.header.specs.declared.Font.{Font}
-use Rattle.header.specs.declared.Checked.{Checked}
-use Rattle.header.specs.declared.Checked.TheVariants.{Sound, Refused}
 use Rattle.stages.specs.Reading.{check_of}
 use Rattle.content.proofs.Source.{is_placed}
 use Rattle.content.specs.Meaning.{Content, HasContent, SameContent}
-use Rattle.differences.specs.declared.Compared.{Compared}
-use Rattle.differences.specs.declared.Compared.TheVariants.{Pairs, Refused as NotCompared}
 use Rattle.differences.specs.Meaning.{numbers}
 use Rattle.differences.specs.Reading.{pairs_of, fitted, compared_with, compared_by, compare_answer, found_with, found_by, differences_of, left_by, compare_into}
 use Rattle.differences.proofs.Pairs.{numbers_length}
@@ -32,18 +28,21 @@ use Rattle.laws.specs.Meaning.{Exact, gives, refuses, told, Before, Each, Ordere
 use Rattle.laws.proofs.Exactly.{is, row, own_first, less, clash}
 use Rattle.laws.proofs.Pairing.{In}
 use Rattle.laws.proofs.Differing.{none_exactly, same_self}
+use Rattle.std.specs.Prelude.{Result, Ok, Err}
+use Rattle.differences.specs.declared.Uncompared.{Uncompared}
+use Rattle.differences.specs.declared.Uncompared.TheVariants.{First, Second, Neither}
 
 -- the answer on any two files
 module _ (s o : List ℕ) (room : ℕ) where
-  first_refused : (r : Refusal) → check_of s ≡ Refused r → compare_answer s o room ≡ NotCompared 1 r
+  first_refused : (r : Refusal) → check_of s ≡ Err r → compare_answer s o room ≡ Err (First r)
   unfolding compare_answer
   first_refused r e = ap (compared_by s o room) e
 
-  second_refused : (f : Font) (r : Refusal) → check_of s ≡ Sound f → check_of o ≡ Refused r → compare_answer s o room ≡ NotCompared 2 r
+  second_refused : (f : Font) (r : Refusal) → check_of s ≡ Ok f → check_of o ≡ Err r → compare_answer s o room ≡ Err (Second r)
   unfolding compare_answer
   second_refused f r e q = ap (compared_by s o room) e ∙ ap (compared_with s f o room) q
 
-  both_sound : (f h : Font) → check_of s ≡ Sound f → check_of o ≡ Sound h → compare_answer s o room ≡ fitted room (length (differences_of s o))
+  both_sound : (f h : Font) → check_of s ≡ Ok f → check_of o ≡ Ok h → compare_answer s o room ≡ fitted room (length (differences_of s o))
   unfolding compare_answer differences_of
   both_sound f h e q =
       let d : differences_of s o ≡ pairs_of s f o h = ap (found_by s o) e ∙ ap (found_with s f o) q in
@@ -69,64 +68,64 @@ module _ (s o : List ℕ) (room : ℕ) where
   unfolding fitted when
   fitted_whose n = go (ltb room (2 * n))
     where
-      go : (t : Bool) → whose_refusal (when t (NotCompared 0 (refusal Room (2 * n))) (Pairs n)) ≡ 0
+      go : (t : Bool) → whose_refusal (when t (Err (Neither (refusal Room (2 * n)))) (Ok n)) ≡ 0
       go true = refl
       go false = refl
 
   abbrev Whose : ℕ → Type 0
   Whose w =
-      ((w ≡ 1) × ((r : Refusal) × (check_of s ≡ Refused r)))
-      ⊎ (((w ≡ 2) × ((f : Font) × (check_of s ≡ Sound f)) × ((r : Refusal) × (check_of o ≡ Refused r)))
-      ⊎ ((w ≡ 0) × ((f : Font) × (check_of s ≡ Sound f)) × ((f : Font) × (check_of o ≡ Sound f))))
+      ((w ≡ 1) × ((r : Refusal) × (check_of s ≡ Err r)))
+      ⊎ (((w ≡ 2) × ((f : Font) × (check_of s ≡ Ok f)) × ((r : Refusal) × (check_of o ≡ Err r)))
+      ⊎ ((w ≡ 0) × ((f : Font) × (check_of s ≡ Ok f)) × ((f : Font) × (check_of o ≡ Ok f))))
 
   whose : Whose (whose_refusal (compare_answer s o room))
   whose = go (check_of s) (check_of o) refl refl
     where
-      go : (x z : Checked) → check_of s ≡ x → check_of o ≡ z → Whose (whose_refusal (compare_answer s o room))
-      go (Refused r) z e q = inl (ap whose_refusal (first_refused r e), (r, e))
-      go (Sound f) (Refused r) e q = inr (inl (ap whose_refusal (second_refused f r e q), (f, e), (r, q)))
-      go (Sound f) (Sound h) e q = inr (inr (ap whose_refusal (both_sound f h e q) ∙ fitted_whose (length (differences_of s o)), (f, e), (h, q)))
+      go : (x z : Result Font Refusal) → check_of s ≡ x → check_of o ≡ z → Whose (whose_refusal (compare_answer s o room))
+      go (Err r) z e q = inl (ap whose_refusal (first_refused r e), (r, e))
+      go (Ok f) (Err r) e q = inr (inl (ap whose_refusal (second_refused f r e q), (f, e), (r, q)))
+      go (Ok f) (Ok h) e q = inr (inr (ap whose_refusal (both_sound f h e q) ∙ fitted_whose (length (differences_of s o)), (f, e), (h, q)))
 
-  pub first_whose : (whose_refusal (compare_answer s o room) ≡ 1) ↔ ((r : Refusal) × (check_of s ≡ Refused r))
+  pub first_whose : (whose_refusal (compare_answer s o room) ≡ 1) ↔ ((r : Refusal) × (check_of s ≡ Err r))
   first_whose = (λ w. there w whose, λ q. ap whose_refusal (first_refused q.0 q.1))
     where
-      there : whose_refusal (compare_answer s o room) ≡ 1 → Whose (whose_refusal (compare_answer s o room)) → (r : Refusal) × (check_of s ≡ Refused r)
+      there : whose_refusal (compare_answer s o room) ≡ 1 → Whose (whose_refusal (compare_answer s o room)) → (r : Refusal) × (check_of s ≡ Err r)
       there w (inl p) = p.1
       there w (inr (inl p)) = absurd (omega (arith, w, p.0))
       there w (inr (inr p)) = absurd (omega (arith, w, p.0))
 
-  pub second_whose : (whose_refusal (compare_answer s o room) ≡ 2) ↔ (((f : Font) × (check_of s ≡ Sound f)) × ((r : Refusal) × (check_of o ≡ Refused r)))
+  pub second_whose : (whose_refusal (compare_answer s o room) ≡ 2) ↔ (((f : Font) × (check_of s ≡ Ok f)) × ((r : Refusal) × (check_of o ≡ Err r)))
   second_whose = (λ w. there w whose, λ q. ap whose_refusal (second_refused q.0.0 q.1.0 q.0.1 q.1.1))
     where
-      there : whose_refusal (compare_answer s o room) ≡ 2 → Whose (whose_refusal (compare_answer s o room)) → ((f : Font) × (check_of s ≡ Sound f)) × ((r : Refusal) × (check_of o ≡ Refused r))
+      there : whose_refusal (compare_answer s o room) ≡ 2 → Whose (whose_refusal (compare_answer s o room)) → ((f : Font) × (check_of s ≡ Ok f)) × ((r : Refusal) × (check_of o ≡ Err r))
       there w (inl p) = absurd (omega (arith, w, p.0))
       there w (inr (inl p)) = (p.1, p.2)
       there w (inr (inr p)) = absurd (omega (arith, w, p.0))
 
-  pub neither_whose : (whose_refusal (compare_answer s o room) ≡ 0) ↔ (((f : Font) × (check_of s ≡ Sound f)) × ((f : Font) × (check_of o ≡ Sound f)))
+  pub neither_whose : (whose_refusal (compare_answer s o room) ≡ 0) ↔ (((f : Font) × (check_of s ≡ Ok f)) × ((f : Font) × (check_of o ≡ Ok f)))
   neither_whose = (λ w. there w whose, λ q. ap whose_refusal (both_sound q.0.0 q.1.0 q.0.1 q.1.1) ∙ fitted_whose (length (differences_of s o)))
     where
-      there : whose_refusal (compare_answer s o room) ≡ 0 → Whose (whose_refusal (compare_answer s o room)) → ((f : Font) × (check_of s ≡ Sound f)) × ((f : Font) × (check_of o ≡ Sound f))
+      there : whose_refusal (compare_answer s o room) ≡ 0 → Whose (whose_refusal (compare_answer s o room)) → ((f : Font) × (check_of s ≡ Ok f)) × ((f : Font) × (check_of o ≡ Ok f))
       there w (inl p) = absurd (omega (arith, w, p.0))
       there w (inr (inl p)) = absurd (omega (arith, w, p.0))
       there w (inr (inr p)) = (p.1, p.2)
 
   -- with no differences there is room for all of them
-  pub answers_none : (f h : Font) → check_of s ≡ Sound f → check_of o ≡ Sound h → differences_of s o ≡ [] → compared_says (compare_answer s o room) ≡ gives 0
+  pub answers_none : (f h : Font) → check_of s ≡ Ok f → check_of o ≡ Ok h → differences_of s o ≡ [] → compared_says (compare_answer s o room) ≡ gives 0
   answers_none f h e q z = ap compared_says (both_sound f h e q ∙ ap (λ (ps : List (ℕ × ℕ)). fitted room (length ps)) z ∙ sym (has_room room 0 (omega arith)))
 
 -- what is left in a buffer
 module _ (s o xs : List ℕ) where
-  left_as : (c : Compared) → compare_answer s o (length xs) ≡ c → compare_into s o xs ≡ left_by c (differences_of s o) xs
+  left_as : (c : Result ℕ Uncompared) → compare_answer s o (length xs) ≡ c → compare_into s o xs ≡ left_by c (differences_of s o) xs
   unfolding compare_into
-  left_as c e = ap (λ (x : Compared). left_by x (differences_of s o) xs) e
+  left_as c e = ap (λ (x : Result ℕ Uncompared). left_by x (differences_of s o) xs) e
 
   pub untouched : (number p : ℕ) → compared_says (compare_answer s o (length xs)) ≡ refuses number p → compare_into s o xs ≡ xs
   untouched number p e = go (compare_answer s o (length xs)) refl
     where
-      go : (c : Compared) → compare_answer s o (length xs) ≡ c → compare_into s o xs ≡ xs
-      go (Pairs n) q = let w : gives n ≡ refuses number p = ap compared_says (sym q) ∙ e in let z : ◌≡◌ {A = ℕ} 0 1 = cc in absurd (omega arith)
-      go (NotCompared w r) q = left_as (NotCompared w r) q
+      go : (c : Result ℕ Uncompared) → compare_answer s o (length xs) ≡ c → compare_into s o xs ≡ xs
+      go (Ok n) q = let w : gives n ≡ refuses number p = ap compared_says (sym q) ∙ e in let z : ◌≡◌ {A = ℕ} 0 1 = cc in absurd (omega arith)
+      go (Err u) q = left_as (Err u) q
 
   laid : (ps : List (ℕ × ℕ)) → 2 * length ps ≤ length xs → Listed ps xs (over (numbers ps) xs)
   unfolding over
@@ -138,30 +137,35 @@ module _ (s o xs : List ℕ) where
         whole = length_over (numbers ps) xs (omega (arith, e, l));
       }
 
+  never_given : (u : Uncompared) (n : ℕ) → compared_says (Err u) ≡ gives n → ⊥
+  never_given (First r) n e = let z : ◌≡◌ {A = ℕ} 0 1 = cc in absurd (omega arith)
+  never_given (Second r) n e = let z : ◌≡◌ {A = ℕ} 0 1 = cc in absurd (omega arith)
+  never_given (Neither r) n e = let z : ◌≡◌ {A = ℕ} 0 1 = cc in absurd (omega arith)
+
   pub listed : (n : ℕ) → compared_says (compare_answer s o (length xs)) ≡ gives n → (n ≡ length (differences_of s o)) × Listed (differences_of s o) xs (compare_into s o xs)
   listed n e = go (check_of s) (check_of o) refl refl
     where
-      refused_not : (c : Compared) (w : ℕ) (r : Refusal) → compare_answer s o (length xs) ≡ NotCompared w r → ⊥
-      refused_not c w r q = let v : told r ≡ gives n = ap compared_says (sym q) ∙ e in let z : ◌≡◌ {A = ℕ} 0 1 = cc in absurd (omega arith)
+      refused_not : (u : Uncompared) → compare_answer s o (length xs) ≡ Err u → ⊥
+      refused_not u q = never_given u n (ap compared_says (sym q) ∙ e)
 
-      room_or_not : (f h : Font) → check_of s ≡ Sound f → check_of o ≡ Sound h → (length xs < 2 * length (differences_of s o)) ⊎ (2 * length (differences_of s o) ≤ length xs) →
+      room_or_not : (f h : Font) → check_of s ≡ Ok f → check_of o ≡ Ok h → (length xs < 2 * length (differences_of s o)) ⊎ (2 * length (differences_of s o) ≤ length xs) →
           (n ≡ length (differences_of s o)) × Listed (differences_of s o) xs (compare_into s o xs)
-      room_or_not f h a b (inl l) = absurd (refused_not (Pairs n) 0 _ (both_sound s o (length xs) f h a b ∙ sym (no_room (length xs) (length (differences_of s o)) l)))
+      room_or_not f h a b (inl l) = absurd (refused_not (Neither _) (both_sound s o (length xs) f h a b ∙ sym (no_room (length xs) (length (differences_of s o)) l)))
       room_or_not f h a b (inr l) =
           let q = both_sound s o (length xs) f h a b ∙ sym (has_room (length xs) (length (differences_of s o)) l) in
           let v : gives n ≡ gives (length (differences_of s o)) = sym e ∙ ap compared_says q in
-          (given_same n _ v, subst (Listed (differences_of s o) xs) (sym (left_as (Pairs (length (differences_of s o))) q)) (laid (differences_of s o) l))
+          (given_same n _ v, subst (Listed (differences_of s o) xs) (sym (left_as (Ok (length (differences_of s o))) q)) (laid (differences_of s o) l))
         where
           given_same : (i j : ℕ) → gives i ≡ gives j → i ≡ j
           given_same i j w = cc
 
-      go : (x z : Checked) → check_of s ≡ x → check_of o ≡ z → (n ≡ length (differences_of s o)) × Listed (differences_of s o) xs (compare_into s o xs)
-      go (Refused r) z a b = absurd (refused_not (Pairs n) 1 r (first_refused s o (length xs) r a))
-      go (Sound f) (Refused r) a b = absurd (refused_not (Pairs n) 2 r (second_refused s o (length xs) f r a b))
-      go (Sound f) (Sound h) a b = room_or_not f h a b (below (length xs) (2 * length (differences_of s o)))
+      go : (x z : Result Font Refusal) → check_of s ≡ x → check_of o ≡ z → (n ≡ length (differences_of s o)) × Listed (differences_of s o) xs (compare_into s o xs)
+      go (Err r) z a b = absurd (refused_not (First r) (first_refused s o (length xs) r a))
+      go (Ok f) (Err r) a b = absurd (refused_not (Second r) (second_refused s o (length xs) f r a b))
+      go (Ok f) (Ok h) a b = room_or_not f h a b (below (length xs) (2 * length (differences_of s o)))
 
 -- no more pairs than glyphs together
-pub count_most : (s o : List ℕ) (f h : Font) → Bytes s → Bytes o → check_of s ≡ Sound f → check_of o ≡ Sound h → length (differences_of s o) ≤ f.count + h.count
+pub count_most : (s o : List ℕ) (f h : Font) → Bytes s → Bytes o → check_of s ≡ Ok f → check_of o ≡ Ok h → length (differences_of s o) ≤ f.count + h.count
 unfolding differences_of
 count_most s o f h ys yo e q =
     let d : differences_of s o ≡ pairs_of s f o h = ap (found_by s o) e ∙ ap (found_with s f o) q in

@@ -9,7 +9,6 @@ use lib.ListN.{length, take}
 use Rattle.base.specs.Meaning.{Bytes}
 use Rattle.header.specs.declared.Kind.TheVariants.{Psf1, Psf2}
 use Rattle.header.specs.declared.Font.{Font}
-use Rattle.header.specs.declared.Checked.TheVariants.{Sound}
 use Rattle.header.specs.Meaning.{char_size}
 use Rattle.stages.specs.Reading.{check_of}
 use Rattle.content.specs.Meaning.{Plain}
@@ -21,6 +20,7 @@ use Rattle.laws.specs.Meaning.{Exact, gives, refuses, converted_says, Conversion
 use Rattle.laws.proofs.Converting as inner
 use Rattle.laws.proofs.Converting.{stays, wrote_said, refused_said}
 use Rattle.laws.proofs.Refusing.{conversion_rows}
+use Rattle.std.specs.Prelude.{Ok}
 
 -- the font's own refusal, 17 to 21 in their order, each exactly when its row says, and else the output is written and its length answered
 pub conversion_exactly : (c : Conversion) (s : List ℕ) (m : ℕ) → Bytes s → Exact (converted_says (converted_of c s m)) (ConversionRows c s m)
@@ -47,7 +47,7 @@ module _ (c : Conversion) (s xs : List ℕ) where
 module _ (c d : Conversion) (s xs ys : List ℕ) (n k : ℕ) (y : Bytes s) (there : converted_says (converted_of c s (length xs)) ≡ gives n)
     (back : converted_says (converted_of d (take n (converted_into c s xs)) (length ys)) ≡ gives k) where
   -- any there and back keeps what the font has: "glyphs, metrics and mappings are the same"
-  pub back_keeps : (f : Font) × (check_of s ≡ Sound f) × Keeps s f (take k (converted_into d (take n (converted_into c s xs)) ys)) (target_kind d)
+  pub back_keeps : (f : Font) × (check_of s ≡ Ok f) × Keeps s f (take k (converted_into d (take n (converted_into c s xs)) ys)) (target_kind d)
   back_keeps = inner.back_keeps c d s xs ys n k y (wrote_said _ n there) (wrote_said _ k back)
 
   -- "A PSF2 file with header size 32, converted either way and back where both steps are accepted, gives its own bytes again. So, likewise,

@@ -15,19 +15,13 @@ use Rattle.coding.specs.declared.Coding.TheVariants.{Utf8, Ucs2}
 use Rattle.table.specs.Meaning.{Desc, encode, Readable}
 use Rattle.table.specs.Reading.{items_in}
 use Rattle.table.proofs.Meaning.{items_read}
-use Rattle.transcode.specs.declared.Measured.TheVariants.{Length}
 use Rattle.transcode.proofs.Meaning.{recoded_table}
 use Rattle.header.specs.declared.Kind.{Kind}
 use Rattle.header.specs.declared.Kind.TheVariants.{Psf1, Psf2, Vfont2}
 use Rattle.header.specs.declared.Font.{Font}
-use Rattle.header.specs.declared.Checked.TheVariants.{Sound}
 use Rattle.header.specs.Meaning.{limit, row_bytes, glyph_bytes, char_size, header_len}
 use Rattle.entries.specs.Meaning.{entry_at, address_at}
 use Rattle.bitmap.specs.declared.Bitmap.{Bitmap}
-use Rattle.bitmap.specs.declared.Located.{Located}
-use Rattle.bitmap.specs.declared.Located.TheVariants.{Found}
-use Rattle.bitmap.specs.declared.GlyphMetrics.TheVariants.{Is}
-use Rattle.bitmap.specs.declared.Pixel.TheVariants.{Bit}
 use Rattle.bitmap.specs.Meaning.{even_metrics, view_of}
 use Rattle.bitmap.specs.Reading.{bitmap_of, whole_of, row_of, pixel_of, metrics_of}
 use Rattle.bitmap.proofs.Places.{too_high, row_in, row_below, pixel_in, pixel_past, pixel_below}
@@ -49,20 +43,17 @@ use Rattle.content.proofs.Self.{Bare}
 use Rattle.content.proofs.Kept.{rewritten, rewritten_font, rewritten_length, rewritten_bytes, rewritten_as, rewritten_sound, rewritten_tail, rewritten_content, rewritten_again, rewritten_back}
 use Rattle.conversion.specs.declared.Conversion.{Conversion}
 use Rattle.conversion.specs.declared.Conversion.TheVariants.{Psf1ToPsf2, Psf2ToPsf1, Psf2ToVfont2, Vfont2ToPsf2}
-use Rattle.conversion.specs.declared.Prepared.{Prepared}
-use Rattle.conversion.specs.declared.Prepared.TheVariants.{Ready, Refused as Unprepared}
 use Rattle.conversion.specs.Meaning.{source_kind, target_kind, front_len}
 use Rattle.conversion.specs.Reading.{table_in, output_of, measured_of, prepared_of}
 use Rattle.conversion.proofs.Cases.{measured_is, suits_is}
 use Rattle.conversion.proofs.Ready.{psf1_suits}
-use Rattle.convert.specs.declared.Converted.{Converted}
-use Rattle.convert.specs.declared.Converted.TheVariants.{Wrote as Written, Refused}
 use Rattle.convert.specs.Reading.{converted_of, converted_into}
 use Rattle.convert.proofs.Cases.{unprepared, no_room, wrote}
 use Rattle.convert.proofs.Asks.{ready, ready_even, ready_long}
 use Rattle.laws.specs.Meaning.{gives, refuses, converted_says, Keeps, Wrote}
 use Rattle.laws.proofs.Asking.{described, read_as, item_with, item_asked, value_with, value_asked, sequence_with, sequence_asked}
 use Rattle.laws.proofs.Located.{part_asked, row_asked, pixel_asked, metrics_asked}
+use Rattle.std.specs.Prelude.{Result, Ok, Err}
 
 -- a table of descriptions is written as the same descriptions in the target's coding
 pub table_encodes : (c : Conversion) (tl : List ℕ) (ds : List Desc) → Readable (coding_of (source_kind c)) ds → tl ≡ encode (coding_of (source_kind c)) ds →
@@ -73,52 +64,52 @@ table_encodes Psf2ToVfont2 tl ds o e = e
 table_encodes Vfont2ToPsf2 tl ds o e = e
 
 -- a table that was measured is carried
-carries : (c : Conversion) (tl : List ℕ) (t : ℕ) → Bytes tl → measured_of c tl ≡ Length t → Carries (coding_of (source_kind c)) (coding_of (target_kind c)) tl (table_in c tl)
+carries : (c : Conversion) (tl : List ℕ) (t : ℕ) → Bytes tl → measured_of c tl ≡ Ok t → Carries (coding_of (source_kind c)) (coding_of (target_kind c)) tl (table_in c tl)
 carries Psf1ToPsf2 tl t y e = recoded_carries Ucs2 Utf8 tl t (measured_is Psf1ToPsf2 Psf1ToPsf2 tl refl ∙ e)
 carries Psf2ToPsf1 tl t y e = recoded_carries Utf8 Ucs2 tl t (measured_is Psf2ToPsf1 Psf2ToPsf1 tl refl ∙ e)
 carries Psf2ToVfont2 tl t y e = same_carries Utf8 Utf8 tl refl y
 carries Vfont2ToPsf2 tl t y e = same_carries Utf8 Utf8 tl refl y
 
 -- glyph g of two fonts, which fills one height and width with the same bytes, is answered alike
-module _ (s : List ℕ) (f : Font) (y : Bytes s) (e : check_of s ≡ Sound f) (g : ℕ) (l : g < f.count) (h w : ℕ) (p : List ℕ) (a : GlyphIs s f g f.kind h w p) where
-  located : bitmap_of s f g ≡ Found (bitmap_in s f g f.kind)
+module _ (s : List ℕ) (f : Font) (y : Bytes s) (e : check_of s ≡ Ok f) (g : ℕ) (l : g < f.count) (h w : ℕ) (p : List ℕ) (a : GlyphIs s f g f.kind h w p) where
+  located : bitmap_of s f g ≡ Ok (bitmap_in s f g f.kind)
   located = glyph_found s f y e g l a.0.0
 
   viewed : view_of s (whole_of (bitmap_of s f g)) ≡ p
-  viewed = ap (λ (b : Located). view_of s (whole_of b)) located ∙ ap (λ (k : ℕ). take k (drop (bitmap_in s f g f.kind).start s)) a.0.4 ∙ a.2
+  viewed = ap (λ (b : Result Bitmap Refusal). view_of s (whole_of b)) located ∙ ap (λ (k : ℕ). take k (drop (bitmap_in s f g f.kind).start s)) a.0.4 ∙ a.2
 
-  measures : metrics_of s f g (bitmap_of s f g) ≡ Is (even_metrics h w)
-  measures = ap (metrics_of s f g) located ∙ ap Is a.0.1
+  measures : metrics_of s f g (bitmap_of s f g) ≡ Ok (even_metrics h w)
+  measures = ap (metrics_of s f g) located ∙ ap Ok a.0.1
 
 -- two bitmaps of one height and width, with the same bytes
 pixels_alike : (s o : List ℕ) (p q : Bitmap) (h w : ℕ) → p.height ≡ h → q.height ≡ h → p.width ≡ w → q.width ≡ w →
-    take (glyph_bytes h w) (drop p.start s) ≡ take (glyph_bytes h w) (drop q.start o) → (y x : ℕ) → pixel_of s (Found p) y x ≡ pixel_of o (Found q) y x
+    take (glyph_bytes h w) (drop p.start s) ≡ take (glyph_bytes h w) (drop q.start o) → (y x : ℕ) → pixel_of s (Ok p) y x ≡ pixel_of o (Ok q) y x
 pixels_alike s o p q h w hp hq wp wq e y x = go (below y h) (below x w)
   where
-    go : (y < h) ⊎ (h ≤ y) → (x < w) ⊎ (w ≤ x) → pixel_of s (Found p) y x ≡ pixel_of o (Found q) y x
+    go : (y < h) ⊎ (h ≤ y) → (x < w) ⊎ (w ≤ x) → pixel_of s (Ok p) y x ≡ pixel_of o (Ok q) y x
     go (inl a) (inl b) =
-        pixel_in s p y x (omega (arith, a, hp)) (omega (arith, b, wp)) ∙ ap Bit (same_pixels s o p q h w wp wq e y x a b)
+        pixel_in s p y x (omega (arith, a, hp)) (omega (arith, b, wp)) ∙ ap Ok (same_pixels s o p q h w wp wq e y x a b)
         ∙ sym (pixel_in o q y x (omega (arith, a, hq)) (omega (arith, b, wq)))
     go (inl a) (inr b) = pixel_past s p y x (omega (arith, a, hp)) (omega (arith, b, wp)) ∙ sym (pixel_past o q y x (omega (arith, a, hq)) (omega (arith, b, wq)))
     go (inr a) b = sym (pixel_below s p y x (omega (arith, a, hp))) ∙ pixel_below o q y x (omega (arith, a, hq))
 
 -- and their rows have the same bytes
 rows_alike : (s o : List ℕ) (p q : Bitmap) (h w : ℕ) → p.height ≡ h → q.height ≡ h → p.width ≡ w → q.width ≡ w →
-    take (glyph_bytes h w) (drop p.start s) ≡ take (glyph_bytes h w) (drop q.start o) → (i : ℕ) → view_of s (row_of (Found p) i) ≡ view_of o (row_of (Found q) i)
+    take (glyph_bytes h w) (drop p.start s) ≡ take (glyph_bytes h w) (drop q.start o) → (i : ℕ) → view_of s (row_of (Ok p) i) ≡ view_of o (row_of (Ok q) i)
 unfolding glyph_bytes
 rows_alike s o p q h w hp hq wp wq e i = go (below i h)
   where
-    row_of_lem : (l : List ℕ) (b : Bitmap) → b.height ≡ h → b.width ≡ w → i < h → view_of l (row_of (Found b) i) ≡ take (row_bytes w) (drop (i * row_bytes w) (take (h * row_bytes w) (drop b.start l)))
+    row_of_lem : (l : List ℕ) (b : Bitmap) → b.height ≡ h → b.width ≡ w → i < h → view_of l (row_of (Ok b) i) ≡ take (row_bytes w) (drop (i * row_bytes w) (take (h * row_bytes w) (drop b.start l)))
     row_of_lem l b eh ew a =
         ap (view_of l) (row_in b i (omega (arith, a, eh))) ∙ ap (λ (v : ℕ). take (row_bytes v) (drop (b.start + i * row_bytes v) l)) ew
         ∙ ap (take (row_bytes w)) (sym (drop-drop (i * row_bytes w) b.start l))
         ∙ sym (part_of_take (row_bytes w) (i * row_bytes w) (h * row_bytes w) (drop b.start l) (nth_within i h (row_bytes w) a))
 
-    go : (i < h) ⊎ (h ≤ i) → view_of s (row_of (Found p) i) ≡ view_of o (row_of (Found q) i)
+    go : (i < h) ⊎ (h ≤ i) → view_of s (row_of (Ok p) i) ≡ view_of o (row_of (Ok q) i)
     go (inl a) = row_of_lem s p hp wp a ∙ ap (λ (x : List ℕ). take (row_bytes w) (drop (i * row_bytes w) x)) e ∙ sym (row_of_lem o q hq wq a)
     go (inr a) = ap (view_of s) (sym (row_below p i (omega (arith, a, hp)))) ∙ ap (view_of o) (row_below q i (omega (arith, a, hq)))
 
-module _ (c : Conversion) (s : List ℕ) (f : Font) (n : ℕ) (y : Bytes s) (e : prepared_of c s ≡ Ready f n) where
+module _ (c : Conversion) (s : List ℕ) (f : Font) (n : ℕ) (y : Bytes s) (e : prepared_of c s ≡ Ok (f , n)) where
   abbrev tl : List ℕ
   tl = table_in c (tail_of s f)
 
@@ -128,7 +119,7 @@ module _ (c : Conversion) (s : List ℕ) (f : Font) (n : ℕ) (y : Bytes s) (e :
   abbrev f' : Font
   f' = rewritten_font s f (target_kind c)
 
-  pub is_sound : check_of s ≡ Sound f
+  pub is_sound : check_of s ≡ Ok f
   is_sound = (ready c s f n y e).sound
 
   pub is_source : f.kind ≡ source_kind c
@@ -163,7 +154,7 @@ module _ (c : Conversion) (s : List ℕ) (f : Font) (n : ℕ) (y : Bytes s) (e :
   out_bytes : Bytes o
   out_bytes = rewritten_bytes s f y is_sound (target_kind c) tl (carried.tail f.table f.count (tail_known s f y is_sound)).1
 
-  out_sound : check_of o ≡ Sound f'
+  out_sound : check_of o ≡ Ok f'
   out_sound = rewritten_sound s f y is_sound (ready_even c s f n y e) (target_kind c) tl shape carried short
 
   out_is : (f'.kind ≡ target_kind c) × (f'.count ≡ f.count) × (f'.height ≡ f.height) × (f'.table ≡ f.table)
@@ -204,31 +195,31 @@ module _ (c : Conversion) (s : List ℕ) (f : Font) (n : ℕ) (y : Bytes s) (e :
 
     pixels_kept : (i j : ℕ) → pixel_of o (bitmap_of o f' g) i j ≡ pixel_of s (bitmap_of s f g) i j
     pixels_kept i j =
-        ap (λ (b : Located). pixel_of o b i j) (located o f' out_bytes out_sound g below_out f.height f.width part is)
+        ap (λ (b : Result Bitmap Refusal). pixel_of o b i j) (located o f' out_bytes out_sound g below_out f.height f.width part is)
         ∙ pixels_alike o s (bitmap_in o f' g f'.kind) (bitmap_in s f g f.kind) f.height f.width is.0.2 was.0.2 is.0.3 was.0.3 (is.2 ∙ sym was.2) i j
-        ∙ sym (ap (λ (b : Located). pixel_of s b i j) (located s f y is_sound g l f.height f.width part was))
+        ∙ sym (ap (λ (b : Result Bitmap Refusal). pixel_of s b i j) (located s f y is_sound g l f.height f.width part was))
 
     rows_kept : (i : ℕ) → view_of o (row_of (bitmap_of o f' g) i) ≡ view_of s (row_of (bitmap_of s f g) i)
     rows_kept i =
-        ap (λ (b : Located). view_of o (row_of b i)) (located o f' out_bytes out_sound g below_out f.height f.width part is)
+        ap (λ (b : Result Bitmap Refusal). view_of o (row_of b i)) (located o f' out_bytes out_sound g below_out f.height f.width part is)
         ∙ rows_alike o s (bitmap_in o f' g f'.kind) (bitmap_in s f g f.kind) f.height f.width is.0.2 was.0.2 is.0.3 was.0.3 (is.2 ∙ sym was.2) i
-        ∙ sym (ap (λ (b : Located). view_of s (row_of b i)) (located s f y is_sound g l f.height f.width part was))
+        ∙ sym (ap (λ (b : Result Bitmap Refusal). view_of s (row_of b i)) (located s f y is_sound g l f.height f.width part was))
 
   -- and those that neither has
   glyph_any : (g : ℕ) → (g < f.count) ⊎ (f.count ≤ g) → view_of o (whole_of (bitmap_of o f' g)) ≡ view_of s (whole_of (bitmap_of s f g))
   glyph_any g (inl l) = glyph_kept g l
   glyph_any g (inr h) =
-      ap (λ (b : Located). view_of o (whole_of b)) (sym (too_high o f' g (omega (arith, h, out_is.1)))) ∙ ap (λ (b : Located). view_of s (whole_of b)) (too_high s f g h)
+      ap (λ (b : Result Bitmap Refusal). view_of o (whole_of b)) (sym (too_high o f' g (omega (arith, h, out_is.1)))) ∙ ap (λ (b : Result Bitmap Refusal). view_of s (whole_of b)) (too_high s f g h)
 
   pixels_any : (g : ℕ) → (g < f.count) ⊎ (f.count ≤ g) → (i j : ℕ) → pixel_of o (bitmap_of o f' g) i j ≡ pixel_of s (bitmap_of s f g) i j
   pixels_any g (inl l) i j = pixels_kept g l i j
   pixels_any g (inr h) i j =
-      ap (λ (b : Located). pixel_of o b i j) (sym (too_high o f' g (omega (arith, h, out_is.1)))) ∙ ap (λ (b : Located). pixel_of s b i j) (too_high s f g h)
+      ap (λ (b : Result Bitmap Refusal). pixel_of o b i j) (sym (too_high o f' g (omega (arith, h, out_is.1)))) ∙ ap (λ (b : Result Bitmap Refusal). pixel_of s b i j) (too_high s f g h)
 
   rows_any : (g : ℕ) → (g < f.count) ⊎ (f.count ≤ g) → (i : ℕ) → view_of o (row_of (bitmap_of o f' g) i) ≡ view_of s (row_of (bitmap_of s f g) i)
   rows_any g (inl l) i = rows_kept g l i
   rows_any g (inr h) i =
-      ap (λ (b : Located). view_of o (row_of b i)) (sym (too_high o f' g (omega (arith, h, out_is.1)))) ∙ ap (λ (b : Located). view_of s (row_of b i)) (too_high s f g h)
+      ap (λ (b : Result Bitmap Refusal). view_of o (row_of b i)) (sym (too_high o f' g (omega (arith, h, out_is.1)))) ∙ ap (λ (b : Result Bitmap Refusal). view_of s (row_of b i)) (too_high s f g h)
 
   metrics_any : (g : ℕ) → (g < f.count) ⊎ (f.count ≤ g) → metrics_of o f' g (bitmap_of o f' g) ≡ metrics_of s f g (bitmap_of s f g)
   metrics_any g (inl l) = metrics_kept g l
@@ -287,16 +278,16 @@ module _ (c : Conversion) (s : List ℕ) (f : Font) (n : ℕ) (y : Bytes s) (e :
   output_bytes = subst Bytes (sym output_rewritten) out_bytes
 
 -- a file is one font
-pub one_font : (x : List ℕ) (a b : Font) → check_of x ≡ Sound a → check_of x ≡ Sound b → a ≡ b
-one_font x a b p r = let z : Sound a ≡ Sound b = sym p ∙ r in cc
+pub one_font : (x : List ℕ) (a b : Font) → check_of x ≡ Ok a → check_of x ≡ Ok b → a ≡ b
+one_font x a b p r = let z : Ok a ≡ Ok b = sym p ∙ r in cc
 
 -- written back as the kind that it was, it is the file that it was
-module _ (c d : Conversion) (s : List ℕ) (f : Font) (n : ℕ) (y : Bytes s) (e : prepared_of c s ≡ Ready f n) (g : Font) (k : ℕ) (q : prepared_of d (output_of c s f) ≡ Ready g k)
+module _ (c d : Conversion) (s : List ℕ) (f : Font) (n : ℕ) (y : Bytes s) (e : prepared_of c s ≡ Ok (f , n)) (g : Font) (k : ℕ) (q : prepared_of d (output_of c s f) ≡ Ok (g , k))
     (same : target_kind d ≡ source_kind c) where
   abbrev out : List ℕ
   out = output_of c s f
 
-  out_font : check_of (output_of c s f) ≡ Sound (rewritten_font s f (target_kind c))
+  out_font : check_of (output_of c s f) ≡ Ok (rewritten_font s f (target_kind c))
   out_font = ap check_of (output_rewritten c s f n y e) ∙ out_sound c s f n y e
 
   the_font : g ≡ rewritten_font s f (target_kind c)
@@ -346,7 +337,7 @@ module _ (c d : Conversion) (s : List ℕ) (f : Font) (n : ℕ) (y : Bytes s) (e
       (subst Bare (sym src) b) (subst (Plain s) (sym src) p) tail_again tail_same
 
 -- what is kept twice is kept
-pub keeps_twice : (s o p : List ℕ) (f g : Font) (j k : Kind) → Keeps s f o j → check_of o ≡ Sound g → Keeps o g p k → Keeps s f p k
+pub keeps_twice : (s o p : List ℕ) (f g : Font) (j k : Kind) → Keeps s f o j → check_of o ≡ Ok g → Keeps o g p k → Keeps s f p k
 keeps_twice s o p f g j k a e b =
     join (subst (λ (x : Font). Keeps o x p k) (one_font o g a.font e a.sound) b)
   where
@@ -369,7 +360,7 @@ keeps_twice s o p f g j k a e b =
       content = λ m h. b.content m (a.content m h);
     }
 
-not_both : {A : Type 0} (x : Converted) (n : ℕ) (r : Refusal) → x ≡ Written n → x ≡ Refused r → A
+not_both : {A : Type 0} (x : Result ℕ Refusal) (n : ℕ) (r : Refusal) → x ≡ Ok n → x ≡ Err r → A
 not_both x n r e q = let z : ◌≡◌ {A = ℕ} 0 1 = cc in absurd (omega arith)
 
 -- the front and the rest of a buffer over which something was laid
@@ -390,34 +381,34 @@ rest_is p xs n e = rest_from p xs n (omega arith)
 -- the answer and the buffer
 module _ (c : Conversion) (s xs : List ℕ) where
   -- a refused conversion leaves the buffer as it was
-  pub stays : (r : Refusal) → converted_of c s (length xs) ≡ Refused r → converted_into c s xs ≡ xs
+  pub stays : (r : Refusal) → converted_of c s (length xs) ≡ Err r → converted_into c s xs ≡ xs
   stays r e = go (prepared_of c s) refl
     where
-      by_room : (f : Font) (n : ℕ) → prepared_of c s ≡ Ready f n → (length xs < n) ⊎ (n ≤ length xs) → converted_into c s xs ≡ xs
+      by_room : (f : Font) (n : ℕ) → prepared_of c s ≡ Ok (f , n) → (length xs < n) ⊎ (n ≤ length xs) → converted_into c s xs ≡ xs
       by_room f n q (inl l) = sym (no_room c s xs f n q l).1
       by_room f n q (inr l) = not_both _ n r (sym (wrote c s xs f n q l).0) e
 
-      go : (p : Prepared) → prepared_of c s ≡ p → converted_into c s xs ≡ xs
-      go (Ready f n) q = by_room f n q (below (length xs) n)
-      go (Unprepared u) q = sym (unprepared c s xs u q).1
+      go : (p : Result (Font × ℕ) Refusal) → prepared_of c s ≡ p → converted_into c s xs ≡ xs
+      go (Ok (f , n)) q = by_room f n q (below (length xs) n)
+      go (Err u) q = sym (unprepared c s xs u q).1
 
   -- an answer that something was written comes from a font that the conversion was ready for
-  pub readied : (n : ℕ) → converted_of c s (length xs) ≡ Written n → (f : Font) × (prepared_of c s ≡ Ready f n) × (converted_into c s xs ≡ over (output_of c s f) xs)
+  pub readied : (n : ℕ) → converted_of c s (length xs) ≡ Ok n → (f : Font) × (prepared_of c s ≡ Ok (f , n)) × (converted_into c s xs ≡ over (output_of c s f) xs)
   readied n e = go (prepared_of c s) refl
     where
-      same_length : (k : ℕ) → Written k ≡ Written n → k ≡ n
+      same_length : (k : ℕ) → ◌≡◌ {A = Result ℕ Refusal} (Ok k) (Ok n) → k ≡ n
       same_length k z = cc
 
-      by_room : (f : Font) (k : ℕ) → prepared_of c s ≡ Ready f k → (length xs < k) ⊎ (k ≤ length xs) →
-          (f : Font) × (prepared_of c s ≡ Ready f n) × (converted_into c s xs ≡ over (output_of c s f) xs)
+      by_room : (f : Font) (k : ℕ) → prepared_of c s ≡ Ok (f , k) → (length xs < k) ⊎ (k ≤ length xs) →
+          (f : Font) × (prepared_of c s ≡ Ok (f , n)) × (converted_into c s xs ≡ over (output_of c s f) xs)
       by_room f k q (inl l) = not_both _ n _ e (sym (no_room c s xs f k q l).0)
-      by_room f k q (inr l) = let w = wrote c s xs f k q l in (f, q ∙ ap (Ready f) (same_length k (w.0 ∙ e)), sym w.1)
+      by_room f k q (inr l) = let w = wrote c s xs f k q l in (f, q ∙ ap (λ (m : ℕ). Ok (f , m)) (same_length k (w.0 ∙ e)), sym w.1)
 
-      go : (p : Prepared) → prepared_of c s ≡ p → (f : Font) × (prepared_of c s ≡ Ready f n) × (converted_into c s xs ≡ over (output_of c s f) xs)
-      go (Ready f k) q = by_room f k q (below (length xs) k)
-      go (Unprepared u) q = not_both _ n u e (sym (unprepared c s xs u q).0)
+      go : (p : Result (Font × ℕ) Refusal) → prepared_of c s ≡ p → (f : Font) × (prepared_of c s ≡ Ok (f , n)) × (converted_into c s xs ≡ over (output_of c s f) xs)
+      go (Ok (f , k)) q = by_room f k q (below (length xs) k)
+      go (Err u) q = not_both _ n u e (sym (unprepared c s xs u q).0)
 
-  module _ (n : ℕ) (y : Bytes s) (e : converted_of c s (length xs) ≡ Written n) where
+  module _ (n : ℕ) (y : Bytes s) (e : converted_of c s (length xs) ≡ Ok n) where
     -- the first n bytes are the output
     pub output_is : take n (converted_into c s xs) ≡ output_of c s (readied n e).0
     output_is =
@@ -425,16 +416,16 @@ module _ (c : Conversion) (s xs : List ℕ) where
         ap (take n) w.2 ∙ front_is (output_of c s w.0) xs n (output_length c s w.0 n y w.1)
 
 -- an answer by what it says
-pub wrote_said : (x : Converted) (n : ℕ) → converted_says x ≡ gives n → x ≡ Written n
-wrote_said (Written k) n e = let h : k ≡ n = cc in ap Written h
-wrote_said (Refused r) n e = let z : ◌≡◌ {A = ℕ} 0 1 = cc in absurd (omega arith)
+pub wrote_said : (x : Result ℕ Refusal) (n : ℕ) → converted_says x ≡ gives n → x ≡ Ok n
+wrote_said (Ok k) n e = let h : k ≡ n = cc in ap Ok h
+wrote_said (Err r) n e = let z : ◌≡◌ {A = ℕ} 0 1 = cc in absurd (omega arith)
 
-pub refused_said : (x : Converted) (n p : ℕ) → converted_says x ≡ refuses n p → (r : Refusal) × (x ≡ Refused r)
-refused_said (Written k) n p e = let z : ◌≡◌ {A = ℕ} 0 1 = cc in absurd (omega arith)
-refused_said (Refused r) n p e = (r, refl)
+pub refused_said : (x : Result ℕ Refusal) (n p : ℕ) → converted_says x ≡ refuses n p → (r : Refusal) × (x ≡ Err r)
+refused_said (Ok k) n p e = let z : ◌≡◌ {A = ℕ} 0 1 = cc in absurd (omega arith)
+refused_said (Err r) n p e = (r, refl)
 
 module _ (c : Conversion) (s xs : List ℕ) where
-  module _ (n : ℕ) (y : Bytes s) (e : converted_of c s (length xs) ≡ Written n) where
+  module _ (n : ℕ) (y : Bytes s) (e : converted_of c s (length xs) ≡ Ok n) where
     -- what was written
     pub means : Wrote c s n xs (converted_into c s xs)
     means =
@@ -453,23 +444,23 @@ module _ (c : Conversion) (s xs : List ℕ) where
         }
 
 -- there and back, where both steps are accepted: xs and ys are the two buffers
-module _ (c d : Conversion) (s xs ys : List ℕ) (n k : ℕ) (y : Bytes s) (e : converted_of c s (length xs) ≡ Written n)
-    (q : converted_of d (take n (converted_into c s xs)) (length ys) ≡ Written k) where
-  pub back_keeps : (f : Font) × (check_of s ≡ Sound f) × Keeps s f (take k (converted_into d (take n (converted_into c s xs)) ys)) (target_kind d)
+module _ (c d : Conversion) (s xs ys : List ℕ) (n k : ℕ) (y : Bytes s) (e : converted_of c s (length xs) ≡ Ok n)
+    (q : converted_of d (take n (converted_into c s xs)) (length ys) ≡ Ok k) where
+  pub back_keeps : (f : Font) × (check_of s ≡ Ok f) × Keeps s f (take k (converted_into d (take n (converted_into c s xs)) ys)) (target_kind d)
   back_keeps =
       let a = means c s xs n y e in
       let b = means d (take n (converted_into c s xs)) ys k a.octets q in
       (a.font, a.sound, keeps_twice s (take n (converted_into c s xs)) _ a.font b.font (target_kind c) (target_kind d) a.keeps b.sound b.keeps)
 
   -- the second output is the first's, converted
-  back_is : (f g : Font) × (prepared_of c s ≡ Ready f n) × (prepared_of d (output_of c s f) ≡ Ready g k)
+  back_is : (f g : Font) × (prepared_of c s ≡ Ok (f , n)) × (prepared_of d (output_of c s f) ≡ Ok (g , k))
       × (take k (converted_into d (take n (converted_into c s xs)) ys) ≡ output_of d (output_of c s f) g)
   back_is =
       let w = readied c s xs n e in
       let f = w.0 in
       let o = output_of c s f in
       let z : take n (converted_into c s xs) ≡ o = output_is c s xs n y e in
-      let q' : converted_of d o (length ys) ≡ Written k = subst (λ (x : List ℕ). converted_of d x (length ys) ≡ Written k) z q in
+      let q' : converted_of d o (length ys) ≡ Ok k = subst (λ (x : List ℕ). converted_of d x (length ys) ≡ Ok k) z q in
       let v = readied d o ys k q' in
       (f, v.0, w.1, v.1, ap (λ (x : List ℕ). take k (converted_into d x ys)) z ∙ output_is d o ys k (output_bytes c s f n y w.1) q')
 
@@ -480,7 +471,7 @@ module _ (c d : Conversion) (s xs ys : List ℕ) (n k : ℕ) (y : Bytes s) (e : 
 
   -- whatever its header, the file comes back as what is written of its own parts
   pub back_again : target_kind d ≡ source_kind c →
-      (f : Font) × (check_of s ≡ Sound f) × (take k (converted_into d (take n (converted_into c s xs)) ys) ≡ rewritten s f f.kind (tail_of s f))
+      (f : Font) × (check_of s ≡ Ok f) × (take k (converted_into d (take n (converted_into c s xs)) ys) ≡ rewritten s f f.kind (tail_of s f))
   back_again same =
       let w = back_is in
       (w.0, is_sound c s w.0 n y w.2, w.4 ∙ output_again c d s w.0 n y w.2 w.1 k w.3 same)

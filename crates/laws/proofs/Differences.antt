@@ -10,7 +10,6 @@ use Rattle.base.specs.Meaning.{Bytes}
 use Rattle.refusal.specs.declared.Refusal.{Refusal}
 use Rattle.lookup.specs.Meaning.{Nth}
 use Rattle.header.specs.declared.Font.{Font}
-use Rattle.header.specs.declared.Checked.TheVariants.{Sound, Refused}
 use Rattle.stages.specs.Reading.{check_of}
 use Rattle.content.specs.Meaning.{Content, HasContent, SameContent}
 use Rattle.content.proofs.Same.{content_exists}
@@ -21,6 +20,7 @@ use Rattle.laws.specs.Meaning.{Exact, gives, refuses, converted_says, compared_s
 use Rattle.laws.proofs.Differing as differing
 use Rattle.laws.proofs.Comparing as comparing
 use Rattle.laws.proofs.Conversions.{means}
+use Rattle.std.specs.Prelude.{Ok, Err}
 
 -- the first font's own refusal, the second's, ROOM with twice the pairs, each exactly when its row says, and else the count of pairs
 pub compare_exactly : (s o : List ℕ) (room : ℕ) → Exact (compared_says (compare_answer s o room)) (CompareRows s o room (length (differences_of s o)))
@@ -29,13 +29,13 @@ compare_exactly = comparing.compare_rows
 -- "the first font's, else the second's, with which one it was": 1 exactly when the first font is refused, 2 exactly when the first is sound and the
 -- second refused, 0 exactly when both are sound
 module _ (s o : List ℕ) (room : ℕ) where
-  pub first_exactly : (whose_refusal (compare_answer s o room) ≡ 1) ↔ ((r : Refusal) × (check_of s ≡ Refused r))
+  pub first_exactly : (whose_refusal (compare_answer s o room) ≡ 1) ↔ ((r : Refusal) × (check_of s ≡ Err r))
   first_exactly = comparing.first_whose s o room
 
-  pub second_exactly : (whose_refusal (compare_answer s o room) ≡ 2) ↔ (((f : Font) × (check_of s ≡ Sound f)) × ((r : Refusal) × (check_of o ≡ Refused r)))
+  pub second_exactly : (whose_refusal (compare_answer s o room) ≡ 2) ↔ (((f : Font) × (check_of s ≡ Ok f)) × ((r : Refusal) × (check_of o ≡ Err r)))
   second_exactly = comparing.second_whose s o room
 
-  pub neither_exactly : (whose_refusal (compare_answer s o room) ≡ 0) ↔ (((f : Font) × (check_of s ≡ Sound f)) × ((f : Font) × (check_of o ≡ Sound f)))
+  pub neither_exactly : (whose_refusal (compare_answer s o room) ≡ 0) ↔ (((f : Font) × (check_of s ≡ Ok f)) × ((f : Font) × (check_of o ≡ Ok f)))
   neither_exactly = comparing.neither_whose s o room
 
 module _ (s o xs : List ℕ) where
@@ -48,7 +48,7 @@ module _ (s o xs : List ℕ) where
   compare_listed = comparing.listed s o xs
 
 -- two fonts have no more pairs than glyphs together, so two numbers for each glyph of both are always room enough
-pub count_most : (s o : List ℕ) (f h : Font) → Bytes s → Bytes o → check_of s ≡ Sound f → check_of o ≡ Sound h → length (differences_of s o) ≤ f.count + h.count
+pub count_most : (s o : List ℕ) (f h : Font) → Bytes s → Bytes o → check_of s ≡ Ok f → check_of o ≡ Ok h → length (differences_of s o) ≤ f.count + h.count
 count_most = comparing.count_most
 
 -- of two sound fonts, by their contents
@@ -72,7 +72,7 @@ module _ (s : List ℕ) (ys : Bytes s) (m : Content) (a : HasContent s m) (o : L
   none_exactly = comparing.none_said s ys m a o yo m' b
 
 -- a font against itself
-pub itself_none : (s : List ℕ) (f : Font) → Bytes s → check_of s ≡ Sound f → (room : ℕ) → compared_says (compare_answer s s room) ≡ gives 0
+pub itself_none : (s : List ℕ) (f : Font) → Bytes s → check_of s ≡ Ok f → (room : ℕ) → compared_says (compare_answer s s room) ≡ gives 0
 itself_none s f y e room = let c = content_exists s f y e in comparing.one_content s y s y c.0 c.1 c.1 room
 
 -- the two fonts swapped: 1 for 2 and 2 for 1, and nothing else different; as many pairs

@@ -19,10 +19,6 @@ use Rattle.table.proofs.EndToEnd.{described_append}
 use Rattle.lookup.specs.Meaning.{Nth}
 use Rattle.refusal.specs.declared.Refusal.{Refusal}
 use Rattle.header.specs.declared.Font.{Font}
-use Rattle.header.specs.declared.Checked.{Checked}
-use Rattle.header.specs.declared.Checked.TheVariants.{Sound, Refused}
-use Rattle.bitmap.specs.declared.Located.{Located}
-use Rattle.bitmap.specs.declared.Located.TheVariants.{Found, Refused as NotLocated}
 use Rattle.bitmap.specs.Reading.{bitmap_of}
 use Rattle.stages.specs.Meaning.{coding_of, tail_of}
 use Rattle.stages.specs.Reading.{check_of}
@@ -38,19 +34,21 @@ use Rattle.differences.proofs.Cases.{from_table, from_end}
 use Rattle.laws.specs.Meaning.{OtherMetrics, OtherPixels, OtherItems, Difference, only_first, only_second, metrics_differ, pixels_differ, items_differ, tables_differ, Ordered, Differences, swap_kind, swapped}
 use Rattle.laws.proofs.Alike.{Compares, alike, by_metrics, by_pixels, compared}
 use Rattle.laws.proofs.Pairing.{In, in_either, in_left, in_right, pair_in, pair_there, pair_ordered, ordered_append, swapped_append, swapped_pair, plain, place_at, items_at, common_plain, plain_in, first_there, second_there, not_six, plain_ordered, plain_swapped, plain_same, rest_in, rest_there, rest_ordered, rest_swapped}
+use Rattle.std.specs.Prelude.{Result, Ok, Err}
+use Rattle.bitmap.specs.declared.Bitmap.{Bitmap}
 
 -- the kinds that there are
 glyph_kinds : (s : List ℕ) (f : Font) (o : List ℕ) (h : Font) (g : ℕ) → (glyph_kind s f o h g ≡ 0) ⊎ ((glyph_kind s f o h g ≡ 3) ⊎ (glyph_kind s f o h g ≡ 4))
 unfolding glyph_kind pixel_kind
 glyph_kinds s f o h g = go (bitmap_of s f g) (bitmap_of o h g)
   where
-    go : (x y : Located) → (located_kind s f o h g x y ≡ 0) ⊎ ((located_kind s f o h g x y ≡ 3) ⊎ (located_kind s f o h g x y ≡ 4))
-    go (Found p) (Found q) =
+    go : (x y : Result Bitmap Refusal) → (located_kind s f o h g x y ≡ 0) ⊎ ((located_kind s f o h g x y ≡ 3) ⊎ (located_kind s f o h g x y ≡ 4))
+    go (Ok p) (Ok q) =
         by_when (λ (k : ℕ). (k ≡ 0) ⊎ ((k ≡ 3) ⊎ (k ≡ 4))) (same_words (words_of s f g f.kind) (words_of o h g h.kind)) (pixel_kind s p o q) 3
         (by_when (λ (k : ℕ). (k ≡ 0) ⊎ ((k ≡ 3) ⊎ (k ≡ 4))) _ 0 4 (inl refl) (inr (inr refl))) (inr (inl refl))
-    go (Found p) (NotLocated r) = inr (inl refl)
-    go (NotLocated r) (Found q) = inr (inl refl)
-    go (NotLocated r) (NotLocated r') = inl refl
+    go (Ok p) (Err r) = inr (inl refl)
+    go (Err r) (Ok q) = inr (inl refl)
+    go (Err r) (Err r') = inl refl
 
 item_kinds : (b : Bool) → (item_kind b ≡ 0) ⊎ (item_kind b ≡ 5)
 item_kinds true = inl refl
@@ -158,7 +156,7 @@ nothing_first : (c : Coding) (s : List ℕ) (d : Coding) (t : List ℕ) (i : ℕ
 nothing_first c s d t i e = ap item_kind (none_first _ _ (no_steps c s (place_at c s i) (omega (arith, ap length e))))
 
 -- two sound fonts: the tails that are compared
-module _ (s : List ℕ) (f : Font) (y : Bytes s) (e : check_of s ≡ Sound f) (h : Font) where
+module _ (s : List ℕ) (f : Font) (y : Bytes s) (e : check_of s ≡ Ok f) (h : Font) where
   -- both have a table
   compared_both : f.table ≡ true → h.table ≡ true → compared_tail s f h ≡ tail_of s f
   compared_both p q = ap (λ (i : ℕ). drop i s) (sym (from_table (length s) f h (table_kind f.table h.table) refl (λ i. table_kind (p i) (q i))))
@@ -630,26 +628,26 @@ module _ (s : List ℕ) (ys : Bytes s) (m : Content) (a : HasContent s m) (o : L
           ∙ ap (λ (n : ℕ). plain (κ o yo m' b s ys m a) (ι o yo m' b s ys m a) n 0) (min_back a.font.count b.font.count)
 
 -- nothing is found where a file is refused
-none_first_refused : (s o : List ℕ) (r : Refusal) → check_of s ≡ Refused r → differences_of s o ≡ []
+none_first_refused : (s o : List ℕ) (r : Refusal) → check_of s ≡ Err r → differences_of s o ≡ []
 unfolding differences_of
 none_first_refused s o r e = ap (found_by s o) e
 
-none_second_refused : (s o : List ℕ) (r : Refusal) → check_of o ≡ Refused r → differences_of s o ≡ []
+none_second_refused : (s o : List ℕ) (r : Refusal) → check_of o ≡ Err r → differences_of s o ≡ []
 unfolding differences_of
 none_second_refused s o r e = go (check_of s)
   where
-    go : (x : Checked) → found_by s o x ≡ []
-    go (Sound f) = ap (found_with s f o) e
-    go (Refused q) = refl
+    go : (x : Result Font Refusal) → found_by s o x ≡ []
+    go (Ok f) = ap (found_with s f o) e
+    go (Err q) = refl
 
 -- two files of any bytes
 pub files_swapped : (s o : List ℕ) → Bytes s → Bytes o → differences_of o s ≡ swapped (differences_of s o)
 files_swapped s o ys yo = go (check_of s) (check_of o) refl refl
   where
-    go : (x z : Checked) → check_of s ≡ x → check_of o ≡ z → differences_of o s ≡ swapped (differences_of s o)
-    go (Sound f) (Sound h) e q =
+    go : (x z : Result Font Refusal) → check_of s ≡ x → check_of o ≡ z → differences_of o s ≡ swapped (differences_of s o)
+    go (Ok f) (Ok h) e q =
         let a = content_exists s f ys e in
         let b = content_exists o h yo q in
         sym (swapped_found s ys a.0 a.1 o yo b.0 b.1)
-    go (Refused r) z e q = none_second_refused o s r e ∙ sym (ap swapped (none_first_refused s o r e))
-    go (Sound f) (Refused r) e q = none_first_refused o s r q ∙ sym (ap swapped (none_second_refused s o r q))
+    go (Err r) z e q = none_second_refused o s r e ∙ sym (ap swapped (none_first_refused s o r e))
+    go (Ok f) (Err r) e q = none_first_refused o s r q ∙ sym (ap swapped (none_second_refused s o r q))

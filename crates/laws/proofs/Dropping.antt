@@ -13,14 +13,11 @@ use Rattle.base.proofs.Parts.{bytes_take}
 use Rattle.coding.specs.declared.Coding.TheVariants.{Utf8}
 use Rattle.utf8.specs.Meaning.{utf8_bytes}
 use Rattle.table.specs.Meaning.{Desc, items, encode, Readable}
-use Rattle.lookup.specs.declared.Found.{Found}
-use Rattle.lookup.specs.declared.Found.TheVariants.{At, Nothing}
 use Rattle.lookup.specs.Meaning.{ListsValue, Lowest, Nowhere}
 use Rattle.lookup.specs.Reading.{find_value}
 use Rattle.lookup.proofs.Searching.{at_exactly, none_exactly}
 use Rattle.lookup.proofs.Finding.{has_value, value_yes, value_no, find_value_lem}
 use Rattle.header.specs.declared.Font.{Font}
-use Rattle.header.specs.declared.Checked.TheVariants.{Sound}
 use Rattle.header.specs.Meaning.{limit}
 use Rattle.stages.specs.Reading.{check_of}
 use Rattle.questions.specs.Reading.{lookup_of}
@@ -36,12 +33,13 @@ use Rattle.laws.proofs.Reading.{is_found, is_unmapped}
 use Rattle.laws.proofs.Retabled.{Editable, one_reading, edits, value_moved, sequence_moved, new_value}
 use Rattle.laws.proofs.Editing.{drops_into, DropGood, shorter_by}
 use Rattle.laws.proofs.Converting.{one_font}
+use Rattle.std.specs.Prelude.{Ok, Option, Some, None}
 
 -- what is found among items is the lowest glyph that lists it
-lowest_value : (v : ℕ) (ds : List Desc) (h : ℕ) → (find_value v 0 (items ds) ≡ At h) ↔ Lowest (ListsValue v) 0 ds h
+lowest_value : (v : ℕ) (ds : List Desc) (h : ℕ) → (find_value v 0 (items ds) ≡ Some h) ↔ Lowest (ListsValue v) 0 ds h
 lowest_value v ds h = at_exactly (has_value v) (ListsValue v) (value_yes v) (value_no v) ds (find_value v 0 (items ds)) (find_value_lem v 0 ds) h
 
-no_lowest_value : (v : ℕ) (ds : List Desc) → (find_value v 0 (items ds) ≡ Nothing) ↔ Nowhere (ListsValue v) 0 ds
+no_lowest_value : (v : ℕ) (ds : List Desc) → (find_value v 0 (items ds) ≡ None) ↔ Nowhere (ListsValue v) 0 ds
 no_lowest_value v ds = none_exactly (has_value v) (ListsValue v) (value_yes v) (value_no v) ds (find_value v 0 (items ds)) (find_value_lem v 0 ds)
 
 -- a good drop
@@ -93,7 +91,7 @@ module _ (xs : List ℕ) (y : Bytes xs) (len g v n : ℕ) (r : DropGood xs y len
   pub drop_sequence : (vs : List ℕ) → sequence_glyph (take n out) vs ≡ sequence_glyph old vs
   drop_sequence vs = sequence_moved xs y len g v ds a (without_single v) values n out laid long small room vs (sequence_same g ds (without_single v) (λ d. refl) vs)
 
-  module _ (f : Font) (es : List Desc) (sound : check_of old ≡ Sound f) (d : Describes old f true es) where
+  module _ (f : Font) (es : List Desc) (sound : check_of old ≡ Ok f) (d : Describes old f true es) where
     read_so : es ≡ ds
     read_so =
         one_reading xs y len g v ds a (without_single v) values n out laid long small room es
@@ -111,7 +109,7 @@ module _ (xs : List ℕ) (y : Bytes xs) (len g v n : ℕ) (r : DropGood xs y len
       new_said : lookup_says (value_glyph (take n out) v) ≡ lookup_says (lookup_of (find_value v 0 (items (dropped v g ds))))
       new_said = ap lookup_says (new_value xs y len g v ds a (without_single v) values n out laid long small room)
 
-      found_so : (h : ℕ) → (find_value v 0 (items (dropped v g ds)) ≡ At h) ↔ Lowest (ListsValue v) 0 (dropped v g ds) h
+      found_so : (h : ℕ) → (find_value v 0 (items (dropped v g ds)) ≡ Some h) ↔ Lowest (ListsValue v) 0 (dropped v g ds) h
       found_so h = lowest_value v (dropped v g ds) h
 
       pub drop_lowest : (h : ℕ) → (lookup_says (value_glyph (take n out) v) ≡ gives h) ↔ LowestOther (ListsValue v) g es h
@@ -124,7 +122,7 @@ module _ (xs : List ℕ) (y : Bytes xs) (len g v n : ℕ) (r : DropGood xs y len
 
           back : LowestOther (ListsValue v) g es h → lookup_says (value_glyph (take n out) v) ≡ gives h
           back l =
-              new_said ∙ ap (λ (x : Found). lookup_says (lookup_of x)) ((found_so h).1 (lowest_other g ds v not_listed h (subst (λ (x : List Desc). LowestOther (ListsValue v) g x h) read_so l)))
+              new_said ∙ ap (λ (x : Option ℕ). lookup_says (lookup_of x)) ((found_so h).1 (lowest_other g ds v not_listed h (subst (λ (x : List Desc). LowestOther (ListsValue v) g x h) read_so l)))
 
       pub drop_unmapped : (lookup_says (value_glyph (take n out) v) ≡ refuses 15 0) ↔ NoOther (ListsValue v) g es
       drop_unmapped = (there, back)
@@ -136,4 +134,4 @@ module _ (xs : List ℕ) (y : Bytes xs) (len g v n : ℕ) (r : DropGood xs y len
 
           back : NoOther (ListsValue v) g es → lookup_says (value_glyph (take n out) v) ≡ refuses 15 0
           back l =
-              new_said ∙ ap (λ (x : Found). lookup_says (lookup_of x)) ((no_lowest_value v (dropped v g ds)).1 (nowhere_other g ds v not_listed (subst (λ (x : List Desc). NoOther (ListsValue v) g x) read_so l)))
+              new_said ∙ ap (λ (x : Option ℕ). lookup_says (lookup_of x)) ((no_lowest_value v (dropped v g ds)).1 (nowhere_other g ds v not_listed (subst (λ (x : List Desc). NoOther (ListsValue v) g x) read_so l)))

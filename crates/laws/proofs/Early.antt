@@ -10,20 +10,10 @@ use Rattle.base.proofs.Tests.{by_when}
 use Rattle.refusal.specs.Meaning.{number_of}
 use Rattle.header.specs.declared.Kind.{Kind}
 use Rattle.header.specs.declared.Kind.TheVariants.{Psf1, Psf2, Vfont2}
-use Rattle.header.specs.declared.Named.{Named}
-use Rattle.header.specs.declared.Named.TheVariants.{Is, Unknown}
 use Rattle.header.specs.declared.Font.{Font}
 use Rattle.header.specs.declared.Fields.{Fields}
-use Rattle.header.specs.declared.Head.{Head}
-use Rattle.header.specs.declared.Head.TheVariants.{Read, Refused as NoHead}
-use Rattle.header.specs.declared.Checked.{Checked}
-use Rattle.header.specs.declared.Checked.TheVariants.{Sound, Refused}
 use Rattle.header.specs.Reading.{kind_of, psf1_says, head_of, psf2_shaped, vfont2_shaped, on_fields, named_says, says_of}
-use Rattle.entries.specs.declared.Scan.{Scan}
-use Rattle.entries.specs.declared.Scan.TheVariants.{BrokenAt, Greatest}
 use Rattle.entries.specs.Reading.{scan_of}
-use Rattle.table.specs.declared.TableAnswer.{TableAnswer}
-use Rattle.table.specs.declared.TableAnswer.TheVariants.{Complete, Cut, Bad, Trailing}
 use Rattle.table.specs.Reading.{table_of}
 use Rattle.stages.specs.Meaning.{coding_of, tail_of}
 use Rattle.stages.specs.Reading.{and_then, sized, greatest_of, scanned, kind_entries, entries_of, answered, bare_of, tailed, through_body, through_entries, check_of}
@@ -31,33 +21,37 @@ use Rattle.entryfeed.specs.declared.Sums.{Sums}
 use Rattle.tablefeed.specs.declared.Standing.{Standing}
 use Rattle.loader.specs.declared.Loader.{Loader}
 use Rattle.loader.specs.Reading.{kind_told, entries_told, tail_told, font_told, answer_of}
+use Rattle.std.specs.Prelude.{Result, Ok, Err, Option, Some, None}
+use Rattle.refusal.specs.declared.Refusal.{Refusal}
+use Rattle.table.specs.declared.Fault.{Fault}
+use Rattle.table.specs.declared.Fault.TheVariants.{Cut, Bad, Trailing}
 
-abbrev pub Early : Checked → Type 0
-Early (Sound f) = Unit {0}
-Early (Refused r) = number_of r.reason ≤ 12
+abbrev pub Early : Result Font Refusal → Type 0
+Early (Ok f) = Unit {0}
+Early (Err r) = number_of r.reason ≤ 12
 
-abbrev EarlyHead : Head → Type 0
-EarlyHead (Read f) = Unit {0}
-EarlyHead (NoHead r) = number_of r.reason ≤ 12
+abbrev EarlyHead : Result Fields Refusal → Type 0
+EarlyHead (Ok f) = Unit {0}
+EarlyHead (Err r) = number_of r.reason ≤ 12
 
 -- a test that refuses, and the rest
-or_else : (t : Bool) (a b : Checked) → Early a → Early b → Early (when t a b)
+or_else : (t : Bool) (a b : Result Font Refusal) → Early a → Early b → Early (when t a b)
 or_else = by_when Early
 
-early_then : (c : Checked) (k : Font → Checked) → Early c → ((f : Font) → Early (k f)) → Early (and_then c k)
-early_then (Sound f) k e g = g f
-early_then (Refused r) k e g = e
+early_then : (c : Result Font Refusal) (k : Font → Result Font Refusal) → Early c → ((f : Font) → Early (k f)) → Early (and_then c k)
+early_then (Ok f) k e g = g f
+early_then (Err r) k e g = e
 
 -- the header
 early_head : (s : List ℕ) → EarlyHead (head_of s)
 unfolding head_of
 early_head s =
-    let w : (t : Bool) (a b : Head) → EarlyHead a → EarlyHead b → EarlyHead (when t a b) = by_when EarlyHead in
+    let w : (t : Bool) (a b : Result Fields Refusal) → EarlyHead a → EarlyHead b → EarlyHead (when t a b) = by_when EarlyHead in
     w _ _ _ (omega arith) (w _ _ _ (omega arith) (w _ _ _ (omega arith) (w _ _ _ (omega arith) (w _ _ _ (omega arith) (w _ _ _ (omega arith) (w _ _ _ (omega arith) tt))))))
 
-early_fields : (shaped : Fields → Checked) → ((f : Fields) → Early (shaped f)) → (h : Head) → EarlyHead h → Early (on_fields shaped h)
-early_fields shaped g (Read f) e = g f
-early_fields shaped g (NoHead r) e = e
+early_fields : (shaped : Fields → Result Font Refusal) → ((f : Fields) → Early (shaped f)) → (h : Result Fields Refusal) → EarlyHead h → Early (on_fields shaped h)
+early_fields shaped g (Ok f) e = g f
+early_fields shaped g (Err r) e = e
 
 early_psf1 : (s : List ℕ) → Early (psf1_says s)
 unfolding psf1_says
@@ -71,11 +65,11 @@ early_vfont2 : (f : Fields) → Early (vfont2_shaped f)
 unfolding vfont2_shaped
 early_vfont2 f = or_else _ _ _ (omega arith) (or_else _ _ _ (omega arith) tt)
 
-early_named : (s : List ℕ) (n : Named) → Early (named_says s n)
-early_named s (Is Psf1) = early_psf1 s
-early_named s (Is Psf2) = early_fields psf2_shaped early_psf2 (head_of s) (early_head s)
-early_named s (Is Vfont2) = early_fields vfont2_shaped early_vfont2 (head_of s) (early_head s)
-early_named s Unknown = omega arith
+early_named : (s : List ℕ) (n : Option Kind) → Early (named_says s n)
+early_named s (Some Psf1) = early_psf1 s
+early_named s (Some Psf2) = early_fields psf2_shaped early_psf2 (head_of s) (early_head s)
+early_named s (Some Vfont2) = early_fields vfont2_shaped early_vfont2 (head_of s) (early_head s)
+early_named s None = omega arith
 
 early_says : (s : List ℕ) → Early (says_of s)
 unfolding says_of
@@ -90,9 +84,9 @@ early_greatest : (f : Font) (h w : ℕ) → Early (greatest_of f h w)
 unfolding greatest_of
 early_greatest f h w = or_else _ _ _ (omega arith) (or_else _ _ _ (omega arith) tt)
 
-early_scanned : (f : Font) (r : Scan) → Early (scanned f r)
-early_scanned f (BrokenAt i) = omega arith
-early_scanned f (Greatest h w) = early_greatest f h w
+early_scanned : (f : Font) (r : Result (ℕ × ℕ) ℕ) → Early (scanned f r)
+early_scanned f (Err i) = omega arith
+early_scanned f (Ok (h , w)) = early_greatest f h w
 
 early_entries : (s : List ℕ) (f : Font) → Early (entries_of s f)
 unfolding entries_of
@@ -103,11 +97,11 @@ early_entries s f = by f.kind
     by Psf2 = tt
     by Vfont2 = early_scanned f (scan_of s f.size f.entries f.count 0 0 0)
 
-early_answered : (f : Font) (a : TableAnswer) → Early (answered f a)
-early_answered f Complete = tt
-early_answered f (Cut k g) = omega arith
-early_answered f (Bad k g) = omega arith
-early_answered f (Trailing k) = omega arith
+early_answered : (f : Font) (a : Result (Unit {0}) Fault) → Early (answered f a)
+early_answered f (Ok tt) = tt
+early_answered f (Err (Cut k g)) = omega arith
+early_answered f (Err (Bad k g)) = omega arith
+early_answered f (Err (Trailing k)) = omega arith
 
 early_tailed : (s : List ℕ) (f : Font) → Early (tailed s f)
 unfolding tailed bare_of

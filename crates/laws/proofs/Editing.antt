@@ -28,8 +28,6 @@ use Rattle.table.specs.Meaning.{Desc, encode, Readable}
 use Rattle.header.specs.declared.Kind.{Kind}
 use Rattle.header.specs.declared.Kind.TheVariants.{Psf2}
 use Rattle.header.specs.declared.Font.{Font}
-use Rattle.header.specs.declared.Checked.{Checked}
-use Rattle.header.specs.declared.Checked.TheVariants.{Sound, Refused as Unsound}
 use Rattle.header.specs.Meaning.{limit}
 use Rattle.stages.specs.Meaning.{coding_of, tail_of}
 use Rattle.stages.specs.Reading.{check_of}
@@ -39,13 +37,8 @@ use Rattle.conversion.proofs.Cases.{right_kind, wrong_kind, not_opened}
 use Rattle.moves.specs.Reading.{inserted, removed}
 use Rattle.mapping.specs.Meaning.{added, dropped}
 use Rattle.mapping.specs.declared.Mapping.{Mapping}
-use Rattle.mapping.specs.declared.Mapping.TheVariants.{Listed as ListedAt, Unlisted as UnlistedAt}
 use Rattle.mapping.specs.Reading.{mapping_of}
 use Rattle.mapping.proofs.Places.{Hole, Gap, hole_or_gap}
-use Rattle.edit.specs.declared.Sought.{Sought}
-use Rattle.edit.specs.declared.Sought.TheVariants.{Listed, Unlisted, Refused as NotSought}
-use Rattle.edit.specs.declared.Edited.{Edited}
-use Rattle.edit.specs.declared.Edited.TheVariants.{Length, Refused}
 use Rattle.edit.proofs.Cases as cases
 use Rattle.edit.specs.Reading.{longer, sought_at, sought_on, sought_in, sought_of, fitted, insert_answer, adding, dropping, inserted_at, removed_at, left_by, add_answer, add_into, drop_answer, drop_into}
 use Rattle.laws.specs.Meaning.{Exact, Said, gives, refuses, edited_says, In, given, skipped, own as own_given, sound as sound-given, reads, EditRows, AddLast, AddRows, DropLast, DropRows}
@@ -54,6 +47,8 @@ use Rattle.laws.proofs.Asking.{described, bare_or, not_bare}
 use Rattle.laws.proofs.Listed.{no_value, listed_value}
 use Rattle.laws.proofs.Refusing.{alike, not_alike, wrong_or, not_wrong}
 use Rattle.laws.proofs.Retabled.{front_long, Editable}
+use Rattle.std.specs.Prelude.{Result, Err, Ok}
+use Rattle.mapping.specs.declared.Mapping.TheVariants.{Listed, Unlisted}
 
 -- a value that may not be asked for
 abbrev Unfit : ℕ → Type 0
@@ -137,32 +132,32 @@ module _ (xs : List ℕ) (len g v : ℕ) where
   abbrev file : List ℕ
   file = take len xs
 
-  far : length xs < len → sought_of xs len g v ≡ NotSought (refusal Ask 0)
+  far : length xs < len → sought_of xs len g v ≡ Err (refusal Ask 0)
   far h = sym (cases.too_long xs len g v h)
 
   module _ (within : len ≤ length xs) where
-    near : (c : Checked) → c ≡ opened_of Psf2 file → sought_of xs len g v ≡ sought_in file g v c
+    near : (c : Result Font Refusal) → c ≡ opened_of Psf2 file → sought_of xs len g v ≡ sought_in file g v c
     near c e = sym (cases.in_buffer xs len g v within (sought_in file g v c) (ap (sought_in file g v) e))
 
-    own : (r : Refusal) → check_of file ≡ Unsound r → sought_of xs len g v ≡ NotSought r
-    own r e = near (Unsound r) (not_opened Psf2 file r e)
+    own : (r : Refusal) → check_of file ≡ Err r → sought_of xs len g v ≡ Err r
+    own r e = near (Err r) (not_opened Psf2 file r e)
 
-    module _ (f : Font) (e : check_of file ≡ Sound f) where
-      other_kind : (f.kind ≡ Psf2 → ⊥) → sought_of xs len g v ≡ NotSought (refusal WrongKind 0)
-      other_kind n = near (Unsound (refusal WrongKind 0)) (wrong_kind Psf2 file f e (not_alike Psf2 f.kind n))
+    module _ (f : Font) (e : check_of file ≡ Ok f) where
+      other_kind : (f.kind ≡ Psf2 → ⊥) → sought_of xs len g v ≡ Err (refusal WrongKind 0)
+      other_kind n = near (Err (refusal WrongKind 0)) (wrong_kind Psf2 file f e (not_alike Psf2 f.kind n))
 
       module _ (kind : f.kind ≡ Psf2) where
         right : sought_of xs len g v ≡ sought_on file g v f
-        right = near (Sound f) (right_kind Psf2 file f e (subst (λ (k : Kind). same_kind Psf2 k ≡ true) (sym kind) (alike Psf2)))
+        right = near (Ok f) (right_kind Psf2 file f e (subst (λ (k : Kind). same_kind Psf2 k ≡ true) (sym kind) (alike Psf2)))
 
-        no_table : f.table ≡ false → sought_of xs len g v ≡ NotSought (refusal NoTable 0)
+        no_table : f.table ≡ false → sought_of xs len g v ≡ Err (refusal NoTable 0)
         no_table t = right ∙ sym (cases.bare file g v f t)
 
         module _ (marked : f.table ≡ true) where
-          too_high : f.count ≤ g → sought_of xs len g v ≡ NotSought (refusal Ask 0)
+          too_high : f.count ≤ g → sought_of xs len g v ≡ Err (refusal Ask 0)
           too_high h = right ∙ sym (cases.no_glyph file g v f marked h)
 
-          unfit : g < f.count → Unfit v → sought_of xs len g v ≡ NotSought (refusal Ask 0)
+          unfit : g < f.count → Unfit v → sought_of xs len g v ≡ Err (refusal Ask 0)
           unfit l u = right ∙ sym (cases.no_value file g v f marked l (is_scalar v) refl (unfit_no v u))
 
           found : g < f.count → Scalar v → sought_of xs len g v ≡ sought_at f.end (mapping_of Utf8 g v (tail_of file f))
@@ -186,7 +181,7 @@ module _ (xs : List ℕ) (y : Bytes xs) (len g v : ℕ) where
   size = length (utf8_bytes v)
 
   -- a font and its descriptions that pass them
-  editable : (w : len ≤ length xs) (f : Font) (e : check_of (take len xs) ≡ Sound f) → f.kind ≡ Psf2 → f.table ≡ true → g < f.count → Scalar v → (ds : List Desc) → Describes (take len xs) f f.table ds → Editable xs len g v ds
+  editable : (w : len ≤ length xs) (f : Font) (e : check_of (take len xs) ≡ Ok f) → f.kind ≡ Psf2 → f.table ≡ true → g < f.count → Scalar v → (ds : List Desc) → Describes (take len xs) f f.table ds → Editable xs len g v ds
   editable w f e k t l p ds d =
       let q = subst (λ (b : Bool). Describes (take len xs) f b ds) t d in
       record {
@@ -210,7 +205,7 @@ module _ (xs : List ℕ) (y : Bytes xs) (len g v : ℕ) where
       go (inr h) = absurd (n h)
 
   -- the rows before the descriptions', for any answer that hands a refusal on
-  edit_rows : {rest : List Desc → Said ℕ → Type 0} (answer : Sought → Edited) → ((r : Refusal) → answer (NotSought r) ≡ Refused r) →
+  edit_rows : {rest : List Desc → Said ℕ → Type 0} (answer : Result Mapping Refusal → Result ℕ Refusal) → ((r : Refusal) → answer (Err r) ≡ Err r) →
       ((ds : List Desc) → Editable xs len g v ds → Exact (edited_says (answer (sought_of xs len g v))) (rest ds)) → Exact (edited_says (answer (sought_of xs len g v))) (EditRows xs len g v rest)
   edit_rows answer hands goes =
       row (less (length xs) len) (λ h. said (far xs len g v h)) (λ h.
@@ -224,14 +219,14 @@ module _ (xs : List ℕ) (y : Bytes xs) (len g v : ℕ) where
       let l : g < f.count = not_at_most (λ q. u (inl q)) in
       reading_of (take len xs) f (described (take len xs) f (bytes_take len xs y) e) (λ ds d. goes ds (editable w f e k t l (fit_scalar v (λ q. u (inr q))) ds d)))))))
     where
-      said : {r : Refusal} → sought_of xs len g v ≡ NotSought r → edited_says (answer (sought_of xs len g v)) ≡ edited_says (Refused r)
-      said {r} e = ap (λ (x : Sought). edited_says (answer x)) e ∙ ap edited_says (hands r)
+      said : {r : Refusal} → sought_of xs len g v ≡ Err r → edited_says (answer (sought_of xs len g v)) ≡ edited_says (Err r)
+      said {r} e = ap (λ (x : Result Mapping Refusal). edited_says (answer x)) e ∙ ap edited_says (hands r)
 
-      asked : (w : len ≤ length xs) (f : Font) (e : check_of (take len xs) ≡ Sound f) (k : f.kind ≡ Psf2) (t : f.table ≡ true) → (f.count ≤ g) ⊎ Unfit v → sought_of xs len g v ≡ NotSought (refusal Ask 0)
+      asked : (w : len ≤ length xs) (f : Font) (e : check_of (take len xs) ≡ Ok f) (k : f.kind ≡ Psf2) (t : f.table ≡ true) → (f.count ≤ g) ⊎ Unfit v → sought_of xs len g v ≡ Err (refusal Ask 0)
       asked w f e k t (inl h) = too_high xs len g v w f e k t h
       asked w f e k t (inr u) = go (below g f.count)
         where
-          go : (g < f.count) ⊎ (f.count ≤ g) → sought_of xs len g v ≡ NotSought (refusal Ask 0)
+          go : (g < f.count) ⊎ (f.count ≤ g) → sought_of xs len g v ≡ Err (refusal Ask 0)
           go (inl l) = unfit xs len g v w f e k t l u
           go (inr h) = too_high xs len g v w f e k t h
 
@@ -258,22 +253,22 @@ module _ (xs : List ℕ) (y : Bytes xs) (len g v : ℕ) where
       abbrev from : ℕ
       from = end + length h.front
 
-      sought_hole : sought_of xs len g v ≡ Listed from (from + size)
+      sought_hole : sought_of xs len g v ≡ Ok (Listed from (from + size))
       sought_hole =
           let q : end + (length h.front + length (value_bytes Utf8 v)) ≡ from + size = omega (arith, ap length (utf8_value Utf8 v refl)) in
-          sought_as (ListedAt (length h.front) (length h.front + length (value_bytes Utf8 v))) h.place ∙ ap (Listed from) q
+          sought_as (Listed (length h.front) (length h.front + length (value_bytes Utf8 v))) h.place ∙ ap (λ (m : ℕ). Ok (Listed from m)) q
 
-      have : add_answer xs len g v ≡ Refused (refusal Have 0)
+      have : add_answer xs len g v ≡ Err (refusal Have 0)
       have = sym (cases.add_have xs len g v from (from + size) (sym sought_hole)).0
 
       less_by : from + size - from ≡ size
       less_by = omega arith
 
-      taken : (Length (len - (from + size - from)) ≡ drop_answer xs len g v) × (over (removed from (from + size - from) s ++ replicate (from + size - from) 0) xs ≡ drop_into xs len g v)
+      taken : (Ok (len - (from + size - from)) ≡ drop_answer xs len g v) × (over (removed from (from + size - from) s ++ replicate (from + size - from) 0) xs ≡ drop_into xs len g v)
       taken = cases.drop_taken xs len g v from (from + size) (over (removed from (from + size - from) s ++ replicate (from + size - from) 0) xs) (sym sought_hole) refl
 
-      pub drops : drop_answer xs len g v ≡ Length (len - size)
-      drops = sym taken.0 ∙ ap (λ (n : ℕ). Length (len - n)) less_by
+      pub drops : drop_answer xs len g v ≡ Ok (len - size)
+      drops = sym taken.0 ∙ ap (λ (n : ℕ). Ok (len - n)) less_by
 
       pub drops_into : drop_into xs len g v ≡ over ((take end s ++ encode Utf8 (dropped v g ds)) ++ replicate size 0) xs
       drops_into =
@@ -287,34 +282,34 @@ module _ (xs : List ℕ) (y : Bytes xs) (len g v : ℕ) where
       abbrev to : ℕ
       to = end + length p.front
 
-      sought_gap : sought_of xs len g v ≡ Unlisted to
-      sought_gap = sought_as (UnlistedAt (length p.front)) p.place
+      sought_gap : sought_of xs len g v ≡ Ok (Unlisted to)
+      sought_gap = sought_as (Unlisted (length p.front)) p.place
 
-      not_there : drop_answer xs len g v ≡ Refused (refusal NotThere 0)
+      not_there : drop_answer xs len g v ≡ Err (refusal NotThere 0)
       not_there = sym (cases.drop_none xs len g v to (sym sought_gap)).0
 
-      put : (r : Edited) → r ≡ insert_answer (length xs) len v → (r ≡ add_answer xs len g v) × (left_by r (inserted to (utf8_bytes v) s) xs ≡ add_into xs len g v)
+      put : (r : Result ℕ Refusal) → r ≡ insert_answer (length xs) len v → (r ≡ add_answer xs len g v) × (left_by r (inserted to (utf8_bytes v) s) xs ≡ add_into xs len g v)
       put r e = cases.add_put xs len g v to r (left_by r (inserted to (utf8_bytes v) s) xs) (sym sought_gap) e refl
 
-      asks : Noncharacter v → add_answer xs len g v ≡ Refused (refusal Ask 0)
-      asks o = sym (put (Refused (refusal Ask 0)) (cases.asked (length xs) len v ((noncharacter_exactly v).1 o))).0
+      asks : Noncharacter v → add_answer xs len g v ≡ Err (refusal Ask 0)
+      asks o = sym (put (Err (refusal Ask 0)) (cases.asked (length xs) len v ((noncharacter_exactly v).1 o))).0
 
       -- of a value that is no noncharacter
-      put_value : (Noncharacter v → ⊥) → (r : Edited) → r ≡ fitted (length xs) (longer len v) → (r ≡ add_answer xs len g v) × (left_by r (inserted to (utf8_bytes v) s) xs ≡ add_into xs len g v)
+      put_value : (Noncharacter v → ⊥) → (r : Result ℕ Refusal) → r ≡ fitted (length xs) (longer len v) → (r ≡ add_answer xs len g v) × (left_by r (inserted to (utf8_bytes v) s) xs ≡ add_into xs len g v)
       put_value o r e = put r (e ∙ cases.unasked (length xs) len v (no_noncharacter v o))
 
-      too_large : (Noncharacter v → ⊥) → limit < len + size → add_answer xs len g v ≡ Refused (refusal Size 0)
-      too_large o h = sym (put_value o (Refused (refusal Size 0)) (cases.over_limit (length xs) len v size refl h)).0
+      too_large : (Noncharacter v → ⊥) → limit < len + size → add_answer xs len g v ≡ Err (refusal Size 0)
+      too_large o h = sym (put_value o (Err (refusal Size 0)) (cases.over_limit (length xs) len v size refl h)).0
 
-      no_room : (Noncharacter v → ⊥) → len + size ≤ limit → length xs < len + size → add_answer xs len g v ≡ Refused (refusal Room (len + size))
-      no_room o h k = sym (put_value o (Refused (refusal Room (len + size))) (cases.no_room (length xs) len v size refl h k)).0
+      no_room : (Noncharacter v → ⊥) → len + size ≤ limit → length xs < len + size → add_answer xs len g v ≡ Err (refusal Room (len + size))
+      no_room o h k = sym (put_value o (Err (refusal Room (len + size))) (cases.no_room (length xs) len v size refl h k)).0
 
-      adds : (Noncharacter v → ⊥) → len + size ≤ limit → len + size ≤ length xs → add_answer xs len g v ≡ Length (len + size)
-      adds o h k = sym (put_value o (Length (len + size)) (cases.fits (length xs) len v size refl h k)).0
+      adds : (Noncharacter v → ⊥) → len + size ≤ limit → len + size ≤ length xs → add_answer xs len g v ≡ Ok (len + size)
+      adds o h k = sym (put_value o (Ok (len + size)) (cases.fits (length xs) len v size refl h k)).0
 
       pub adds_into : (Noncharacter v → ⊥) → len + size ≤ limit → len + size ≤ length xs → add_into xs len g v ≡ over (take end s ++ encode Utf8 (added v g ds)) xs
       adds_into o h k =
-          sym (put_value o (Length (len + size)) (cases.fits (length xs) len v size refl h k)).1
+          sym (put_value o (Ok (len + size)) (cases.fits (length xs) len v size refl h k)).1
           ∙ ap (λ (x : List ℕ). over x xs)
           (inserted_behind s p.front (utf8_bytes v) p.back end placed_end (a.same ∙ p.same)
           ∙ ap (λ (x : List ℕ). take end s ++ x) (ap (λ (x : List ℕ). p.front ++ (x ++ p.back)) (utf8_value Utf8 v refl) ∙ sym p.more))
@@ -396,9 +391,9 @@ module _ (xs : List ℕ) (y : Bytes xs) (len g v : ℕ) where
       go ds a (skipped l q) (inr p) = absurd (l p.unlisted)
 
 -- an answer that gives nothing is a refusal, and leaves the buffer
-refused_said : (x : Edited) (number p : ℕ) → edited_says x ≡ refuses number p → (t xs : List ℕ) → left_by x t xs ≡ xs
-refused_said (Length n) number p e t xs = no_refusal_lem e
-refused_said (Refused r) number p e t xs = refl
+refused_said : (x : Result ℕ Refusal) (number p : ℕ) → edited_says x ≡ refuses number p → (t xs : List ℕ) → left_by x t xs ≡ xs
+refused_said (Ok n) number p e t xs = no_refusal_lem e
+refused_said (Err r) number p e t xs = refl
 
 module _ (xs : List ℕ) (len g v number p : ℕ) where
   pub add_untouched : edited_says (add_answer xs len g v) ≡ refuses number p → add_into xs len g v ≡ xs

@@ -12,7 +12,6 @@ use Rattle.base.specs.Meaning.{Bytes}
 use Rattle.table.specs.Meaning.{Desc}
 use Rattle.lookup.specs.Meaning.{ListsValue}
 use Rattle.header.specs.declared.Font.{Font}
-use Rattle.header.specs.declared.Checked.TheVariants.{Sound}
 use Rattle.stages.specs.Reading.{check_of}
 use Rattle.content.specs.Meaning.{Describes}
 use Rattle.mapping.specs.Meaning.{Lists, added, dropped, First, LowestOther, NoOther}
@@ -24,6 +23,7 @@ use Rattle.laws.proofs.Editing as inner
 use Rattle.laws.proofs.Adding as adding
 use Rattle.laws.proofs.Dropping as dropping
 use Rattle.laws.proofs.Editing.{add_good, drop_good}
+use Rattle.std.specs.Prelude.{Ok}
 
 -- each refusal exactly when its row says, in their order, and else the new length
 module _ (xs : List ℕ) (y : Bytes xs) (len g v : ℕ) where
@@ -95,7 +95,7 @@ module _ (xs : List ℕ) (y : Bytes xs) (len g v n : ℕ) (e : edited_says (drop
   drop_sequences = dropping.drop_sequence xs y len g v n (drop_good xs y len g v n e)
 
   -- v itself, by the old reading: as before where glyph g had it twice; else the lowest of the other glyphs that list it, unmapped where none does
-  module _ (f : Font) (ds : List Desc) (sound : check_of (take len xs) ≡ Sound f) (d : Describes (take len xs) f true ds) where
+  module _ (f : Font) (ds : List Desc) (sound : check_of (take len xs) ≡ Ok f) (d : Describes (take len xs) f true ds) where
     pub drop_listed_twice : Lists v g (dropped v g ds) → value_glyph (take n (drop_into xs len g v)) v ≡ value_glyph (take len xs) v
     drop_listed_twice = dropping.drop_still xs y len g v n (drop_good xs y len g v n e) f ds sound d
 

@@ -8,11 +8,10 @@ use Rattle.base.proofs.Tests.{below, same}
 use Rattle.refusal.specs.declared.Refusal.{Refusal}
 use Rattle.table.specs.Meaning.{Desc}
 use Rattle.header.specs.declared.Font.{Font}
-use Rattle.header.specs.declared.Checked.{Checked}
-use Rattle.header.specs.declared.Checked.TheVariants.{Sound, Refused}
 use Rattle.stages.specs.Reading.{check_of}
 use Rattle.content.specs.Meaning.{Describes}
 use Rattle.laws.specs.Meaning.{Exact, Said, gives, refuses, told, Row, given, skipped, RowAt, given_at, skipped_at, Own, own, sound, Reading, reads, Gives, gives_it}
+use Rattle.std.specs.Prelude.{Result, Ok, Err}
 
 -- the end of a chain: one answer
 pub is : {A : Type 0} (x v : Said A) → x ≡ v → Exact x (λ a. a ≡ v)
@@ -52,12 +51,12 @@ row_at {A} {P} {n} {place} {rest} {x} d f g a = (there d, back)
 
 -- the font's own refusal first
 pub own_first : {A : Type 0} {rest : Font → Said A → Type 0} {x : Said A} (s : List ℕ) →
-    ((r : Refusal) → check_of s ≡ Refused r → x ≡ told r) → ((f : Font) → check_of s ≡ Sound f → Exact x (rest f)) → Exact x (Own s rest)
+    ((r : Refusal) → check_of s ≡ Err r → x ≡ told r) → ((f : Font) → check_of s ≡ Ok f → Exact x (rest f)) → Exact x (Own s rest)
 own_first {A} {rest} {x} s f g a = (there (check_of s) refl, back)
   where
-    there : (c : Checked) → check_of s ≡ c → x ≡ a → Own s rest a
-    there (Sound h) q e = sound h q ((g h q a).0 e)
-    there (Refused r) q e = own r q (sym e ∙ f r q)
+    there : (c : Result Font Refusal) → check_of s ≡ c → x ≡ a → Own s rest a
+    there (Ok h) q e = sound h q ((g h q a).0 e)
+    there (Err r) q e = own r q (sym e ∙ f r q)
 
     back : Own s rest a → x ≡ a
     back (own r q e) = f r q ∙ sym e

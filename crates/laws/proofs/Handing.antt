@@ -11,79 +11,40 @@ use Rattle.base.proofs.Parts.{bytes_take}
 use Rattle.base.proofs.Tests.{below, by_when}
 use Rattle.refusal.specs.Meaning.{no_glyph}
 use Rattle.refusal.specs.declared.Refusal.{Refusal}
-use Rattle.table.specs.declared.TableAnswer.{TableAnswer}
-use Rattle.table.specs.declared.TableAnswer.TheVariants.{Cut}
 use Rattle.table.specs.Meaning.{Desc, encode, Readable, InGlyph}
 use Rattle.table.specs.Reading.{table_of}
-use Rattle.lookup.specs.declared.Walked.{Walked}
-use Rattle.lookup.specs.declared.Walked.TheVariants.{Found as Got, Nothing as NoItem}
-use Rattle.lookup.specs.declared.Found as F
-use Rattle.lookup.specs.declared.Found.TheVariants.{At as FoundAt, Nothing}
 use Rattle.lookup.specs.Reading.{item_at, find_value, find_sequence}
-use Rattle.transcode.specs.declared.Measured.{Measured}
-use Rattle.transcode.specs.declared.Measured.TheVariants.{Length as Measures, Uncarried}
 use Rattle.transcode.proofs.Meaning.{uncarried_glyph}
 use Rattle.header.specs.declared.Kind.{Kind}
 use Rattle.header.specs.declared.Kind.TheVariants.{Psf1, Psf2, Vfont2}
 use Rattle.header.specs.declared.Font.{Font}
-use Rattle.header.specs.declared.Checked.{Checked}
-use Rattle.header.specs.declared.Checked.TheVariants.{Sound, Refused}
 use Rattle.header.proofs.Known.{source}
 use Rattle.entries.specs.declared.Entry as E
 use Rattle.entries.specs.declared.Entry.TheVariants.{Empty, Glyph as HasBitmap, Broken}
 use Rattle.entries.specs.Meaning.{entry_at}
 use Rattle.entries.specs.Reading.{entry_of}
-use Rattle.bitmap.specs.declared.Located.{Located}
-use Rattle.bitmap.specs.declared.Located.TheVariants.{Found, Refused as NotLocated}
-use Rattle.bitmap.specs.declared.Part.{Part}
-use Rattle.bitmap.specs.declared.Part.TheVariants.{At, Refused as NoPart}
-use Rattle.bitmap.specs.declared.Pixel.{Pixel}
-use Rattle.bitmap.specs.declared.Pixel.TheVariants.{Bit, Refused as NoPixel}
-use Rattle.bitmap.specs.declared.GlyphMetrics.{GlyphMetrics}
-use Rattle.bitmap.specs.declared.GlyphMetrics.TheVariants.{Is as IsMetrics, Refused as NoMetrics}
 use Rattle.bitmap.specs.Reading.{entry_located, kind_bitmap, bitmap_of, whole_of, row_of, pixel_of, metrics_of}
 use Rattle.bitmap.proofs.Places.{known, too_high}
 use Rattle.stages.specs.Meaning.{coding_of, tail_of}
 use Rattle.stages.specs.Reading.{told_at, check_of}
 use Rattle.stages.proofs.Cases.{accepted, passed_entries, passed_body}
-use Rattle.questions.specs.declared.Walk.{Walk}
-use Rattle.questions.specs.declared.Walk.TheVariants.{Is, Refused as NoWalk}
-use Rattle.questions.specs.declared.Lookup.{Lookup}
-use Rattle.questions.specs.declared.Lookup.TheVariants.{Glyph, Refused as NoLookup}
 use Rattle.questions.specs.Reading.{font_items, walk_of, lookup_of}
 use Rattle.content.specs.Meaning.{Describes}
 use Rattle.content.proofs.Magic.{magic_begins}
 use Rattle.content.proofs.Source.{is_placed}
 use Rattle.conversion.specs.declared.Conversion.{Conversion}
 use Rattle.conversion.specs.declared.Conversion.TheVariants.{Psf1ToPsf2, Psf2ToPsf1, Psf2ToVfont2, Vfont2ToPsf2}
-use Rattle.conversion.specs.declared.Evenness.{Evenness}
-use Rattle.conversion.specs.declared.Evenness.TheVariants.{Even, UnevenAt}
-use Rattle.conversion.specs.declared.Suits.{Suits}
-use Rattle.conversion.specs.declared.Suits.TheVariants.{Yes, Refused as Unsuited}
-use Rattle.conversion.specs.declared.Prepared.{Prepared}
-use Rattle.conversion.specs.declared.Prepared.TheVariants.{Ready, Refused as Unprepared}
 use Rattle.conversion.specs.Meaning.{source_kind, target_kind}
 use Rattle.conversion.specs.Reading.{of_kind, opened_of, suits_psf1, evenness, even_suits, suits_of, measured_of, fitting, glyph_told, glyph_at, measured_then, suits_then, opened_then, prepared_on, prepared_of}
 use Rattle.conversion.proofs.Cases.{uneven_within}
 use Rattle.conversion.proofs.Ready.{opened_sound}
-use Rattle.convert.specs.declared.Converted.{Converted}
-use Rattle.convert.specs.declared.Converted.TheVariants.{Wrote, Refused as NotConverted}
 use Rattle.convert.specs.Reading.{converted, converted_of}
-use Rattle.edit.specs.declared.Sought.{Sought}
-use Rattle.edit.specs.declared.Sought.TheVariants.{Listed, Unlisted, Refused as NotSought}
-use Rattle.edit.specs.declared.Edited.{Edited}
-use Rattle.edit.specs.declared.Edited.TheVariants.{Length, Refused as NotEdited}
 use Rattle.mapping.specs.declared.Mapping.{Mapping}
-use Rattle.mapping.specs.declared.Mapping.TheVariants.{Listed as ListedAt, Unlisted as UnlistedAt}
 use Rattle.mapping.specs.Reading.{mapping_of}
 use Rattle.coding.specs.declared.Coding.TheVariants.{Utf8}
 use Rattle.edit.specs.Reading.{sought_at, sought_on, sought_in, sought_of, fitted, insert_answer, adding, dropping, add_answer, drop_answer}
-use Rattle.differences.specs.declared.Compared.{Compared}
-use Rattle.differences.specs.declared.Compared.TheVariants.{Pairs, Refused as NotCompared}
 use Rattle.differences.specs.Reading.{pairs_of, fitted as fittedIn, compared_with, compared_by, compare_answer}
 use Rattle.loader.specs.declared.Loader.{Loader}
-use Rattle.loader.specs.declared.Reply.{Reply}
-use Rattle.loader.specs.declared.Reply.TheVariants.{Taken, Refused as Untaken}
 use Rattle.loader.specs.Reading.{is_open, feed_answer}
 use Rattle.fonts.specs.Reading.{asked, glyph_part_of, row_part_of, pixel_at, glyph_metrics_of, item_of, value_glyph, sequence_glyph}
 use Rattle.laws.specs.Meaning.{EntryStarts, elsewhere, ByEntry, of_entry}
@@ -91,52 +52,62 @@ use Rattle.laws.proofs.Deciding.{psf2_not_vfont2}
 use Rattle.laws.proofs.Asking.{described, read_as}
 use Rattle.laws.proofs.Refusing.{measured_as}
 use Rattle.laws.proofs.Numbering.{Told, Tells, from_12, from_20, Numbered, on_sound, at_start, in_table, check_numbered}
+use Rattle.std.specs.Prelude.{Result, Option, Some, None, Ok, Err}
+use Rattle.bitmap.specs.declared.Bitmap.{Bitmap}
+use Rattle.bitmap.specs.declared.Part.{Part}
+use Rattle.entries.specs.declared.Metrics.{Metrics}
+use Rattle.table.specs.declared.Fault.{Fault}
+use Rattle.table.specs.declared.Item.{Item}
+use Rattle.table.specs.declared.Fault.TheVariants.{Cut}
+use Rattle.mapping.specs.declared.Mapping.TheVariants.{Listed, Unlisted}
+use Rattle.differences.specs.declared.Uncompared.{Uncompared}
+use Rattle.differences.specs.declared.Uncompared.TheVariants.{First, Second, Neither}
 
 -- an answer of a call whose refusal tells its glyph
-abbrev OfLocated : List ℕ → Located → Type 0
-OfLocated s (Found b) = Unit {0}
-OfLocated s (NotLocated r) = Tells s r
+abbrev OfLocated : List ℕ → Result Bitmap Refusal → Type 0
+OfLocated s (Ok b) = Unit {0}
+OfLocated s (Err r) = Tells s r
 
-abbrev pub OfPart : List ℕ → Part → Type 0
-OfPart s (At a l) = Unit {0}
-OfPart s (NoPart r) = Tells s r
+abbrev pub OfPart : List ℕ → Result Part Refusal → Type 0
+OfPart s (Ok p) = Unit {0}
+OfPart s (Err r) = Tells s r
 
-abbrev pub OfPixel : List ℕ → Pixel → Type 0
-OfPixel s (Bit b) = Unit {0}
-OfPixel s (NoPixel r) = Tells s r
+abbrev pub OfPixel : List ℕ → Result ℕ Refusal → Type 0
+OfPixel s (Ok b) = Unit {0}
+OfPixel s (Err r) = Tells s r
 
-abbrev pub OfMetrics : List ℕ → GlyphMetrics → Type 0
-OfMetrics s (IsMetrics m) = Unit {0}
-OfMetrics s (NoMetrics r) = Tells s r
+abbrev pub OfMetrics : List ℕ → Result Metrics Refusal → Type 0
+OfMetrics s (Ok m) = Unit {0}
+OfMetrics s (Err r) = Tells s r
 
-abbrev pub OfWalk : List ℕ → Walk → Type 0
-OfWalk s (Is i) = Unit {0}
-OfWalk s (NoWalk r) = Tells s r
+abbrev pub OfWalk : List ℕ → Result Item Refusal → Type 0
+OfWalk s (Ok i) = Unit {0}
+OfWalk s (Err r) = Tells s r
 
-abbrev pub OfLookup : List ℕ → Lookup → Type 0
-OfLookup s (Glyph g) = Unit {0}
-OfLookup s (NoLookup r) = Tells s r
+abbrev pub OfLookup : List ℕ → Result ℕ Refusal → Type 0
+OfLookup s (Ok g) = Unit {0}
+OfLookup s (Err r) = Tells s r
 
-abbrev OfSuits : List ℕ → Suits → Type 0
-OfSuits s Yes = Unit {0}
-OfSuits s (Unsuited r) = Tells s r
+abbrev OfSuits : List ℕ → Result (Unit {0}) Refusal → Type 0
+OfSuits s (Ok tt) = Unit {0}
+OfSuits s (Err r) = Tells s r
 
-abbrev OfPrepared : List ℕ → Prepared → Type 0
-OfPrepared s (Ready f n) = Unit {0}
-OfPrepared s (Unprepared r) = Tells s r
+abbrev OfPrepared : List ℕ → Result (Font × ℕ) Refusal → Type 0
+OfPrepared s (Ok (f , n)) = Unit {0}
+OfPrepared s (Err r) = Tells s r
 
-abbrev pub OfConverted : List ℕ → Converted → Type 0
-OfConverted s (Wrote n) = Unit {0}
-OfConverted s (NotConverted r) = Tells s r
+abbrev pub OfConverted : List ℕ → Result ℕ Refusal → Type 0
+OfConverted s (Ok n) = Unit {0}
+OfConverted s (Err r) = Tells s r
 
-abbrev OfSought : List ℕ → Sought → Type 0
-OfSought s (Listed a b) = Unit {0}
-OfSought s (Unlisted a) = Unit {0}
-OfSought s (NotSought r) = Tells s r
+abbrev OfSought : List ℕ → Result Mapping Refusal → Type 0
+OfSought s (Ok (Listed a b)) = Unit {0}
+OfSought s (Ok (Unlisted a)) = Unit {0}
+OfSought s (Err r) = Tells s r
 
-abbrev pub OfEdited : List ℕ → Edited → Type 0
-OfEdited s (Length n) = Unit {0}
-OfEdited s (NotEdited r) = Tells s r
+abbrev pub OfEdited : List ℕ → Result ℕ Refusal → Type 0
+OfEdited s (Ok n) = Unit {0}
+OfEdited s (Err r) = Tells s r
 
 by_pick : {A : Type 0} (P : A → Type 0) (t : Bool) (a b : A) → P a → P b → P (pick t a b)
 by_pick P true a b x y = x
@@ -148,16 +119,16 @@ module _ (s : List ℕ) (y : Bytes s) where
   middle = from_12 s
 
   -- a question hands the font's own refusal on
-  ask : {A : Type 0} (P : A → Type 0) (refuse : Refusal → A) (answer : Font → A) → ((r : Refusal) → Tells s r → P (refuse r)) → ((f : Font) → check_of s ≡ Sound f → P (answer f)) →
+  ask : {A : Type 0} (P : A → Type 0) (refuse : Refusal → A) (answer : Font → A) → ((r : Refusal) → Tells s r → P (refuse r)) → ((f : Font) → check_of s ≡ Ok f → P (answer f)) →
       P (asked refuse answer (check_of s))
   ask P refuse answer u v = go (check_of s) refl (check_numbered s y)
     where
-      go : (c : Checked) → check_of s ≡ c → Numbered s c → P (asked refuse answer c)
-      go (Sound f) e n = v f e
-      go (Refused r) e n = u r n
+      go : (c : Result Font Refusal) → check_of s ≡ c → Numbered s c → P (asked refuse answer c)
+      go (Ok f) e n = v f e
+      go (Err r) e n = u r n
 
   -- the font that the header describes
-  module _ (f : Font) (e : check_of s ≡ Sound f) where
+  module _ (f : Font) (e : check_of s ≡ Ok f) where
     entry_told : f.kind ≡ Vfont2 → (n i : ℕ) → ByEntry n → i < f.count → Told s n (entry_at f.entries i) i
     entry_told k = at_start s f k (passed_body s f (passed_entries s f (accepted s f e).0).0).1
 
@@ -178,61 +149,61 @@ module _ (s : List ℕ) (y : Bytes s) where
         go (inl l) = subst (OfLocated s) (known s f g (is_placed s f y e) l f.kind refl) (by f.kind refl l)
         go (inr h) = subst (OfLocated s) (too_high s f g h) (middle _ _ (omega arith) (omega arith))
 
-  whole : (l : Located) → OfLocated s l → OfPart s (whole_of l)
-  whole (Found b) a = tt
-  whole (NotLocated r) a = a
+  whole : (l : Result Bitmap Refusal) → OfLocated s l → OfPart s (whole_of l)
+  whole (Ok b) a = tt
+  whole (Err r) a = a
 
-  row : (i : ℕ) (l : Located) → OfLocated s l → OfPart s (row_of l i)
-  row i (Found b) a = by_when (OfPart s) _ _ _ tt (middle _ _ (omega arith) (omega arith))
-  row i (NotLocated r) a = a
+  row : (i : ℕ) (l : Result Bitmap Refusal) → OfLocated s l → OfPart s (row_of l i)
+  row i (Ok b) a = by_when (OfPart s) _ _ _ tt (middle _ _ (omega arith) (omega arith))
+  row i (Err r) a = a
 
-  pixel : (i j : ℕ) (l : Located) → OfLocated s l → OfPixel s (pixel_of s l i j)
-  pixel i j (Found b) a = by_when (OfPixel s) _ _ _ (by_when (OfPixel s) _ _ _ tt (middle _ _ (omega arith) (omega arith))) (middle _ _ (omega arith) (omega arith))
-  pixel i j (NotLocated r) a = a
+  pixel : (i j : ℕ) (l : Result Bitmap Refusal) → OfLocated s l → OfPixel s (pixel_of s l i j)
+  pixel i j (Ok b) a = by_when (OfPixel s) _ _ _ (by_when (OfPixel s) _ _ _ tt (middle _ _ (omega arith) (omega arith))) (middle _ _ (omega arith) (omega arith))
+  pixel i j (Err r) a = a
 
-  metrics : (f : Font) (g : ℕ) (l : Located) → OfLocated s l → OfMetrics s (metrics_of s f g l)
-  metrics f g (Found b) a = tt
-  metrics f g (NotLocated r) a = a
+  metrics : (f : Font) (g : ℕ) (l : Result Bitmap Refusal) → OfLocated s l → OfMetrics s (metrics_of s f g l)
+  metrics f g (Ok b) a = tt
+  metrics f g (Err r) a = a
 
   pub part_told : (g : ℕ) → OfPart s (glyph_part_of s g)
   unfolding glyph_part_of
-  part_told g = ask (OfPart s) NoPart _ (λ r a. a) (λ f e. whole (bitmap_of s f g) (located f e g))
+  part_told g = ask (OfPart s) Err _ (λ r a. a) (λ f e. whole (bitmap_of s f g) (located f e g))
 
   pub row_told : (g i : ℕ) → OfPart s (row_part_of s g i)
   unfolding row_part_of
-  row_told g i = ask (OfPart s) NoPart _ (λ r a. a) (λ f e. row i (bitmap_of s f g) (located f e g))
+  row_told g i = ask (OfPart s) Err _ (λ r a. a) (λ f e. row i (bitmap_of s f g) (located f e g))
 
   pub pixel_told : (g i j : ℕ) → OfPixel s (pixel_at s g i j)
   unfolding pixel_at
-  pixel_told g i j = ask (OfPixel s) NoPixel _ (λ r a. a) (λ f e. pixel i j (bitmap_of s f g) (located f e g))
+  pixel_told g i j = ask (OfPixel s) Err _ (λ r a. a) (λ f e. pixel i j (bitmap_of s f g) (located f e g))
 
   pub metrics_told : (g : ℕ) → OfMetrics s (glyph_metrics_of s g)
   unfolding glyph_metrics_of
-  metrics_told g = ask (OfMetrics s) NoMetrics _ (λ r a. a) (λ f e. metrics f g (bitmap_of s f g) (located f e g))
+  metrics_told g = ask (OfMetrics s) Err _ (λ r a. a) (λ f e. metrics f g (bitmap_of s f g) (located f e g))
 
   -- walks and lookups
-  walked : (w : Walked) → OfWalk s (walk_of w)
-  walked (Got i) = tt
-  walked NoItem = middle _ _ (omega arith) (omega arith)
+  walked : (w : Option Item) → OfWalk s (walk_of w)
+  walked (Some i) = tt
+  walked None = middle _ _ (omega arith) (omega arith)
 
-  looked : (w : F.Found) → OfLookup s (lookup_of w)
-  looked (FoundAt g) = tt
-  looked Nothing = middle _ _ (omega arith) (omega arith)
+  looked : (w : Option ℕ) → OfLookup s (lookup_of w)
+  looked (Some g) = tt
+  looked None = middle _ _ (omega arith) (omega arith)
 
   pub item_told : (g k : ℕ) → OfWalk s (item_of s g k)
   unfolding item_of
-  item_told g k = ask (OfWalk s) NoWalk _ (λ r a. a) (λ f e. by_pick (OfWalk s) f.table _ _ (walked (item_at g k (font_items s f))) (middle 14 0 (omega arith) (omega arith)))
+  item_told g k = ask (OfWalk s) Err _ (λ r a. a) (λ f e. by_pick (OfWalk s) f.table _ _ (walked (item_at g k (font_items s f))) (middle 14 0 (omega arith) (omega arith)))
 
   pub value_told : (v : ℕ) → OfLookup s (value_glyph s v)
   unfolding value_glyph
   value_told v =
-      ask (OfLookup s) NoLookup _ (λ r a. a) (λ f e.
+      ask (OfLookup s) Err _ (λ r a. a) (λ f e.
       by_pick (OfLookup s) f.table _ _ (by_when (OfLookup s) _ _ _ (middle 13 0 (omega arith) (omega arith)) (looked (find_value v 0 (font_items s f)))) (middle 14 0 (omega arith) (omega arith)))
 
   pub sequence_told : (vs : List ℕ) → OfLookup s (sequence_glyph s vs)
   unfolding sequence_glyph
   sequence_told vs =
-      ask (OfLookup s) NoLookup _ (λ r a. a) (λ f e.
+      ask (OfLookup s) Err _ (λ r a. a) (λ f e.
       by_pick (OfLookup s) f.table _ _ (by_when (OfLookup s) _ _ _ (looked (find_sequence vs (font_items s f))) (middle 13 0 (omega arith) (omega arith))) (middle 14 0 (omega arith) (omega arith)))
 
   -- a font of the kind that a call wants
@@ -241,12 +212,12 @@ module _ (s : List ℕ) (y : Bytes s) where
   opened k = on_sound s (check_of s) (of_kind k) (check_numbered s y) (λ f e. by_when (Numbered s) _ _ _ tt (middle _ _ (omega arith) (omega arith)))
 
   -- 18: no entry starts anywhere in a PSF2 file
-  not_vfont2 : (f : Font) → check_of s ≡ Sound f → f.kind ≡ Psf2 → (p i : ℕ) → EntryStarts s p i → ⊥
+  not_vfont2 : (f : Font) → check_of s ≡ Ok f → f.kind ≡ Psf2 → (p i : ℕ) → EntryStarts s p i → ⊥
   not_vfont2 f e k p i x =
       let q = (source s f Psf2 k (passed_body s f (passed_entries s f (accepted s f e).0).0).1).0 in
       psf2_not_vfont2 s (magic_begins s Psf2 q) x.0
 
-  suits : (c : Conversion) (f : Font) → check_of s ≡ Sound f → f.kind ≡ source_kind c → OfSuits s (suits_of c s f)
+  suits : (c : Conversion) (f : Font) → check_of s ≡ Ok f → f.kind ≡ source_kind c → OfSuits s (suits_of c s f)
   unfolding suits_of suits_psf1
   suits Psf1ToPsf2 f e k = tt
   suits Psf2ToPsf1 f e k =
@@ -255,51 +226,51 @@ module _ (s : List ℕ) (y : Bytes s) where
   suits Psf2ToVfont2 f e k = tt
   suits Vfont2ToPsf2 f e k = go (evenness s f.height f.width f.entries f.count 0) refl
     where
-      go : (x : Evenness) → evenness s f.height f.width f.entries f.count 0 ≡ x → OfSuits s (even_suits f x)
-      go Even q = tt
-      go (UnevenAt i) q = entry_told f e k 18 i (inr refl) (omega (arith, uneven_within s f.height f.width f.entries f.count 0 i q))
+      go : (x : Option ℕ) → evenness s f.height f.width f.entries f.count 0 ≡ x → OfSuits s (even_suits f x)
+      go None q = tt
+      go (Some i) q = entry_told f e k 18 i (inr refl) (omega (arith, uneven_within s f.height f.width f.entries f.count 0 i q))
 
   -- 19: a table that describes a glyph describes all
   counted : (f : Font) (t : Bool) (ds : List Desc) (g : ℕ) → Describes s f t ds → g < length ds → length ds ≡ f.count
   counted f true ds g d l = d.0
   counted f false ds g d l = absurd (omega (arith, ap length d))
 
-  measured : (c : Conversion) (f : Font) → check_of s ≡ Sound f → f.kind ≡ source_kind c → OfPrepared s (measured_then c f (tail_of s f) (measured_of c (tail_of s f)))
+  measured : (c : Conversion) (f : Font) → check_of s ≡ Ok f → f.kind ≡ source_kind c → OfPrepared s (measured_then c f (tail_of s f) (measured_of c (tail_of s f)))
   unfolding fitting glyph_at
   measured c f e k = go (measured_of c (tail_of s f)) refl
     where
-      go : (x : Measured) → measured_of c (tail_of s f) ≡ x → OfPrepared s (measured_then c f (tail_of s f) x)
-      go (Measures t) q = by_when (OfPrepared s) _ _ _ (from_20 s _ _ (omega arith)) tt
-      go (Uncarried i) q =
+      go : (x : Result ℕ ℕ) → measured_of c (tail_of s f) ≡ x → OfPrepared s (measured_then c f (tail_of s f) x)
+      go (Ok t) q = by_when (OfPrepared s) _ _ _ (from_20 s _ _ (omega arith)) tt
+      go (Err i) q =
           let d = described s f y e in
           let r = read_as s f y e d.0 d.1 in
           let o = subst (λ (x : Kind). Readable (coding_of x) d.0 × (tail_of s f ≡ encode (coding_of x) d.0)) k r in
           let w = uncarried_glyph (coding_of (source_kind c)) (coding_of (target_kind c)) d.0 (tail_of s f) o.0 o.1 i (sym (measured_as c (tail_of s f) d.0 o.0 o.1) ∙ q) in
           let n : length d.0 ≡ f.count = counted f f.table d.0 w.0 d.1 w.2 in
-          let t : table_of (coding_of f.kind) f.count (take i (tail_of s f)) ≡ Cut i w.0 =
+          let t : table_of (coding_of f.kind) f.count (take i (tail_of s f)) ≡ Err (Cut i w.0) =
           ap (λ (x : Kind). table_of (coding_of x) f.count (take i (tail_of s f))) k ∙ ap (λ (x : ℕ). table_of (coding_of (source_kind c)) x (take i (tail_of s f))) (sym n) ∙ w.1 in
-          subst (Told s 19 (f.end + i)) (ap (λ (a : TableAnswer). glyph_told (told_at f.end a)) (sym t))
+          subst (Told s 19 (f.end + i)) (ap (λ (a : Result (Unit {0}) Fault). glyph_told (told_at f.end a)) (sym t))
           (in_table s y f (accepted s f e).0 19 i w.0 (inr (inr refl)) (omega (arith, w.2, n), subst (λ (x : Kind). InGlyph (coding_of x) (tail_of s f) i w.0) (sym k) w.3))
 
   prepared : (c : Conversion) → OfPrepared s (prepared_of c s)
   unfolding prepared_of prepared_on
   prepared c = go (opened_of (source_kind c) s) refl (opened (source_kind c))
     where
-      then : (x : Suits) (p : Prepared) → OfSuits s x → OfPrepared s p → OfPrepared s (suits_then x p)
-      then Yes p a b = b
-      then (Unsuited r) p a b = a
+      then : (x : Result (Unit {0}) Refusal) (p : Result (Font × ℕ) Refusal) → OfSuits s x → OfPrepared s p → OfPrepared s (suits_then x p)
+      then (Ok tt) p a b = b
+      then (Err r) p a b = a
 
-      go : (x : Checked) → opened_of (source_kind c) s ≡ x → Numbered s x → OfPrepared s (opened_then x (prepared_on c s))
-      go (Sound f) q n = let w = opened_sound (source_kind c) s f q in then (suits_of c s f) _ (suits c f w.0 w.1) (measured c f w.0 w.1)
-      go (Refused r) q n = n
+      go : (x : Result Font Refusal) → opened_of (source_kind c) s ≡ x → Numbered s x → OfPrepared s (opened_then x (prepared_on c s))
+      go (Ok f) q n = let w = opened_sound (source_kind c) s f q in then (suits_of c s f) _ (suits c f w.0 w.1) (measured c f w.0 w.1)
+      go (Err r) q n = n
 
   pub conversion_told : (c : Conversion) (m : ℕ) → OfConverted s (converted_of c s m)
   unfolding converted_of
   conversion_told c m = go (prepared_of c s) (prepared c)
     where
-      go : (p : Prepared) → OfPrepared s p → OfConverted s (converted p m)
-      go (Ready f n) a = by_when (OfConverted s) _ _ _ (from_20 s _ _ (omega arith)) tt
-      go (Unprepared r) a = a
+      go : (p : Result (Font × ℕ) Refusal) → OfPrepared s p → OfConverted s (converted p m)
+      go (Ok (f , n)) a = by_when (OfConverted s) _ _ _ (from_20 s _ _ (omega arith)) tt
+      go (Err r) a = a
 
 -- the edits, on a font in the first len bytes of a buffer
 module _ (xs : List ℕ) (y : Bytes xs) (len g v : ℕ) where
@@ -307,8 +278,8 @@ module _ (xs : List ℕ) (y : Bytes xs) (len g v : ℕ) where
   file = take len xs
 
   at : (end : ℕ) (m : Mapping) → OfSought file (sought_at end m)
-  at end (ListedAt a b) = tt
-  at end (UnlistedAt a) = tt
+  at end (Listed a b) = tt
+  at end (Unlisted a) = tt
 
   ask_none : Told file 13 0 4096
   ask_none = from_12 file 13 0 (omega arith) (omega arith)
@@ -324,54 +295,56 @@ module _ (xs : List ℕ) (y : Bytes xs) (len g v : ℕ) where
   unfolding sought_of
   sought = by_when (OfSought file) _ _ _ ask_none (go (opened_of Psf2 file) (opened file (bytes_take len xs y) Psf2))
     where
-      go : (c : Checked) → Numbered file c → OfSought file (sought_in file g v c)
-      go (Sound f) n = on_font f
-      go (Refused r) n = n
+      go : (c : Result Font Refusal) → Numbered file c → OfSought file (sought_in file g v c)
+      go (Ok f) n = on_font f
+      go (Err r) n = n
 
   pub add_told : OfEdited file (add_answer xs len g v)
   unfolding add_answer insert_answer fitted
   add_told = go (sought_of xs len g v) sought
     where
-      go : (x : Sought) → OfSought file x → OfEdited file (adding (length xs) len v x)
-      go (Listed a b) n = from_20 file _ _ (omega arith)
-      go (Unlisted a) n =
+      go : (x : Result Mapping Refusal) → OfSought file x → OfEdited file (adding (length xs) len v x)
+      go (Ok (Listed a b)) n = from_20 file _ _ (omega arith)
+      go (Ok (Unlisted a)) n =
           by_when (OfEdited file) _ _ _ (from_12 file _ _ (omega arith) (omega arith))
           (by_when (OfEdited file) _ _ _ (from_20 file _ _ (omega arith)) (by_when (OfEdited file) _ _ _ (from_20 file _ _ (omega arith)) tt))
-      go (NotSought r) n = n
+      go (Err r) n = n
 
   pub drop_told : OfEdited file (drop_answer xs len g v)
   unfolding drop_answer
   drop_told = go (sought_of xs len g v) sought
     where
-      go : (x : Sought) → OfSought file x → OfEdited file (dropping len x)
-      go (Listed a b) n = tt
-      go (Unlisted a) n = from_20 file _ _ (omega arith)
-      go (NotSought r) n = n
+      go : (x : Result Mapping Refusal) → OfSought file x → OfEdited file (dropping len x)
+      go (Ok (Listed a b)) n = tt
+      go (Ok (Unlisted a)) n = from_20 file _ _ (omega arith)
+      go (Err r) n = n
 
 -- a comparison
-abbrev pub OfCompared : List ℕ → List ℕ → Compared → Type 0
-OfCompared s o (Pairs n) = Unit {0}
-OfCompared s o (NotCompared w r) = (w ≡ 1 → Tells s r) × (w ≡ 2 → Tells o r) × (w ≡ 0 → r.glyph ≡ no_glyph)
+abbrev pub OfCompared : List ℕ → List ℕ → Result ℕ Uncompared → Type 0
+OfCompared s o (Ok n) = Unit {0}
+OfCompared s o (Err (First r)) = Tells s r
+OfCompared s o (Err (Second r)) = Tells o r
+OfCompared s o (Err (Neither r)) = r.glyph ≡ no_glyph
 
 pub compare_told : (s o : List ℕ) → Bytes s → Bytes o → (room : ℕ) → OfCompared s o (compare_answer s o room)
 unfolding compare_answer fittedIn
 compare_told s o ys yo room = first (check_of s) (check_numbered s ys)
   where
     fits : (n : ℕ) → OfCompared s o (fittedIn room n)
-    fits n = by_when (OfCompared s o) _ _ _ ((λ q. absurd (omega (arith, q))), (λ q. absurd (omega (arith, q))), λ q. refl) tt
+    fits n = by_when (OfCompared s o) _ _ _ refl tt
 
-    second : (f : Font) (c : Checked) → Numbered o c → OfCompared s o (compared_with s f o room c)
-    second f (Sound h) n = fits (length (pairs_of s f o h))
-    second f (Refused r) n = ((λ q. absurd (omega (arith, q))), (λ q. n), λ q. absurd (omega (arith, q)))
+    second : (f : Font) (c : Result Font Refusal) → Numbered o c → OfCompared s o (compared_with s f o room c)
+    second f (Ok h) n = fits (length (pairs_of s f o h))
+    second f (Err r) n = n
 
-    first : (c : Checked) → Numbered s c → OfCompared s o (compared_by s o room c)
-    first (Sound f) n = second f (check_of o) (check_numbered o yo)
-    first (Refused r) n = ((λ q. n), (λ q. absurd (omega (arith, q))), λ q. absurd (omega (arith, q)))
+    first : (c : Result Font Refusal) → Numbered s c → OfCompared s o (compared_by s o room c)
+    first (Ok f) n = second f (check_of o) (check_numbered o yo)
+    first (Err r) n = n
 
 -- a piece for a loader
-abbrev pub OfReply : Reply → Type 0
-OfReply Taken = Unit {0}
-OfReply (Untaken r) = r.glyph ≡ no_glyph
+abbrev pub OfReply : Result (Unit {0}) Refusal → Type 0
+OfReply (Ok tt) = Unit {0}
+OfReply (Err r) = r.glyph ≡ no_glyph
 
 pub feed_told : (l : Loader) → OfReply (feed_answer l)
 unfolding feed_answer

@@ -17,14 +17,10 @@ use Rattle.refusal.specs.declared.Reason.TheVariants.{TooLong, BodyCut, TableCut
 use Rattle.header.specs.declared.Kind.{Kind}
 use Rattle.header.specs.declared.Kind.TheVariants.{Psf1, Psf2, Vfont2}
 use Rattle.header.specs.declared.Font.{Font}
-use Rattle.header.specs.declared.Checked.{Checked}
-use Rattle.header.specs.declared.Checked.TheVariants.{Sound, Refused}
 use Rattle.header.specs.Meaning.{limit}
 use Rattle.header.specs.Reading.{says_of}
 use Rattle.header.specs.Bounds.{PartsOf, Parts}
 use Rattle.header.proofs.Front.{says_front, parts}
-use Rattle.entries.specs.declared.Scan.{Scan}
-use Rattle.entries.specs.declared.Scan.TheVariants.{BrokenAt, Greatest}
 use Rattle.entries.specs.Meaning.{entry_at}
 use Rattle.entries.specs.Reading.{scan_of}
 use Rattle.table.specs.Reading.{steps_from, at_end, table_of}
@@ -49,6 +45,8 @@ use Rattle.loader.proofs.Opening.{opens}
 use Rattle.loader.proofs.Cases.{answer_long, answer_short, answer_whole, entries_first, no_entries, no_tail, table_first, table_cut, table_whole, table_over, table_bad, bare_over, bare_sound}
 use Rattle.laws.proofs.Regions.{Kept, kept_of}
 use Rattle.laws.proofs.Pieces.{in_header, through_header, overflows, body_total, said_keeps}
+use Rattle.std.specs.Prelude.{Result, Ok, Err}
+use Rattle.refusal.specs.declared.Refusal.{Refusal}
 
 abbrev no_sums : Sums
 no_sums = record { broken = 0; height = 0; width = 0 }
@@ -123,10 +121,10 @@ module _ (f : Font) (s : List ℕ) (w : Parts f) (within : f.end ≤ length s) w
     numbered : (start i : ℕ) → entry_number start (entry_at start i) ≡ i
     numbered start i = let e : start + i * 18 - start ≡ i * 18 = omega arith in rw e (omega arith)
 
-    tells : (r : Scan) → kind_told f (after_scan f.entries r) Vfont2 ≡ scanned f r
+    tells : (r : Result (ℕ × ℕ) ℕ) → kind_told f (after_scan f.entries r) Vfont2 ≡ scanned f r
     unfolding when
-    tells (BrokenAt i) = let z : entry_at f.entries i ≡ 0 → ⊥ = λ e. omega (arith, w.0) in rw (ne_eqb (entry_at f.entries i) 0 z, numbered f.entries i)
-    tells (Greatest h g) = refl
+    tells (Err i) = let z : entry_at f.entries i ≡ 0 → ⊥ = λ e. omega (arith, w.0) in rw (ne_eqb (entry_at f.entries i) 0 z, numbered f.entries i)
+    tells (Ok (h , g)) = refl
 
   entries_told_lem : entries_told f (entries_in f 0 (held_of []) no_sums s).sums ≡ entries_of s f
   unfolding entries_told entries_of
@@ -153,11 +151,11 @@ module _ (f : Font) (s : List ℕ) (within : f.end ≤ length s) (short : length
       l : length (tail_of s f) ≡ length s - f.end
       l = length-drop f.end s
 
-      at_cut : (k : ℕ) → f.count - r.ended ≡ k → r.ended < f.count → Refused (refusal_at TableCut (length s) r.ended) ≡ answered f (at_end r.ended k (length (tail_of s f)))
+      at_cut : (k : ℕ) → f.count - r.ended ≡ k → r.ended < f.count → Err (refusal_at TableCut (length s) r.ended) ≡ answered f (at_end r.ended k (length (tail_of s f)))
       at_cut zero z q = absurd (omega arith)
-      at_cut (suc k) z q = let end : length s ≡ f.end + length (tail_of s f) = omega (arith, l) in ap (λ (m : ℕ). Refused (refusal_at TableCut m r.ended)) end
+      at_cut (suc k) z q = let end : length s ≡ f.end + length (tail_of s f) = omega (arith, l) in ap (λ (m : ℕ). Err (refusal_at TableCut m r.ended)) end
 
-      at_whole : (k : ℕ) → f.count - r.ended ≡ k → f.count ≤ r.ended → Sound f ≡ answered f (at_end r.ended k (length (tail_of s f)))
+      at_whole : (k : ℕ) → f.count - r.ended ≡ k → f.count ≤ r.ended → Ok f ≡ answered f (at_end r.ended k (length (tail_of s f)))
       at_whole zero z q = refl
       at_whole (suc k) z q = absurd (omega arith)
 
@@ -167,16 +165,16 @@ module _ (f : Font) (s : List ℕ) (within : f.end ≤ length s) (short : length
       go : (r.halted ≡ 0) ⊎ (r.halted ≡ 0 → ⊥) → (r.halted ≡ 12) ⊎ (r.halted ≡ 12 → ⊥) → tail_told f (length s) t ≡ answered f (table_told f.count (length (tail_of s f)) r)
       go (inl z) y =
           ⊎_elim
-          (λ (k : r.ended < f.count). sym (table_cut f (length s) t b (h ∙ z) (omega arith)) ∙ ap (λ (m : ℕ). Refused (refusal_at TableCut (length s) m)) e ∙ at_cut (f.count - r.ended) refl k ∙ going z)
+          (λ (k : r.ended < f.count). sym (table_cut f (length s) t b (h ∙ z) (omega arith)) ∙ ap (λ (m : ℕ). Err (refusal_at TableCut (length s) m)) e ∙ at_cut (f.count - r.ended) refl k ∙ going z)
           (λ (k : f.count ≤ r.ended). sym (table_whole f (length s) t b (h ∙ z) (omega arith)) ∙ at_whole (f.count - r.ended) refl k ∙ going z)
           (below r.ended f.count)
       go (inr z) (inl y) =
           sym (table_over f (length s) t b (λ k. z (sym h ∙ k)) (h ∙ y))
-          ∙ ap (λ (m : ℕ). Refused (refusal Trailing m)) (p z)
+          ∙ ap (λ (m : ℕ). Err (refusal Trailing m)) (p z)
           ∙ rw (ne_eqb r.halted 0 z, eq-eqb r.halted 12 y)
       go (inr z) (inr y) =
           sym (table_bad f (length s) t b (λ k. z (sym h ∙ k)) (λ k. y (sym h ∙ k)))
-          ∙ (λ i. Refused (refusal_at TableBad (p z i) (e i)))
+          ∙ (λ i. Err (refusal_at TableBad (p z i) (e i)))
           ∙ rw (ne_eqb r.halted 0 z, ne_eqb r.halted 12 y)
 
   abbrev R : Run
@@ -201,7 +199,7 @@ module _ (f : Font) (s : List ℕ) (within : f.end ≤ length s) (short : length
           let g = read_standing C f.count f.end (tail_of s f) in
           ap (λ (y : tables.Fed). tail_told f (length s) y.standing) e ∙ tail_by R _ g.0 g.1 (λ k. g.2) b
 
-  bare_told : (t : Standing) → f.table ≡ false → tail_told f (length s) t ≡ when (ltb f.end (length s)) (Refused (refusal Trailing f.end)) (Sound f)
+  bare_told : (t : Standing) → f.table ≡ false → tail_told f (length s) t ≡ when (ltb f.end (length s)) (Err (refusal Trailing f.end)) (Ok f)
   unfolding when
   bare_told t b =
       ⊎_elim
@@ -213,41 +211,41 @@ module _ (f : Font) (s : List ℕ) (within : f.end ≤ length s) (short : length
   unfolding tailed bare_of
   tail_told_lem h = by f.table refl
     where
-      by : (b : Bool) → f.table ≡ b → tail_told f (length s) (table_in f 0 h unread s).standing ≡ pick b (answered f (table_of C f.count (tail_of s f))) (when (ltb f.end (length s)) (Refused (refusal Trailing f.end)) (Sound f))
+      by : (b : Bool) → f.table ≡ b → tail_told f (length s) (table_in f 0 h unread s).standing ≡ pick b (answered f (table_of C f.count (tail_of s f))) (when (ltb f.end (length s)) (Err (refusal Trailing f.end)) (Ok f))
       by true b = stands h b
       by false b = bare_told (table_in f 0 h unread s).standing b
 
 -- a font that the stages let through is the one that the header describes
-abbrev SoundIs : Font → Checked → Type 0
-SoundIs f (Sound g) = g ≡ f
-SoundIs f (Refused r) = Unit {0}
+abbrev SoundIs : Font → Result Font Refusal → Type 0
+SoundIs f (Ok g) = g ≡ f
+SoundIs f (Err r) = Unit {0}
 
 same_font : (s : List ℕ) (f : Font) → SoundIs f (entries_of s f)
 unfolding entries_of greatest_of
 same_font s f = by f.kind
   where
-    told_scan : (r : Scan) → SoundIs f (scanned f r)
-    told_scan (BrokenAt i) = tt
-    told_scan (Greatest h w) = by_when (SoundIs f) _ _ _ tt (by_when (SoundIs f) _ _ _ tt refl)
+    told_scan : (r : Result (ℕ × ℕ) ℕ) → SoundIs f (scanned f r)
+    told_scan (Err i) = tt
+    told_scan (Ok (h , w)) = by_when (SoundIs f) _ _ _ tt (by_when (SoundIs f) _ _ _ tt refl)
 
     by : (k : Kind) → SoundIs f (kind_entries s f k)
     by Psf1 = refl
     by Psf2 = refl
     by Vfont2 = told_scan (scan_of s f.size f.entries f.count 0 0 0)
 
-cut_short : (n : ℕ) (f : Font) → n < f.end → (k : Font → Checked) → and_then (sized n f) k ≡ Refused (refusal BodyCut n)
+cut_short : (n : ℕ) (f : Font) → n < f.end → (k : Font → Result Font Refusal) → and_then (sized n f) k ≡ Err (refusal BodyCut n)
 unfolding sized when
 cut_short n f h k = rw (lt-ltb n f.end h)
 
-long_enough : (n : ℕ) (f : Font) → f.end ≤ n → sized n f ≡ Sound f
+long_enough : (n : ℕ) (f : Font) → f.end ≤ n → sized n f ≡ Ok f
 unfolding sized when
 long_enough n f h = rw (le-ltb n f.end h)
 
 -- a record whose header has just been read
 module _ (f : Font) (s : List ℕ) (w : Parts f) (short : length s ≤ limit) (l : Loader) (fresh : (l.total ≡ 0) × (l.held ≡ held_of []) × (l.sums ≡ no_sums) × (l.standing ≡ unread)) where
-  told_on : f.end ≤ length s → (t : Standing) → tail_told f (length s) t ≡ tailed s f → (c : Checked) → SoundIs f c → and_then c (λ k. tail_told k (length s) t) ≡ and_then c (tailed s)
-  told_on h t e (Sound g) q = rw q e
-  told_on h t e (Refused r) q = refl
+  told_on : f.end ≤ length s → (t : Standing) → tail_told f (length s) t ≡ tailed s f → (c : Result Font Refusal) → SoundIs f c → and_then c (λ k. tail_told k (length s) t) ≡ and_then c (tailed s)
+  told_on h t e (Ok g) q = rw q e
+  told_on h t e (Err r) q = refl
 
   font_told_lem : font_told f (font_fed f l s) ≡ and_then (and_then (sized (length s) f) (entries_of s)) (tailed s)
   unfolding font_told font_fed
@@ -258,7 +256,7 @@ module _ (f : Font) (s : List ℕ) (w : Parts f) (short : length s ≤ limit) (l
       go : (length s < f.end) ⊎ (f.end ≤ length s) →
           and_then (sized (length s) f) (λ g. and_then (entries_told g (entries_in f 0 (held_of []) no_sums s).sums) (λ k. tail_told k (length s) (table_in f 0 (entries_in f 0 (held_of []) no_sums s).held unread s).standing))
           ≡ and_then (and_then (sized (length s) f) (entries_of s)) (tailed s)
-      go (inl h) = cut_short (length s) f h _ ∙ sym (ap (λ (c : Checked). and_then c (tailed s)) (cut_short (length s) f h (entries_of s)))
+      go (inl h) = cut_short (length s) f h _ ∙ sym (ap (λ (c : Result Font Refusal). and_then c (tailed s)) (cut_short (length s) f h (entries_of s)))
       go (inr h) =
           rw (long_enough (length s) f h, entries_told_lem f s w h)
           (told_on h (table_in f 0 (entries_in f 0 (held_of []) no_sums s).held unread s).standing (tail_told_lem f s h short (entries_in f 0 (held_of []) no_sums s).held) (entries_of s f) (same_font s f))
@@ -276,7 +274,7 @@ check_on : (s : List ℕ) → length s ≤ limit → check_of s ≡ and_then (an
 unfolding check_of through_entries through_body when
 check_on s h = rw (le-ltb limit (length s) h)
 
-check_long : (s : List ℕ) → limit < length s → check_of s ≡ Refused (refusal TooLong limit)
+check_long : (s : List ℕ) → limit < length s → check_of s ≡ Err (refusal TooLong limit)
 unfolding check_of through_entries through_body when
 check_long s h = rw (lt-ltb limit (length s) h)
 
@@ -299,9 +297,9 @@ module _ (s : List ℕ) (short : length s ≤ limit) (long : 32 ≤ length s) wh
       ap (λ (x : List ℕ). says_of (take 32 x)) start
       ∙ sym (ap says_of (sym (take-append-drop 32 s)) ∙ says_front (take 32 s) (drop 32 s) (omega arith))
 
-  by_said : (c : Checked) → says_of s ≡ c → and_then c (λ f. font_told f (said_fed c k s)) ≡ and_then (and_then (and_then c (sized (length s))) (entries_of s)) (tailed s)
-  by_said (Sound f) e = font_told_lem f s (parts s f e) short k k_fresh
-  by_said (Refused r) e = refl
+  by_said : (c : Result Font Refusal) → says_of s ≡ c → and_then c (λ f. font_told f (said_fed c k s)) ≡ and_then (and_then (and_then c (sized (length s))) (entries_of s)) (tailed s)
+  by_said (Ok f) e = font_told_lem f s (parts s f e) short k k_fresh
+  by_said (Err r) e = refl
 
   body_header : (body_fed k s).header ≡ k.header
   unfolding body_fed
@@ -309,14 +307,14 @@ module _ (s : List ℕ) (short : length s ≤ limit) (long : 32 ≤ length s) wh
 
   body_said : body_fed k s ≡ said_fed (says_of s) k s
   unfolding body_fed
-  body_said = ap (λ (c : Checked). said_fed c k s) k_header
+  body_said = ap (λ (c : Result Font Refusal). said_fed c k s) k_header
 
   loaded_whole : answer_of (body_fed k s) ≡ check_of s
   loaded_whole =
       let t : (body_fed k s).total ≡ k.total + length s = body_total k s in
       let z = k_fresh.0 in
       sym (answer_whole (body_fed k s) (omega arith, omega arith))
-      ∙ ap (λ (c : Checked). and_then c (λ f. font_told f (body_fed k s))) (ap says_of body_header ∙ k_header)
+      ∙ ap (λ (c : Result Font Refusal). and_then c (λ f. font_told f (body_fed k s))) (ap says_of body_header ∙ k_header)
       ∙ ap (λ (l : Loader). and_then (says_of s) (λ f. font_told f l)) body_said
       ∙ by_said (says_of s) refl
       ∙ sym (check_on s short)

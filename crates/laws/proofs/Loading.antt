@@ -10,10 +10,8 @@ use native.Mathlib.Omega.{arith}
 use Rattle.refusal.specs.declared.Refusal.{Refusal}
 use Rattle.refusal.specs.declared.Reason.TheVariants.{Late}
 use Rattle.refusal.specs.Meaning.{refusal}
-use Rattle.header.specs.declared.Checked.TheVariants.{Refused}
 use Rattle.stages.specs.Reading.{check_of}
 use Rattle.loader.specs.declared.Loader.{Loader}
-use Rattle.loader.specs.declared.Reply.TheVariants.{Taken, Refused as Untaken}
 use Rattle.loader.specs.Meaning.{together, fed_all, Call, Feed, Close, called}
 use Rattle.loader.specs.Reading.{fresh_of, is_open, fed_of, feed_answer, answer_of, close_answer, closed_of}
 use Rattle.loader.proofs.Opening.{opened, opens, is_closed}
@@ -22,6 +20,7 @@ use Rattle.laws.proofs.Regions.{Kept}
 use Rattle.laws.proofs.Pieces.{fed_twice, stays_open}
 use Rattle.laws.proofs.Loaded.{loaded, fresh_open, fresh_kept, fresh_empty}
 use Rattle.laws.proofs.Early.{Early, early_answer}
+use Rattle.std.specs.Prelude.{Ok, Err, Result}
 
 -- pieces after a first one are one piece with it
 with_first : (l : Loader) (p : List ℕ) (ps : List (List ℕ)) → is_open l ≡ true → Kept l.held → fed_all (fed_of l p) ps ≡ fed_of l (p ++ together ps)
@@ -58,27 +57,27 @@ one_of : (P : Type 0) (b : Bool) → (b ≡ true → P) → (b ≡ false → P) 
 one_of P true f g = f refl
 one_of P false f g = g refl
 
-not_taken : (r : Refusal) → Taken ≡ Untaken r → ⊥
+not_taken : (r : Refusal) → ◌≡◌ {A = Result (Unit {0}) Refusal} (Ok tt) (Err r) → ⊥
 not_taken r e = let z : ◌≡◌ {A = ℕ} 0 1 = cc in omega (arith, z)
 
 -- "it speaks only at the close": a piece on an open record is answered with neither sound nor refused
-pub taken_exactly : (l : Loader) → (feed_answer l ≡ Taken) ↔ (is_open l ≡ true)
+pub taken_exactly : (l : Loader) → (feed_answer l ≡ Ok tt) ↔ (is_open l ≡ true)
 taken_exactly l = (
-  λ (e : feed_answer l ≡ Taken). one_of (is_open l ≡ true) (is_open l) (λ o. o) (λ o. absurd (not_taken (refusal Late 0) (sym e ∙ sym (fed_late l o)))),
+  λ (e : feed_answer l ≡ Ok tt). one_of (is_open l ≡ true) (is_open l) (λ o. o) (λ o. absurd (not_taken (refusal Late 0) (sym e ∙ sym (fed_late l o)))),
   λ (o : is_open l ≡ true). sym (taken l o),
 )
 
 -- "LATE (22, place 0) for a piece or close after the close"
-pub late_feed_exactly : (l : Loader) → (feed_answer l ≡ Untaken (refusal Late 0)) ↔ (is_open l ≡ false)
+pub late_feed_exactly : (l : Loader) → (feed_answer l ≡ Err (refusal Late 0)) ↔ (is_open l ≡ false)
 late_feed_exactly l = (
-  λ (e : feed_answer l ≡ Untaken (refusal Late 0)). one_of (is_open l ≡ false) (is_open l) (λ o. absurd (not_taken (refusal Late 0) (taken l o ∙ e))) (λ o. o),
+  λ (e : feed_answer l ≡ Err (refusal Late 0)). one_of (is_open l ≡ false) (is_open l) (λ o. absurd (not_taken (refusal Late 0) (taken l o ∙ e))) (λ o. o),
   λ (o : is_open l ≡ false). sym (fed_late l o),
 )
 
-pub late_close_exactly : (l : Loader) → (close_answer l ≡ Refused (refusal Late 0)) ↔ (is_open l ≡ false)
+pub late_close_exactly : (l : Loader) → (close_answer l ≡ Err (refusal Late 0)) ↔ (is_open l ≡ false)
 late_close_exactly l = (
-  λ (e : close_answer l ≡ Refused (refusal Late 0)). one_of (is_open l ≡ false) (is_open l)
-      (λ o. let h : Early (Refused (refusal Late 0)) = subst Early (answers l o ∙ e) (early_answer l) in absurd (omega (arith, h))) (λ o. o),
+  λ (e : close_answer l ≡ Err (refusal Late 0)). one_of (is_open l ≡ false) (is_open l)
+      (λ o. let h : Early (Err (refusal Late 0)) = subst Early (answers l o ∙ e) (early_answer l) in absurd (omega (arith, h))) (λ o. o),
   λ (o : is_open l ≡ false). sym (close_late l o),
 )
 

@@ -13,15 +13,9 @@ use Rattle.refusal.specs.declared.Refusal.{Refusal}
 use Rattle.header.specs.declared.Kind.{Kind}
 use Rattle.header.specs.declared.Kind.TheVariants.{Psf1, Psf2, Vfont2}
 use Rattle.header.specs.declared.Font.{Font}
-use Rattle.header.specs.declared.Checked.TheVariants.{Sound, Refused}
 use Rattle.header.specs.Meaning.{row_bytes, glyph_bytes}
 use Rattle.entries.specs.Meaning.{entry_at, size_at}
 use Rattle.bitmap.specs.declared.Bitmap.{Bitmap}
-use Rattle.bitmap.specs.declared.Located.{Located}
-use Rattle.bitmap.specs.declared.Located.TheVariants.{Found, Refused as NotLocated}
-use Rattle.bitmap.specs.declared.Part.TheVariants.{Refused as NoPart}
-use Rattle.bitmap.specs.declared.Pixel.TheVariants.{Refused as NoPixel}
-use Rattle.bitmap.specs.declared.GlyphMetrics.TheVariants.{Refused as NoMetrics}
 use Rattle.bitmap.specs.Meaning.{bit_of, view_of}
 use Rattle.bitmap.specs.Reading.{bitmap_of, whole_of, row_of, pixel_of, metrics_of}
 use Rattle.bitmap.specs.Bounds.{Inside, LocatedInside}
@@ -34,6 +28,7 @@ use Rattle.stages.specs.Reading.{check_of}
 use Rattle.fonts.specs.Reading.{glyph_part_of, row_part_of, pixel_at, glyph_metrics_of}
 use Rattle.laws.specs.Meaning.{Exact, Said, gives, refuses, told, part_says, pixel_says, metrics_says, GlyphRows, GlyphPartRows, RowPartRows, PixelRows, MetricsRows, joined}
 use Rattle.laws.proofs.Exactly.{is, row, own_first, moved, less, at_most, either}
+use Rattle.std.specs.Prelude.{Result, Ok, Err}
 
 -- whether a number below the count is that of a glyph without a bitmap
 glyph_or_none : (s : List ℕ) (f : Font) (g : ℕ) (k : Kind) → Without s f g k ⊎ (Without s f g k → ⊥)
@@ -42,10 +37,10 @@ glyph_or_none s f g Psf2 = inr (λ n. n)
 glyph_or_none s f g Vfont2 = same (size_at s (entry_at f.entries g)) 0
 
 -- a question x on where glyph g's bitmap stands, which hands a refusal on
-module _ (s : List ℕ) (y : Bytes s) (g : ℕ) {A : Type 0} {rest : Font → Said A → Type 0} (x : Said A) (answer : Font → Located → Said A)
-    (hands : (f : Font) (r : Refusal) → answer f (NotLocated r) ≡ told r) (stops : (r : Refusal) → check_of s ≡ Refused r → x ≡ told r)
-    (asks : (f : Font) → check_of s ≡ Sound f → x ≡ answer f (bitmap_of s f g))
-    (goes : (f : Font) → check_of s ≡ Sound f → Exact (answer f (Found (bitmap_in s f g f.kind))) (rest f)) where
+module _ (s : List ℕ) (y : Bytes s) (g : ℕ) {A : Type 0} {rest : Font → Said A → Type 0} (x : Said A) (answer : Font → Result Bitmap Refusal → Said A)
+    (hands : (f : Font) (r : Refusal) → answer f (Err r) ≡ told r) (stops : (r : Refusal) → check_of s ≡ Err r → x ≡ told r)
+    (asks : (f : Font) → check_of s ≡ Ok f → x ≡ answer f (bitmap_of s f g))
+    (goes : (f : Font) → check_of s ≡ Ok f → Exact (answer f (Ok (bitmap_in s f g f.kind))) (rest f)) where
   pub glyph_rows : Exact x (GlyphRows s g rest)
   glyph_rows =
       own_first s stops (λ f e.
@@ -55,7 +50,7 @@ module _ (s : List ℕ) (y : Bytes s) (g : ℕ) {A : Type 0} {rest : Font → Sa
       moved x _ (asks f e ∙ ap (answer f) (glyph_found s f y e g l n)) (goes f e))))
 
 -- the four questions, on a sound font and on any other
-module _ (s : List ℕ) (f : Font) (sound : check_of s ≡ Sound f) where
+module _ (s : List ℕ) (f : Font) (sound : check_of s ≡ Ok f) where
   pub part_asked : (g : ℕ) → glyph_part_of s g ≡ whole_of (bitmap_of s f g)
   unfolding glyph_part_of
   part_asked g = rw sound
@@ -72,20 +67,20 @@ module _ (s : List ℕ) (f : Font) (sound : check_of s ≡ Sound f) where
   unfolding glyph_metrics_of
   metrics_asked g = rw sound
 
-module _ (s : List ℕ) (r : Refusal) (refused : check_of s ≡ Refused r) where
-  part_own : (g : ℕ) → glyph_part_of s g ≡ NoPart r
+module _ (s : List ℕ) (r : Refusal) (refused : check_of s ≡ Err r) where
+  part_own : (g : ℕ) → glyph_part_of s g ≡ Err r
   unfolding glyph_part_of
   part_own g = rw refused
 
-  row_own : (g i : ℕ) → row_part_of s g i ≡ NoPart r
+  row_own : (g i : ℕ) → row_part_of s g i ≡ Err r
   unfolding row_part_of
   row_own g i = rw refused
 
-  pixel_own : (g i j : ℕ) → pixel_at s g i j ≡ NoPixel r
+  pixel_own : (g i j : ℕ) → pixel_at s g i j ≡ Err r
   unfolding pixel_at
   pixel_own g i j = rw refused
 
-  metrics_own : (g : ℕ) → glyph_metrics_of s g ≡ NoMetrics r
+  metrics_own : (g : ℕ) → glyph_metrics_of s g ≡ Err r
   unfolding glyph_metrics_of
   metrics_own g = rw refused
 
@@ -118,20 +113,20 @@ module _ (s : List ℕ) (y : Bytes s) where
       let v : b.width ≤ j → ⊥ = λ z. h (inr z) in
       is _ _ (ap pixel_says (pixel_in s b i j (omega arith) (omega arith)))))
     where
-      beside : (b : Bitmap) → b.width ≤ j → (i < b.height) ⊎ ((i < b.height) → ⊥) → pixel_says (pixel_of s (Found b) i j) ≡ refuses 13 0
+      beside : (b : Bitmap) → b.width ≤ j → (i < b.height) ⊎ ((i < b.height) → ⊥) → pixel_says (pixel_of s (Ok b) i j) ≡ refuses 13 0
       beside b w (inl l) = ap pixel_says (pixel_past s b i j l w)
       beside b w (inr n) = ap pixel_says (sym (pixel_below s b i j (omega arith)))
 
-      outside : (b : Bitmap) → (b.height ≤ i) ⊎ (b.width ≤ j) → pixel_says (pixel_of s (Found b) i j) ≡ refuses 13 0
+      outside : (b : Bitmap) → (b.height ≤ i) ⊎ (b.width ≤ j) → pixel_says (pixel_of s (Ok b) i j) ≡ refuses 13 0
       outside b (inl h) = ap pixel_says (sym (pixel_below s b i j h))
       outside b (inr w) = beside b w (less i b.height)
 
 -- a glyph that has a bitmap
-module _ (s : List ℕ) (y : Bytes s) (f : Font) (sound : check_of s ≡ Sound f) (g : ℕ) (l : g < f.count) (n : Without s f g f.kind → ⊥) where
+module _ (s : List ℕ) (y : Bytes s) (f : Font) (sound : check_of s ≡ Ok f) (g : ℕ) (l : g < f.count) (n : Without s f g f.kind → ⊥) where
   abbrev b : Bitmap
   b = bitmap_in s f g f.kind
 
-  here : bitmap_of s f g ≡ Found b
+  here : bitmap_of s f g ≡ Ok b
   here = glyph_found s f y sound g l n
 
   pub bitmap_inside : Inside s b
@@ -141,7 +136,7 @@ module _ (s : List ℕ) (y : Bytes s) (f : Font) (sound : check_of s ≡ Sound f
   glyph_view = ap (view_of s) (part_asked s f sound g ∙ ap whole_of here)
 
   row_view : (i : ℕ) → i < b.height → view_of s (row_part_of s g i) ≡ take (row_bytes b.width) (drop (b.start + i * row_bytes b.width) s)
-  row_view i h = ap (view_of s) (row_asked s f sound g i ∙ ap (λ (z : Located). row_of z i) here ∙ row_in b i h)
+  row_view i h = ap (view_of s) (row_asked s f sound g i ∙ ap (λ (z : Result Bitmap Refusal). row_of z i) here ∙ row_in b i h)
 
   rows_joined : (k i : ℕ) → i + k ≤ b.height → take (k * row_bytes b.width) (drop (b.start + i * row_bytes b.width) s) ≡ joined (λ (j : ℕ). view_of s (row_part_of s g j)) i k
   rows_joined zero i h = let z : 0 * row_bytes b.width ≡ 0 = omega arith in ap (λ (m : ℕ). take m (drop (b.start + i * row_bytes b.width) s)) z
@@ -168,5 +163,5 @@ module _ (s : List ℕ) (y : Bytes s) (f : Font) (sound : check_of s ≡ Sound f
   pub pixel_of_lem : (i j : ℕ) → i < b.height → j < b.width → pixel_says (pixel_at s g i j) ≡ gives (bit_of (get_or (view_of s (row_part_of s g i)) (j / 8) 0) (j % 8))
   pixel_of_lem i j h w =
       let q : j / 8 < row_bytes b.width = omega arith in
-      ap pixel_says (pixel_asked s f sound g i j ∙ ap (λ (z : Located). pixel_of s z i j) here ∙ pixel_in s b i j h w)
+      ap pixel_says (pixel_asked s f sound g i j ∙ ap (λ (z : Result Bitmap Refusal). pixel_of s z i j) here ∙ pixel_in s b i j h w)
       ∙ ap (λ (v : ℕ). gives (bit_of v (j % 8))) (sym (ap (λ (z : List ℕ). get_or z (j / 8) 0) (row_view i h) ∙ byte_of_part (row_bytes b.width) (b.start + i * row_bytes b.width) (j / 8) s q))

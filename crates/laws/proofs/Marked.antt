@@ -11,11 +11,11 @@ use borrow.Author.Tests.{eqb-true, eq-eqb}
 use Rattle.base.proofs.Tests.{below}
 use Rattle.header.specs.declared.Kind.TheVariants.{Psf1}
 use Rattle.header.specs.declared.Font.{Font}
-use Rattle.header.specs.declared.Checked.TheVariants.{Sound}
 use Rattle.header.specs.Meaning.{psf1_table}
 use Rattle.header.proofs.Known.{Psf1Known, source}
 use Rattle.stages.specs.Reading.{through_entries}
 use Rattle.stages.proofs.Cases.{passed_entries, passed_body}
+use Rattle.std.specs.Prelude.{Ok}
 
 -- bit 1 or bit 2
 abbrev Bits : ℕ → Type 0
@@ -45,7 +45,7 @@ by_modes m h = (low, λ a. high a (below m 4))
     high a (inl l) = inl (omega arith)
     high a (inr l) = inr (omega arith)
 
-module _ (s : List ℕ) (f : Font) (passed : through_entries s ≡ Sound f) (psf1 : f.kind ≡ Psf1) where
+module _ (s : List ℕ) (f : Font) (passed : through_entries s ≡ Ok f) (psf1 : f.kind ≡ Psf1) where
   known : Psf1Known s f
   known = (source s f Psf1 psf1 (passed_body s f (passed_entries s f passed).0).1).1
 

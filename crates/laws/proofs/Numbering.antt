@@ -11,26 +11,16 @@ use Rattle.base.proofs.Parts.{bytes_drop, byte_at}
 use Rattle.base.proofs.Tests.{by_when}
 use Rattle.refusal.specs.Meaning.{number_of, no_glyph}
 use Rattle.refusal.specs.declared.Refusal.{Refusal}
-use Rattle.table.specs.declared.TableAnswer.{TableAnswer}
-use Rattle.table.specs.declared.TableAnswer.TheVariants.{Complete, Cut, Bad, Trailing}
 use Rattle.table.specs.Meaning.{InGlyph}
 use Rattle.table.specs.Reading.{table_of}
 use Rattle.table.proofs.Meaning as table
 use Rattle.header.specs.declared.Kind.{Kind}
 use Rattle.header.specs.declared.Kind.TheVariants.{Psf1, Psf2, Vfont2}
-use Rattle.header.specs.declared.Named.{Named}
-use Rattle.header.specs.declared.Named.TheVariants.{Is, Unknown}
 use Rattle.header.specs.declared.Font.{Font}
 use Rattle.header.specs.declared.Fields.{Fields}
-use Rattle.header.specs.declared.Head.{Head}
-use Rattle.header.specs.declared.Head.TheVariants.{Read, Refused as NoHead}
-use Rattle.header.specs.declared.Checked.{Checked}
-use Rattle.header.specs.declared.Checked.TheVariants.{Sound, Refused}
 use Rattle.header.specs.Meaning.{fields_of}
 use Rattle.header.specs.Reading.{kind_of, psf1_says, head_of, psf2_shaped, vfont2_shaped, on_fields, named_says, says_of}
 use Rattle.header.proofs.Known.{HeadKnown, Vfont2Known, source}
-use Rattle.entries.specs.declared.Scan.{Scan}
-use Rattle.entries.specs.declared.Scan.TheVariants.{BrokenAt, Greatest}
 use Rattle.entries.specs.Meaning.{entry_at}
 use Rattle.entries.specs.Reading.{scan_of}
 use Rattle.entries.proofs.Meaning.{scan_broken}
@@ -40,6 +30,9 @@ use Rattle.stages.proofs.Cases.{passed_body, placed}
 use Rattle.content.proofs.Magic.{magic_begins}
 use Rattle.laws.specs.Meaning.{gives, check_says, OfEntry, at_entry, elsewhere, CompleteBefore, ByEntry, ByTable, GlyphOf, of_entry, of_table, of_none, TellsGlyph}
 use Rattle.laws.proofs.Check.{passed_9, to_9_exactly}
+use Rattle.std.specs.Prelude.{Result, Ok, Err, Option, Some, None}
+use Rattle.table.specs.declared.Fault.{Fault}
+use Rattle.table.specs.declared.Fault.TheVariants.{Cut, Bad, Trailing}
 
 -- there is one such glyph
 module _ (s : List ℕ) (p g h : ℕ) where
@@ -49,7 +42,7 @@ module _ (s : List ℕ) (p g h : ℕ) where
   one_entry (elsewhere n q) (at_entry x) = absurd (n h x)
   one_entry (elsewhere n q) (elsewhere n' q') = q ∙ sym q'
 
-  one_font : (f f' : Font) → Sound f ≡ Sound f' → f ≡ f'
+  one_font : (f f' : Font) → ◌≡◌ {A = Result Font Refusal} (Ok f) (Ok f') → f ≡ f'
   one_font f f' e = cc
 
   one_complete : CompleteBefore s p g → CompleteBefore s p h → g ≡ h
@@ -104,36 +97,36 @@ pub from_20 : (s : List ℕ) (n p : ℕ) → 20 ≤ n → Told s n p no_glyph
 from_20 s n p h = none s n p (λ e. omega arith) (λ e. omega arith) (λ e. omega arith) (λ e. omega arith) (λ e. omega arith)
 
 -- an answer of the check whose refusal tells its glyph
-abbrev pub Numbered : List ℕ → Checked → Type 0
-Numbered s (Sound f) = Unit {0}
-Numbered s (Refused r) = Tells s r
+abbrev pub Numbered : List ℕ → Result Font Refusal → Type 0
+Numbered s (Ok f) = Unit {0}
+Numbered s (Err r) = Tells s r
 
-abbrev NumberedHead : List ℕ → Head → Type 0
-NumberedHead s (Read f) = Unit {0}
-NumberedHead s (NoHead r) = Tells s r
+abbrev NumberedHead : List ℕ → Result Fields Refusal → Type 0
+NumberedHead s (Ok f) = Unit {0}
+NumberedHead s (Err r) = Tells s r
 
 -- the check, stage by stage
 module _ (s : List ℕ) where
-  or_else : (t : Bool) (a b : Checked) → Numbered s a → Numbered s b → Numbered s (when t a b)
+  or_else : (t : Bool) (a b : Result Font Refusal) → Numbered s a → Numbered s b → Numbered s (when t a b)
   or_else = by_when (Numbered s)
 
   low : (n p : ℕ) → n < 9 → Told s n p no_glyph
   low = before_9 s
 
-  pub on_sound : (c : Checked) (k : Font → Checked) → Numbered s c → ((f : Font) → c ≡ Sound f → Numbered s (k f)) → Numbered s (and_then c k)
-  on_sound (Sound f) k a g = g f refl
-  on_sound (Refused r) k a g = a
+  pub on_sound : (c : Result Font Refusal) (k : Font → Result Font Refusal) → Numbered s c → ((f : Font) → c ≡ Ok f → Numbered s (k f)) → Numbered s (and_then c k)
+  on_sound (Ok f) k a g = g f refl
+  on_sound (Err r) k a g = a
 
   head : NumberedHead s (head_of s)
   unfolding head_of
   head =
-      let w : (t : Bool) (a b : Head) → NumberedHead s a → NumberedHead s b → NumberedHead s (when t a b) = by_when (NumberedHead s) in
+      let w : (t : Bool) (a b : Result Fields Refusal) → NumberedHead s a → NumberedHead s b → NumberedHead s (when t a b) = by_when (NumberedHead s) in
       w _ _ _ (low _ _ (omega arith)) (w _ _ _ (low _ _ (omega arith)) (w _ _ _ (low _ _ (omega arith)) (w _ _ _ (low _ _ (omega arith))
       (w _ _ _ (low _ _ (omega arith)) (w _ _ _ (low _ _ (omega arith)) (w _ _ _ (low _ _ (omega arith)) tt))))))
 
-  on_fields_lem : (shaped : Fields → Checked) → ((f : Fields) → Numbered s (shaped f)) → (h : Head) → NumberedHead s h → Numbered s (on_fields shaped h)
-  on_fields_lem shaped g (Read f) a = g f
-  on_fields_lem shaped g (NoHead r) a = a
+  on_fields_lem : (shaped : Fields → Result Font Refusal) → ((f : Fields) → Numbered s (shaped f)) → (h : Result Fields Refusal) → NumberedHead s h → Numbered s (on_fields shaped h)
+  on_fields_lem shaped g (Ok f) a = g f
+  on_fields_lem shaped g (Err r) a = a
 
   psf1 : Numbered s (psf1_says s)
   unfolding psf1_says
@@ -149,19 +142,19 @@ module _ (s : List ℕ) where
   unfolding vfont2_shaped
   vfont2 f = or_else _ _ _ (low _ _ (omega arith)) (or_else _ _ _ (low _ _ (omega arith)) tt)
 
-  named : (n : Named) → Numbered s (named_says s n)
-  named (Is Psf1) = psf1
-  named (Is Psf2) = on_fields_lem psf2_shaped psf2 (head_of s) head
-  named (Is Vfont2) = on_fields_lem vfont2_shaped vfont2 (head_of s) head
-  named Unknown = low _ _ (omega arith)
+  named : (n : Option Kind) → Numbered s (named_says s n)
+  named (Some Psf1) = psf1
+  named (Some Psf2) = on_fields_lem psf2_shaped psf2 (head_of s) head
+  named (Some Vfont2) = on_fields_lem vfont2_shaped vfont2 (head_of s) head
+  named None = low _ _ (omega arith)
 
   body : Numbered s (through_body s)
   unfolding through_body says_of sized
   body = or_else _ _ _ (low _ _ (omega arith)) (on_sound (named_says s (kind_of s)) _ (named (kind_of s)) (λ f e. or_else _ _ _ (low _ _ (omega arith)) tt))
 
   -- 9, of a vfont2 font that its header describes
-  module _ (f : Font) (k : f.kind ≡ Vfont2) (says : says_of s ≡ Sound f) where
-    known : (kind_of s ≡ Is Vfont2) × HeadKnown s × Vfont2Known (fields_of s) f
+  module _ (f : Font) (k : f.kind ≡ Vfont2) (says : says_of s ≡ Ok f) where
+    known : (kind_of s ≡ Some Vfont2) × HeadKnown s × Vfont2Known (fields_of s) f
     known = source s f Vfont2 k says
 
     entries_at : f.entries ≡ le32 s 8
@@ -180,12 +173,12 @@ module _ (s : List ℕ) where
     in_header : (p : ℕ) → p < 32 → Told s 9 p no_glyph
     in_header p l = (of_entry (inl refl) (elsewhere (λ i (b, c, e). let w : 32 ≤ le32 s 8 = known.1.3 in omega (arith, e)) refl), omega arith)
 
-    scan : (x : Scan) → scan_of s f.size f.entries f.count 0 0 0 ≡ x → Numbered s (scanned f x)
+    scan : (x : Result (ℕ × ℕ) ℕ) → scan_of s f.size f.entries f.count 0 0 0 ≡ x → Numbered s (scanned f x)
     unfolding greatest_of
-    scan (BrokenAt i) e = at_start 9 i (inl refl) (scan_broken s f.size f.count f.entries i e).within
-    scan (Greatest h w) e = or_else _ _ _ (in_header 24 (omega arith)) (or_else _ _ _ (in_header 28 (omega arith)) tt)
+    scan (Err i) e = at_start 9 i (inl refl) (scan_broken s f.size f.count f.entries i e).within
+    scan (Ok (h , w)) e = or_else _ _ _ (in_header 24 (omega arith)) (or_else _ _ _ (in_header 28 (omega arith)) tt)
 
-  entries : (f : Font) → through_body s ≡ Sound f → Numbered s (entries_of s f)
+  entries : (f : Font) → through_body s ≡ Ok f → Numbered s (entries_of s f)
   unfolding entries_of
   entries f e = by f.kind refl
     where
@@ -195,7 +188,7 @@ module _ (s : List ℕ) where
       by Vfont2 k = scan f k (passed_body s f e).1 (scan_of s f.size f.entries f.count 0 0 0) refl
 
   -- 10 to 12, of a font that passed rows 1 to 9
-  module _ (y : Bytes s) (f : Font) (passed : through_entries s ≡ Sound f) where
+  module _ (y : Bytes s) (f : Font) (passed : through_entries s ≡ Ok f) where
     pub in_table : (n k g : ℕ) → ByTable n → (g < f.count) × InGlyph (coding_of f.kind) (tail_of s f) k g → Told s n (f.end + k) g
     in_table n k g b w =
         let few : f.count ≤ 4096 = (placed s f (byte_at s y 3) passed).2 in (
@@ -203,11 +196,11 @@ module _ (s : List ℕ) where
           omega (arith, w.0),
         )
 
-    answer : (a : TableAnswer) → table_of (coding_of f.kind) f.count (tail_of s f) ≡ a → Numbered s (answered f a)
-    answer Complete e = tt
-    answer (Cut k g) e = in_table 10 k g (inl refl) (table.glyph_of_place _ _ (tail_of s f) k g (bytes_drop f.end s y) (inl e))
-    answer (Bad k g) e = in_table 11 k g (inr (inl refl)) (table.glyph_of_place _ _ (tail_of s f) k g (bytes_drop f.end s y) (inr e))
-    answer (Trailing k) e = from_12 s _ _ (omega arith) (omega arith)
+    answer : (a : Result (Unit {0}) Fault) → table_of (coding_of f.kind) f.count (tail_of s f) ≡ a → Numbered s (answered f a)
+    answer (Ok tt) e = tt
+    answer (Err (Cut k g)) e = in_table 10 k g (inl refl) (table.glyph_of_place _ _ (tail_of s f) k g (bytes_drop f.end s y) (inl e))
+    answer (Err (Bad k g)) e = in_table 11 k g (inr (inl refl)) (table.glyph_of_place _ _ (tail_of s f) k g (bytes_drop f.end s y) (inr e))
+    answer (Err (Trailing k)) e = from_12 s _ _ (omega arith) (omega arith)
 
     tail : Numbered s (tailed s f)
     unfolding tailed bare_of

@@ -14,8 +14,6 @@ use Rattle.base.proofs.Tests.{below, same}
 use Rattle.header.specs.declared.Kind.{Kind}
 use Rattle.header.specs.declared.Kind.TheVariants.{Psf1, Psf2, Vfont2}
 use Rattle.header.specs.declared.Font.{Font}
-use Rattle.header.specs.declared.Checked.{Checked}
-use Rattle.header.specs.declared.Checked.TheVariants.{Sound, Refused}
 use Rattle.header.specs.Meaning.{limit}
 use Rattle.header.specs.Reading.{says_of}
 use Rattle.header.specs.Bounds.{PartsOf, Parts}
@@ -38,6 +36,8 @@ use Rattle.loader.proofs.Parting.{part_none, part_behind, part_before}
 use Rattle.loader.proofs.Opening.{opened, opens}
 use Rattle.loader.proofs.Cases.{too_long, grows_long, in_head, in_body, is_fed, stays, head_more}
 use Rattle.laws.proofs.Regions.{Kept, kept_of, Stretch, region, untouched, region_twice, region_held}
+use Rattle.std.specs.Prelude.{Result, Ok, Err}
+use Rattle.refusal.specs.declared.Refusal.{Refusal}
 
 -- the entries
 module _ (f : Font) (there : 1 ≤ f.entries) where
@@ -207,10 +207,10 @@ module _ (f : Font) (w : Parts f) where
   font_fine l p y h = (kept_table l p y, short_table l p y, λ z. absurd (omega arith))
 
 -- a file whose header is known
-pub said_keeps : (c : Checked) (l : Loader) (p : List ℕ) → ((said_fed c l p).header ≡ l.header) × ((said_fed c l p).closed ≡ l.closed) × ((said_fed c l p).total ≡ l.total + length p)
+pub said_keeps : (c : Result Font Refusal) (l : Loader) (p : List ℕ) → ((said_fed c l p).header ≡ l.header) × ((said_fed c l p).closed ≡ l.closed) × ((said_fed c l p).total ≡ l.total + length p)
 unfolding font_fed
-said_keeps (Sound f) l p = (refl, refl, refl)
-said_keeps (Refused r) l p = (refl, refl, refl)
+said_keeps (Ok f) l p = (refl, refl, refl)
+said_keeps (Err r) l p = (refl, refl, refl)
 
 joined : (l : Loader) (p s : List ℕ) → l.total + length p + length s ≡ l.total + length (p ++ s)
 joined l p s = let a = length-append p s in omega arith
@@ -219,17 +219,17 @@ pub body_twice : (l : Loader) (p s : List ℕ) → Fine l → body_fed (body_fed
 unfolding body_fed
 body_twice l p s y = let k = (said_keeps (says_of l.header) l p).0 in rw k (by (says_of l.header) refl)
   where
-    by : (c : Checked) → says_of l.header ≡ c → said_fed c (said_fed c l p) s ≡ said_fed c l (p ++ s)
-    by (Sound f) e = font_twice f (parts l.header f e) l p s y
-    by (Refused r) e = let n = joined l p s in λ i. record { total = n i; closed = l.closed; header = l.header; held = l.held; sums = l.sums; standing = l.standing }
+    by : (c : Result Font Refusal) → says_of l.header ≡ c → said_fed c (said_fed c l p) s ≡ said_fed c l (p ++ s)
+    by (Ok f) e = font_twice f (parts l.header f e) l p s y
+    by (Err r) e = let n = joined l p s in λ i. record { total = n i; closed = l.closed; header = l.header; held = l.held; sums = l.sums; standing = l.standing }
 
 body_fine : (l : Loader) (p : List ℕ) → Fine l → 32 ≤ l.total + length p → Fine (body_fed l p)
 unfolding body_fed
 body_fine l p y h = by (says_of l.header) refl
   where
-    by : (c : Checked) → says_of l.header ≡ c → Fine (said_fed c l p)
-    by (Sound f) e = font_fine f (parts l.header f e) l p y h
-    by (Refused r) e = (y.0, y.1, λ z. absurd (omega arith))
+    by : (c : Result Font Refusal) → says_of l.header ≡ c → Fine (said_fed c l p)
+    by (Ok f) e = font_fine f (parts l.header f e) l p y h
+    by (Err r) e = (y.0, y.1, λ z. absurd (omega arith))
 
 -- bytes of the header alone
 no_entry : (f : Font) (k : Kind) → PartsOf f k → (total : ℕ) (p : List ℕ) → total + length p ≤ 32 → length (part_of total f.entries f.bitmaps p) ≡ 0
@@ -241,13 +241,13 @@ head_only : (l : Loader) (p : List ℕ) → l.total + length p ≤ 32 → body_f
 unfolding body_fed font_fed
 head_only l p h = by (says_of l.header) refl
   where
-    by : (c : Checked) → says_of l.header ≡ c → said_fed c l p ≡ counted l p l.held l.sums l.standing
-    by (Sound f) e =
+    by : (c : Result Font Refusal) → says_of l.header ≡ c → said_fed c l p ≡ counted l p l.held l.sums l.standing
+    by (Ok f) e =
         let w = parts l.header f e in
         let a = entries_none f w.0 l.total l.held l.sums p (no_entry f f.kind w.3 l.total p h) in
         let b = table_none f (omega (arith, w.2)) l.total l.held l.standing p (part_behind l.total f.end limit p (omega (arith, w.2))) in
         rw (a, b)
-    by (Refused r) e = refl
+    by (Err r) e = refl
 
 pub body_total : (l : Loader) (p : List ℕ) → (body_fed l p).total ≡ l.total + length p
 unfolding body_fed

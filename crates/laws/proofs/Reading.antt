@@ -9,14 +9,9 @@ use Rattle.base.specs.Meaning.{Bytes}
 use Rattle.coding.specs.declared.Coding.{Coding}
 use Rattle.table.specs.declared.Item.{Item}
 use Rattle.table.specs.Meaning.{IsTable}
-use Rattle.lookup.specs.declared.Walked.{Walked}
-use Rattle.lookup.specs.declared.Walked.TheVariants.{Found as Got, Nothing as NoItem}
-use Rattle.lookup.specs.declared.Found.{Found}
-use Rattle.lookup.specs.declared.Found.TheVariants.{At, Nothing}
 use Rattle.lookup.specs.Meaning.{Any, ListsValue, ListsSequence, Lowest, Nowhere, ItemIs}
 use Rattle.lookup.proofs.Meaning as looked
 use Rattle.header.specs.declared.Font.{Font}
-use Rattle.header.specs.declared.Checked.TheVariants.{Sound}
 use Rattle.stages.specs.Meaning.{coding_of, tail_of}
 use Rattle.stages.specs.Reading.{through_entries, check_of}
 use Rattle.questions.specs.Reading.{walk_of, lookup_of, askable}
@@ -24,25 +19,26 @@ use Rattle.fonts.specs.Reading.{item_of, value_glyph, sequence_glyph}
 use Rattle.laws.specs.Meaning.{gives, refuses, walk_says, lookup_says, of_tail}
 use Rattle.laws.proofs.Tails.{accepted}
 use Rattle.laws.proofs.Asking.{walks, looks, seeks, is_askable}
+use Rattle.std.specs.Prelude.{Ok, Option, Some, None}
 
 -- each answer of a question comes from one answer of the tail's walk
-is_item : (w : Walked) (i : Item) → walk_says (walk_of w) ≡ gives i → w ≡ Got i
-is_item (Got j) i e = let h : j ≡ i = cc in ap Got h
-is_item NoItem i e = let z : ◌≡◌ {A = ℕ} 0 1 = cc in absurd (omega arith)
+is_item : (w : Option Item) (i : Item) → walk_says (walk_of w) ≡ gives i → w ≡ Some i
+is_item (Some j) i e = let h : j ≡ i = cc in ap Some h
+is_item None i e = let z : ◌≡◌ {A = ℕ} 0 1 = cc in absurd (omega arith)
 
-pub is_found : (w : Found) (g : ℕ) → lookup_says (lookup_of w) ≡ gives g → w ≡ At g
-is_found (At h) g e = let q : h ≡ g = cc in ap At q
-is_found Nothing g e = let z : ◌≡◌ {A = ℕ} 0 1 = cc in absurd (omega arith)
+pub is_found : (w : Option ℕ) (g : ℕ) → lookup_says (lookup_of w) ≡ gives g → w ≡ Some g
+is_found (Some h) g e = let q : h ≡ g = cc in ap Some q
+is_found None g e = let z : ◌≡◌ {A = ℕ} 0 1 = cc in absurd (omega arith)
 
-pub is_unmapped : (w : Found) → lookup_says (lookup_of w) ≡ refuses 15 0 → w ≡ Nothing
-is_unmapped (At h) e = let z : ◌≡◌ {A = ℕ} 0 1 = cc in absurd (omega arith)
-is_unmapped Nothing e = refl
+pub is_unmapped : (w : Option ℕ) → lookup_says (lookup_of w) ≡ refuses 15 0 → w ≡ None
+is_unmapped (Some h) e = let z : ◌≡◌ {A = ℕ} 0 1 = cc in absurd (omega arith)
+is_unmapped None e = refl
 
-module _ (s : List ℕ) (y : Bytes s) (f : Font) (passed : through_entries s ≡ Sound f) (marked : f.table ≡ true) (r : of_tail IsTable s f) where
+module _ (s : List ℕ) (y : Bytes s) (f : Font) (passed : through_entries s ≡ Ok f) (marked : f.table ≡ true) (r : of_tail IsTable s f) where
   abbrev c : Coding
   c = coding_of f.kind
 
-  sound : check_of s ≡ Sound f
+  sound : check_of s ≡ Ok f
   sound = accepted s y f passed marked r
 
   pub walk_exactly : (g k : ℕ) (i : Item) → (walk_says (item_of s g k) ≡ gives i) ↔ ItemIs r.reading g k i

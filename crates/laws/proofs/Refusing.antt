@@ -23,14 +23,11 @@ use Rattle.table.specs.declared.Item.{Item}
 use Rattle.table.specs.declared.Item.TheVariants.{Single, Start, Value as InSequence, End}
 use Rattle.table.specs.Meaning.{Desc, items, bytes, OfCoding, encode, Readable}
 use Rattle.lookup.specs.Meaning.{Any}
-use Rattle.transcode.specs.declared.Measured.{Measured}
-use Rattle.transcode.specs.declared.Measured.TheVariants.{Length, Uncarried}
 use Rattle.transcode.specs.Reading.{table_len, FirstUncarried}
 use Rattle.transcode.proofs.Meaning.{length_exactly, uncarried_exactly}
 use Rattle.header.specs.declared.Kind.{Kind}
 use Rattle.header.specs.declared.Kind.TheVariants.{Psf1, Psf2, Vfont2}
 use Rattle.header.specs.declared.Font.{Font}
-use Rattle.header.specs.declared.Checked.TheVariants.{Sound, Refused as Unsound}
 use Rattle.header.specs.Meaning.{limit}
 use Rattle.entries.specs.Meaning.{entry_at}
 use Rattle.stages.specs.Meaning.{coding_of, tail_of}
@@ -39,22 +36,16 @@ use Rattle.content.proofs.Evens.{even_metrics_lem, metrics_even}
 use Rattle.content.proofs.Source.{is_placed}
 use Rattle.conversion.specs.declared.Conversion.{Conversion}
 use Rattle.conversion.specs.declared.Conversion.TheVariants.{Psf1ToPsf2, Psf2ToPsf1, Psf2ToVfont2, Vfont2ToPsf2}
-use Rattle.conversion.specs.declared.Evenness.{Evenness}
-use Rattle.conversion.specs.declared.Evenness.TheVariants.{Even, UnevenAt}
-use Rattle.conversion.specs.declared.Suits.{Suits}
-use Rattle.conversion.specs.declared.Suits.TheVariants.{Yes, Refused as Unsuited}
-use Rattle.conversion.specs.declared.Prepared.{Prepared}
-use Rattle.conversion.specs.declared.Prepared.TheVariants.{Refused as Unprepared}
 use Rattle.conversion.specs.Meaning.{source_kind, target_kind, FirstUneven}
 use Rattle.bitmap.specs.Meaning.{EvenGlyph}
 use Rattle.conversion.specs.Reading.{same_kind, is_psf1_count, suits_psf1, is_even, evenness, even_suits, suits_of, measured_of, fitting, measured_then, prepared_on, prepared_of}
 use Rattle.conversion.proofs.Cases.{kind_same, right_kind, wrong_kind, not_opened, count_256, count_512, count_wrong, width_other, width_eight, last_logical, uneven_within, measured_is, suits_is, too_large, fits, suited, unsuited, opened_as}
 use Rattle.conversion.proofs.Ready.{even_fields}
-use Rattle.convert.specs.declared.Converted.TheVariants.{Wrote, Refused}
 use Rattle.convert.specs.Reading.{converted, converted_of}
 use Rattle.laws.specs.Meaning.{Exact, refuses, converted_says, GlyphsAt, Holds, FirstValue, ValueAt, needed, ConversionRows}
 use Rattle.laws.proofs.Exactly.{is, row, row_at, own_first, reading_of, less}
 use Rattle.laws.proofs.Asking.{described, read_as}
+use Rattle.std.specs.Prelude.{Result, Ok, Err, Option, Some, None}
 
 -- the kind that is wanted, and another
 pub alike : (k : Kind) → same_kind k k ≡ true
@@ -71,34 +62,34 @@ not_alike k j n = go (same_kind k j) refl
 
 -- 1 to 12, then 17
 module _ (c : Conversion) (s : List ℕ) (m : ℕ) where
-  pub from_prepared : (p : Prepared) → p ≡ prepared_of c s → converted_of c s m ≡ converted p m
+  pub from_prepared : (p : Result (Font × ℕ) Refusal) → p ≡ prepared_of c s → converted_of c s m ≡ converted p m
   unfolding converted_of
-  from_prepared p e = ap (λ (x : Prepared). converted x m) (sym e)
+  from_prepared p e = ap (λ (x : Result (Font × ℕ) Refusal). converted x m) (sym e)
 
-  pub own_given : (r : Refusal) → check_of s ≡ Unsound r → converted_of c s m ≡ Refused r
-  own_given r e = from_prepared (Unprepared r) (opened_as c s (Unsound r) (sym (not_opened (source_kind c) s r e)))
+  pub own_given : (r : Refusal) → check_of s ≡ Err r → converted_of c s m ≡ Err r
+  own_given r e = from_prepared (Err r) (opened_as c s (Err r) (sym (not_opened (source_kind c) s r e)))
 
-  module _ (f : Font) (e : check_of s ≡ Sound f) where
-    pub kind_given : (f.kind ≡ source_kind c → ⊥) → converted_of c s m ≡ Refused (refusal WrongKind 0)
+  module _ (f : Font) (e : check_of s ≡ Ok f) where
+    pub kind_given : (f.kind ≡ source_kind c → ⊥) → converted_of c s m ≡ Err (refusal WrongKind 0)
     kind_given n =
-        from_prepared (Unprepared (refusal WrongKind 0)) (opened_as c s (Unsound (refusal WrongKind 0)) (sym (wrong_kind (source_kind c) s f e (not_alike (source_kind c) f.kind n))))
+        from_prepared (Err (refusal WrongKind 0)) (opened_as c s (Err (refusal WrongKind 0)) (sym (wrong_kind (source_kind c) s f e (not_alike (source_kind c) f.kind n))))
 
     -- a font of the kind that is wanted is prepared
     pub on_kind : f.kind ≡ source_kind c → prepared_on c s f ≡ prepared_of c s
     on_kind q =
-        opened_as c s (Sound f) (sym (right_kind (source_kind c) s f e (subst (λ (k : Kind). same_kind (source_kind c) k ≡ true) (sym q) (alike (source_kind c)))))
+        opened_as c s (Ok f) (sym (right_kind (source_kind c) s f e (subst (λ (k : Kind). same_kind (source_kind c) k ≡ true) (sym q) (alike (source_kind c)))))
 
 -- 18 from vfont2: the first entry that is not even
 module _ (s : List ℕ) (h w start : ℕ) where
-  first_uneven : (k i x : ℕ) → evenness s h w start k i ≡ UnevenAt x →
+  first_uneven : (k i x : ℕ) → evenness s h w start k i ≡ Some x →
       (i ≤ x) × (is_even s h w (entry_at start x) ≡ false) × ((j : ℕ) → i ≤ j → j < x → is_even s h w (entry_at start j) ≡ true)
   unfolding evenness when
   first_uneven zero i x e = let z : ◌≡◌ {A = ℕ} 0 1 = cc in absurd (omega arith)
   first_uneven (suc k) i x e = go (is_even s h w (entry_at start i)) refl (first_uneven k (suc i) x) e
     where
       go : (t : Bool) → is_even s h w (entry_at start i) ≡ t →
-          (evenness s h w start k (suc i) ≡ UnevenAt x → (suc i ≤ x) × (is_even s h w (entry_at start x) ≡ false) × ((j : ℕ) → suc i ≤ j → j < x → is_even s h w (entry_at start j) ≡ true)) →
-          when t (evenness s h w start k (suc i)) (UnevenAt i) ≡ UnevenAt x →
+          (evenness s h w start k (suc i) ≡ Some x → (suc i ≤ x) × (is_even s h w (entry_at start x) ≡ false) × ((j : ℕ) → suc i ≤ j → j < x → is_even s h w (entry_at start j) ≡ true)) →
+          when t (evenness s h w start k (suc i)) (Some i) ≡ Some x →
           (i ≤ x) × (is_even s h w (entry_at start x) ≡ false) × ((j : ℕ) → i ≤ j → j < x → is_even s h w (entry_at start j) ≡ true)
       go true q ih e = let r = ih e in (omega (arith, r.0), r.1, λ j a l. before j a l (below i j) r.2)
         where
@@ -110,18 +101,18 @@ module _ (s : List ℕ) (h w start : ℕ) where
           (omega arith, subst (λ (v : ℕ). is_even s h w (entry_at start v) ≡ false) z q, λ j a l. absurd (omega arith))
 
   uneven_found : (k i x : ℕ) → i ≤ x → x < i + k → is_even s h w (entry_at start x) ≡ false → ((j : ℕ) → j < x → is_even s h w (entry_at start j) ≡ true) →
-      evenness s h w start k i ≡ UnevenAt x
+      evenness s h w start k i ≡ Some x
   unfolding evenness when
   uneven_found zero i x a l e f = absurd (omega arith)
   uneven_found (suc k) i x a l e f = go (below i x) (λ b. uneven_found k (suc i) x b (omega arith) e f)
     where
-      go : (i < x) ⊎ (x ≤ i) → (i < x → evenness s h w start k (suc i) ≡ UnevenAt x) →
-          when (is_even s h w (entry_at start i)) (evenness s h w start k (suc i)) (UnevenAt i) ≡ UnevenAt x
+      go : (i < x) ⊎ (x ≤ i) → (i < x → evenness s h w start k (suc i) ≡ Some x) →
+          when (is_even s h w (entry_at start i)) (evenness s h w start k (suc i)) (Some i) ≡ Some x
       go (inl b) ih = rw (f i b) (ih b)
       go (inr b) ih =
           let z : x ≡ i = omega arith in
           let q : is_even s h w (entry_at start i) ≡ false = subst (λ (v : ℕ). is_even s h w (entry_at start v) ≡ false) z e in
-          rw q (ap UnevenAt (sym z))
+          rw q (ap Some (sym z))
 
 -- a test that fails, and one that does not hold
 test_false : {A : Type 0} (t : Bool) → (t ≡ true) ↔ A → (A → ⊥) → t ≡ false
@@ -132,7 +123,7 @@ false_not : {A : Type 0} (t : Bool) → (t ≡ true) ↔ A → t ≡ false → A
 false_not t p e a = let q : false ≡ true = sym e ∙ p.1 a in let z : ◌≡◌ {A = ℕ} 0 1 = cc in omega arith
 
 -- 18: whether the font suits the target
-module _ (s : List ℕ) (f : Font) (y : Bytes s) (e : check_of s ≡ Sound f) where
+module _ (s : List ℕ) (f : Font) (y : Bytes s) (e : check_of s ≡ Ok f) where
   even_is : (at : ℕ) → (is_even s f.height f.width at ≡ true) ↔ EvenGlyph s f.height f.width at
   even_is at =
       let p = is_placed s f y e in
@@ -143,7 +134,7 @@ module _ (s : List ℕ) (f : Font) (y : Bytes s) (e : check_of s ≡ Sound f) wh
       )
 
   -- the entry of a place is the first that is not even
-  found : (i : ℕ) → evenness s f.height f.width f.entries f.count 0 ≡ UnevenAt i → FirstUneven s f.height f.width f.count f.entries i
+  found : (i : ℕ) → evenness s f.height f.width f.entries f.count 0 ≡ Some i → FirstUneven s f.height f.width f.count f.entries i
   found i q =
       let r = first_uneven s f.height f.width f.entries f.count 0 i q in
       record {
@@ -152,7 +143,7 @@ module _ (s : List ℕ) (f : Font) (y : Bytes s) (e : check_of s ≡ Sound f) wh
         first = λ j l. (even_is (entry_at f.entries j)).0 (r.2 j (omega arith) l);
       }
 
-  sought : (i : ℕ) → FirstUneven s f.height f.width f.count f.entries i → evenness s f.height f.width f.entries f.count 0 ≡ UnevenAt i
+  sought : (i : ℕ) → FirstUneven s f.height f.width f.count f.entries i → evenness s f.height f.width f.entries f.count 0 ≡ Some i
   sought i u =
       let at = entry_at f.entries i in
       uneven_found s f.height f.width f.entries f.count 0 i (omega arith) (omega (arith, u.within))
@@ -165,23 +156,23 @@ module _ (s : List ℕ) (f : Font) (y : Bytes s) (e : check_of s ≡ Sound f) wh
   no_count : (f.count ≡ 256 → ⊥) → (f.count ≡ 512 → ⊥) → is_psf1_count f.count ≡ false
   no_count a b = sym (count_512 f.count a) ∙ ne_eqb f.count 512 b
 
-  narrow_given : (p : ℕ) → GlyphsAt Psf2ToPsf1 s f p → suits_psf1 f ≡ Unsuited (refusal Glyphs p)
-  narrow_given p (inl (q, a, b)) = sym (count_wrong f (no_count a b)) ∙ ap (λ (x : ℕ). Unsuited (refusal Glyphs x)) (sym q)
-  narrow_given p (inr (q, a, b)) = sym (width_other f (two_counts a) b) ∙ ap (λ (x : ℕ). Unsuited (refusal Glyphs x)) (sym q)
+  narrow_given : (p : ℕ) → GlyphsAt Psf2ToPsf1 s f p → suits_psf1 f ≡ Err (refusal Glyphs p)
+  narrow_given p (inl (q, a, b)) = sym (count_wrong f (no_count a b)) ∙ ap (λ (x : ℕ). Err (refusal Glyphs x)) (sym q)
+  narrow_given p (inr (q, a, b)) = sym (width_other f (two_counts a) b) ∙ ap (λ (x : ℕ). Err (refusal Glyphs x)) (sym q)
 
   -- a font that doesn't suit
-  glyphs_by : (c : Conversion) (p : ℕ) → GlyphsAt c s f p → (g : ℕ) × (suits_of c s f ≡ Unsuited (refusal_at Glyphs p g))
+  glyphs_by : (c : Conversion) (p : ℕ) → GlyphsAt c s f p → (g : ℕ) × (suits_of c s f ≡ Err (refusal_at Glyphs p g))
   glyphs_by Psf1ToPsf2 p g = absurd g
   glyphs_by Psf2ToPsf1 p g = (no_glyph, sym (suits_is Psf2ToPsf1 Psf2ToPsf1 s f refl) ∙ narrow_given p g)
   glyphs_by Psf2ToVfont2 p g = absurd g
   glyphs_by Vfont2ToPsf2 p (i, q, u) = (
     i,
-    sym (suits_is Vfont2ToPsf2 Vfont2ToPsf2 s f refl) ∙ ap (even_suits f) (sought i u) ∙ ap (λ (x : ℕ). Unsuited (refusal_at Glyphs x i)) (sym q),
+    sym (suits_is Vfont2ToPsf2 Vfont2ToPsf2 s f refl) ∙ ap (even_suits f) (sought i u) ∙ ap (λ (x : ℕ). Err (refusal_at Glyphs x i)) (sym q),
   )
 
   -- it suits, or it doesn't
-  abbrev Suited : Conversion → Suits → Type 0
-  Suited c x = (x ≡ Yes) ⊎ ((p : ℕ) × GlyphsAt c s f p)
+  abbrev Suited : Conversion → Result (Unit {0}) Refusal → Type 0
+  Suited c x = (x ≡ Ok tt) ⊎ ((p : ℕ) × GlyphsAt c s f p)
 
   by_narrow : (f.count ≡ 256) ⊎ (f.count ≡ 256 → ⊥) → (f.count ≡ 512) ⊎ (f.count ≡ 512 → ⊥) → (f.width ≡ 8) ⊎ (f.width ≡ 8 → ⊥) → Suited Psf2ToPsf1 (suits_psf1 f)
   by_narrow (inl a) b (inl w) = inl (sym (width_eight f (two_counts (inl a)) w))
@@ -190,9 +181,9 @@ module _ (s : List ℕ) (f : Font) (y : Bytes s) (e : check_of s ≡ Sound f) wh
   by_narrow (inr a) (inl b) (inr w) = inr (28, inr (refl, inr b, w))
   by_narrow (inr a) (inr b) w = inr (16, inl (refl, a, b))
 
-  by_evenness : (x : Evenness) → evenness s f.height f.width f.entries f.count 0 ≡ x → Suited Vfont2ToPsf2 (even_suits f x)
-  by_evenness Even q = inl refl
-  by_evenness (UnevenAt i) q = inr (entry_at f.entries i, (i, refl, found i q))
+  by_evenness : (x : Option ℕ) → evenness s f.height f.width f.entries f.count 0 ≡ x → Suited Vfont2ToPsf2 (even_suits f x)
+  by_evenness None q = inl refl
+  by_evenness (Some i) q = inr (entry_at f.entries i, (i, refl, found i q))
 
   suits_or : (c : Conversion) → Suited c (suits_of c s f)
   suits_or Psf1ToPsf2 = inl (sym (suits_is Psf1ToPsf2 Psf1ToPsf2 s f refl))
@@ -202,7 +193,7 @@ module _ (s : List ℕ) (f : Font) (y : Bytes s) (e : check_of s ≡ Sound f) wh
   suits_or Vfont2ToPsf2 =
       subst (Suited Vfont2ToPsf2) (suits_is Vfont2ToPsf2 Vfont2ToPsf2 s f refl) (by_evenness (evenness s f.height f.width f.entries f.count 0) refl)
 
-  not_suited : {A : Type 0} (x : Suits) (r : Refusal) → x ≡ Yes → x ≡ Unsuited r → A
+  not_suited : {A : Type 0} (x : Result (Unit {0}) Refusal) (r : Refusal) → x ≡ Ok tt → x ≡ Err r → A
   not_suited x r a b = let z : ◌≡◌ {A = ℕ} 0 1 = cc in absurd (omega arith)
 
 -- 19: whether the target's coding carries the table
@@ -221,18 +212,18 @@ module _ (c : Conversion) (tl : List ℕ) (ds : List Desc) (o : Readable (coding
   to = coding_of (target_kind c)
 
   -- a value that isn't carried
-  value_by : (k : ℕ) → FirstUncarried from to (items ds) 0 k → measured_of c tl ≡ Uncarried k
+  value_by : (k : ℕ) → FirstUncarried from to (items ds) 0 k → measured_of c tl ≡ Err k
   value_by k u = measured_as c tl ds o e ∙ (uncarried_exactly from to ds tl o e k).1 u
 
   -- every value is, or one isn't
-  carried_or : (measured_of c tl ≡ Length (length (encode to ds))) ⊎ ((k : ℕ) × FirstUncarried from to (items ds) 0 k)
+  carried_or : (measured_of c tl ≡ Ok (length (encode to ds))) ⊎ ((k : ℕ) × FirstUncarried from to (items ds) 0 k)
   carried_or = go (table_len from to tl) refl
     where
-      go : (x : Measured) → table_len from to tl ≡ x → (measured_of c tl ≡ Length (length (encode to ds))) ⊎ ((k : ℕ) × FirstUncarried from to (items ds) 0 k)
-      go (Length n) q = inl (measured_as c tl ds o e ∙ q ∙ ap Length ((length_exactly from to ds tl o e n).0 q).1)
-      go (Uncarried k) q = inr (k, (uncarried_exactly from to ds tl o e k).0 q)
+      go : (x : Result ℕ ℕ) → table_len from to tl ≡ x → (measured_of c tl ≡ Ok (length (encode to ds))) ⊎ ((k : ℕ) × FirstUncarried from to (items ds) 0 k)
+      go (Ok n) q = inl (measured_as c tl ds o e ∙ q ∙ ap Ok ((length_exactly from to ds tl o e n).0 q).1)
+      go (Err k) q = inr (k, (uncarried_exactly from to ds tl o e k).0 q)
 
-  not_carried : {A : Type 0} (x : Measured) (n k : ℕ) → x ≡ Length n → x ≡ Uncarried k → A
+  not_carried : {A : Type 0} (x : Result ℕ ℕ) (n k : ℕ) → x ≡ Ok n → x ≡ Err k → A
   not_carried x n k a b = let z : ◌≡◌ {A = ℕ} 0 1 = cc in absurd (omega arith)
 
 -- an item that one coding has and another hasn't has a value that the other hasn't
@@ -387,74 +378,74 @@ value_first Vfont2ToPsf2 ds k o = (λ z. absurd z, λ u. let r = first_value Utf
 
 -- 20 and 21, by the output's length and the buffer's
 module _ (f : Font) (need m : ℕ) where
-  over_limit : limit < need → converted (fitting f need) m ≡ Refused (refusal Size 0)
-  over_limit h = ap (λ (x : Prepared). converted x m) (sym (too_large f need h))
+  over_limit : limit < need → converted (fitting f need) m ≡ Err (refusal Size 0)
+  over_limit h = ap (λ (x : Result (Font × ℕ) Refusal). converted x m) (sym (too_large f need h))
 
-  under_room : need ≤ limit → m < need → converted (fitting f need) m ≡ Refused (refusal Room need)
+  under_room : need ≤ limit → m < need → converted (fitting f need) m ≡ Err (refusal Room need)
   unfolding when
-  under_room h k = ap (λ (x : Prepared). converted x m) (sym (fits f need h)) ∙ rw (lt-ltb m need k)
+  under_room h k = ap (λ (x : Result (Font × ℕ) Refusal). converted x m) (sym (fits f need h)) ∙ rw (lt-ltb m need k)
 
-  in_room : need ≤ limit → need ≤ m → converted (fitting f need) m ≡ Wrote need
+  in_room : need ≤ limit → need ≤ m → converted (fitting f need) m ≡ Ok need
   unfolding when
-  in_room h k = ap (λ (x : Prepared). converted x m) (sym (fits f need h)) ∙ rw (le-ltb m need k)
+  in_room h k = ap (λ (x : Result (Font × ℕ) Refusal). converted x m) (sym (fits f need h)) ∙ rw (le-ltb m need k)
 
 -- no place has it
 abbrev Never : (ℕ → Type 0) → Type 0
 Never P = (p : ℕ) → P p → ⊥
 
 -- the answer on a sound font of the kind that is wanted, with its descriptions
-module _ (c : Conversion) (s : List ℕ) (f : Font) (m : ℕ) (y : Bytes s) (e : check_of s ≡ Sound f) (q : f.kind ≡ source_kind c) (ds : List Desc)
+module _ (c : Conversion) (s : List ℕ) (f : Font) (m : ℕ) (y : Bytes s) (e : check_of s ≡ Ok f) (q : f.kind ≡ source_kind c) (ds : List Desc)
     (r : Readable (coding_of f.kind) ds × (tail_of s f ≡ encode (coding_of f.kind) ds)) where
   of_source : Readable (coding_of (source_kind c)) ds × (tail_of s f ≡ encode (coding_of (source_kind c)) ds)
   of_source = subst (λ (k : Kind). Readable (coding_of k) ds × (tail_of s f ≡ encode (coding_of k) ds)) q r
 
-  from_font : (p : Prepared) → p ≡ prepared_on c s f → converted_of c s m ≡ converted p m
+  from_font : (p : Result (Font × ℕ) Refusal) → p ≡ prepared_on c s f → converted_of c s m ≡ converted p m
   from_font p z = from_prepared c s m p (z ∙ on_kind c s m f e q)
 
   glyphs_given : (p : ℕ) → GlyphsAt c s f p → converted_says (converted_of c s m) ≡ refuses 18 p
-  glyphs_given p g = let w = glyphs_by s f y e c p g in ap converted_says (from_font (Unprepared (refusal_at Glyphs p w.0)) (unsuited c s f (refusal_at Glyphs p w.0) w.1))
+  glyphs_given p g = let w = glyphs_by s f y e c p g in ap converted_says (from_font (Err (refusal_at Glyphs p w.0)) (unsuited c s f (refusal_at Glyphs p w.0) w.1))
 
-  suits : Never (GlyphsAt c s f) → suits_of c s f ≡ Yes
+  suits : Never (GlyphsAt c s f) → suits_of c s f ≡ Ok tt
   suits n = go (suits_or s f y e c)
     where
-      go : (suits_of c s f ≡ Yes) ⊎ ((p : ℕ) × GlyphsAt c s f p) → suits_of c s f ≡ Yes
+      go : (suits_of c s f ≡ Ok tt) ⊎ ((p : ℕ) × GlyphsAt c s f p) → suits_of c s f ≡ Ok tt
       go (inl z) = z
       go (inr (p, g)) = absurd (n p g)
 
   value_given : Never (GlyphsAt c s f) → (k : ℕ) → ValueAt c ds k → converted_says (converted_of c s m) ≡ refuses 19 (f.end + k)
   value_given n k v =
       let w = value_by c (tail_of s f) ds of_source.0 of_source.1 k ((value_first c ds k of_source.0).0 v) in
-      ap converted_says (from_font (measured_then c f (tail_of s f) (measured_of c (tail_of s f))) (suited c s f (suits n)) ∙ ap (λ (x : Measured). converted (measured_then c f (tail_of s f) x) m) w)
+      ap converted_says (from_font (measured_then c f (tail_of s f) (measured_of c (tail_of s f))) (suited c s f (suits n)) ∙ ap (λ (x : Result ℕ ℕ). converted (measured_then c f (tail_of s f) x) m) w)
 
   fitted : Never (GlyphsAt c s f) → Never (ValueAt c ds) → converted_of c s m ≡ converted (fitting f (needed c f ds)) m
   fitted n v = go (carried_or c (tail_of s f) ds of_source.0 of_source.1)
     where
-      go : (measured_of c (tail_of s f) ≡ Length (length (encode (coding_of (target_kind c)) ds))) ⊎ ((k : ℕ) × FirstUncarried (coding_of (source_kind c)) (coding_of (target_kind c)) (items ds) 0 k) →
+      go : (measured_of c (tail_of s f) ≡ Ok (length (encode (coding_of (target_kind c)) ds))) ⊎ ((k : ℕ) × FirstUncarried (coding_of (source_kind c)) (coding_of (target_kind c)) (items ds) 0 k) →
           converted_of c s m ≡ converted (fitting f (needed c f ds)) m
-      go (inl z) = from_font (measured_then c f (tail_of s f) (measured_of c (tail_of s f))) (suited c s f (suits n)) ∙ ap (λ (x : Measured). converted (measured_then c f (tail_of s f) x) m) z
+      go (inl z) = from_font (measured_then c f (tail_of s f) (measured_of c (tail_of s f))) (suited c s f (suits n)) ∙ ap (λ (x : Result ℕ ℕ). converted (measured_then c f (tail_of s f) x) m) z
       go (inr (k, u)) = absurd (v k ((value_first c ds k of_source.0).1 u))
 
-  pub size_given : Never (GlyphsAt c s f) → Never (ValueAt c ds) → limit < needed c f ds → converted_of c s m ≡ Refused (refusal Size 0)
+  pub size_given : Never (GlyphsAt c s f) → Never (ValueAt c ds) → limit < needed c f ds → converted_of c s m ≡ Err (refusal Size 0)
   size_given n v h = fitted n v ∙ over_limit f (needed c f ds) m h
 
-  pub room_given : Never (GlyphsAt c s f) → Never (ValueAt c ds) → needed c f ds ≤ limit → m < needed c f ds → converted_of c s m ≡ Refused (refusal Room (needed c f ds))
+  pub room_given : Never (GlyphsAt c s f) → Never (ValueAt c ds) → needed c f ds ≤ limit → m < needed c f ds → converted_of c s m ≡ Err (refusal Room (needed c f ds))
   room_given n v h k = fitted n v ∙ under_room f (needed c f ds) m h k
 
-  pub wrote_given : Never (GlyphsAt c s f) → Never (ValueAt c ds) → needed c f ds ≤ limit → needed c f ds ≤ m → converted_of c s m ≡ Wrote (needed c f ds)
+  pub wrote_given : Never (GlyphsAt c s f) → Never (ValueAt c ds) → needed c f ds ≤ limit → needed c f ds ≤ m → converted_of c s m ≡ Ok (needed c f ds)
   wrote_given n v h k = fitted n v ∙ in_room f (needed c f ds) m h k
 
   -- 18 applies or not, and 19
   glyphs_or : ((p : ℕ) × GlyphsAt c s f p) ⊎ Never (GlyphsAt c s f)
   glyphs_or = go (suits_or s f y e c)
     where
-      go : (suits_of c s f ≡ Yes) ⊎ ((p : ℕ) × GlyphsAt c s f p) → ((p : ℕ) × GlyphsAt c s f p) ⊎ Never (GlyphsAt c s f)
+      go : (suits_of c s f ≡ Ok tt) ⊎ ((p : ℕ) × GlyphsAt c s f p) → ((p : ℕ) × GlyphsAt c s f p) ⊎ Never (GlyphsAt c s f)
       go (inl z) = inr (λ p g. not_suited s f y e _ _ z (glyphs_by s f y e c p g).1)
       go (inr g) = inl g
 
   value_or : ((k : ℕ) × ValueAt c ds k) ⊎ Never (ValueAt c ds)
   value_or = go (carried_or c (tail_of s f) ds of_source.0 of_source.1)
     where
-      go : (measured_of c (tail_of s f) ≡ Length (length (encode (coding_of (target_kind c)) ds))) ⊎ ((k : ℕ) × FirstUncarried (coding_of (source_kind c)) (coding_of (target_kind c)) (items ds) 0 k) →
+      go : (measured_of c (tail_of s f) ≡ Ok (length (encode (coding_of (target_kind c)) ds))) ⊎ ((k : ℕ) × FirstUncarried (coding_of (source_kind c)) (coding_of (target_kind c)) (items ds) 0 k) →
           ((k : ℕ) × ValueAt c ds k) ⊎ Never (ValueAt c ds)
       go (inl z) =
           inr (λ k v. let w = value_by c (tail_of s f) ds of_source.0 of_source.1 k ((value_first c ds k of_source.0).0 v) in not_carried c (tail_of s f) ds of_source.0 of_source.1 _ _ _ z w)

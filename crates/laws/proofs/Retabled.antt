@@ -24,12 +24,10 @@ use Rattle.table.specs.declared.Item.{Item}
 use Rattle.table.specs.Meaning.{Desc, items, encode, Readable, IsTable}
 use Rattle.table.specs.Reading.{items_in}
 use Rattle.table.proofs.Reading.{items_bytes, items_back, unique}
-use Rattle.lookup.specs.declared.Found as F
 use Rattle.lookup.specs.Reading.{item_at, find_value, find_sequence}
 use Rattle.header.specs.declared.Kind.{Kind}
 use Rattle.header.specs.declared.Kind.TheVariants.{Psf2}
 use Rattle.header.specs.declared.Font.{Font}
-use Rattle.header.specs.declared.Checked.TheVariants.{Sound}
 use Rattle.header.specs.Meaning.{limit, glyph_bytes}
 use Rattle.header.specs.Bounds.{Placed, KindPlaced, Even}
 use Rattle.header.specs.Reading.{says_of}
@@ -38,14 +36,9 @@ use Rattle.stages.specs.Meaning.{coding_of, tail_of}
 use Rattle.stages.specs.Reading.{through_body, through_entries, check_of}
 use Rattle.stages.proofs.Cases.{accepted, body_after, body_whole, entries_after, entries_of_lem}
 use Rattle.bitmap.specs.declared.Bitmap.{Bitmap}
-use Rattle.bitmap.specs.declared.Located.{Located}
-use Rattle.bitmap.specs.declared.Located.TheVariants.{Found, Refused as NotLocated}
-use Rattle.bitmap.specs.declared.Pixel.TheVariants.{Bit, Refused as NoPixel}
-use Rattle.bitmap.specs.declared.GlyphMetrics.TheVariants.{Is}
 use Rattle.bitmap.specs.Meaning.{even_bitmap, kind_metrics, pixel_in}
 use Rattle.bitmap.proofs.Places.{known, too_high}
 use Rattle.bitmap.specs.Reading.{kind_bitmap, bitmap_of, whole_of, row_of, pixel_of, metrics_of}
-use Rattle.questions.specs.declared.Lookup.TheVariants.{Refused as NoLookup}
 use Rattle.questions.specs.Reading.{font_items, walk_of, lookup_of, askable}
 use Rattle.fonts.specs.Reading.{glyph_part_of, row_part_of, pixel_at, glyph_metrics_of, item_of, value_glyph, sequence_glyph}
 use Rattle.content.specs.Meaning.{Describes}
@@ -60,13 +53,15 @@ use Rattle.laws.specs.Meaning.{Edits}
 use Rattle.laws.proofs.Asking.{walks, looks, value_asked, sequence_asked}
 use Rattle.laws.proofs.Converting.{rest_from}
 use Rattle.laws.proofs.Located.{part_asked, row_asked, pixel_asked, metrics_asked}
+use Rattle.std.specs.Prelude.{Result, Ok, Err, Option}
+use Rattle.refusal.specs.declared.Refusal.{Refusal}
 
 -- the table of an accepted font stands in the file
-pub front_long : (s : List ℕ) (f : Font) → Bytes s → check_of s ≡ Sound f → f.end ≤ length s
+pub front_long : (s : List ℕ) (f : Font) → Bytes s → check_of s ≡ Ok f → f.end ≤ length s
 front_long s f y sound = (is_placed s f y sound).7
 
 -- a font with another table behind the same front is accepted, and its tail is that table
-module _ (s : List ℕ) (f : Font) (y : Bytes s) (sound : check_of s ≡ Sound f) (kind : f.kind ≡ Psf2) (marked : f.table ≡ true) (es : List Desc)
+module _ (s : List ℕ) (f : Font) (y : Bytes s) (sound : check_of s ≡ Ok f) (kind : f.kind ≡ Psf2) (marked : f.table ≡ true) (es : List Desc)
     (count : length es ≡ f.count) (values : Readable Utf8 es) where
   abbrev retabled : List ℕ
   retabled = take f.end s ++ encode Utf8 es
@@ -80,23 +75,23 @@ module _ (s : List ℕ) (f : Font) (y : Bytes s) (sound : check_of s ≡ Sound f
   pub retabled_front : take f.end retabled ≡ take f.end s
   retabled_front = take_at (take f.end s) (encode Utf8 es) f.end front_length
 
-  says : says_of retabled ≡ Sound f
+  says : says_of retabled ≡ Ok f
   says =
       let e = says_font s f y sound in
       let h : 32 ≤ length (take f.end s) = omega (arith, front_length, (parts s f e).2) in
       says_front (take f.end s) (encode Utf8 es) h ∙ sym (says_front (take f.end s) (drop f.end s) h) ∙ ap says_of (take-append-drop f.end s) ∙ e
 
-  pub retabled_sound : length retabled ≤ limit → check_of retabled ≡ Sound f
+  pub retabled_sound : length retabled ≤ limit → check_of retabled ≡ Ok f
   retabled_sound h = tail_sound retabled f tail_bytes through (subst (λ (t : Bool). Tail t (coding_of f.kind) f.count (tail_of retabled f)) (sym marked) is_table)
     where
       tail_bytes : Bytes (tail_of retabled f)
       tail_bytes = subst Bytes (sym retabled_tail) (items_bytes Utf8 (items es) values)
 
-      through : through_entries retabled ≡ Sound f
+      through : through_entries retabled ≡ Ok f
       through =
           let l : f.end ≤ length retabled = omega (arith, front_length, length-append (take f.end s) (encode Utf8 es)) in
-          let b : through_body retabled ≡ Sound f = sym (body_after retabled (Sound f) says h) ∙ sym (body_whole (length retabled) f l) in
-          sym (entries_after retabled (Sound f) b) ∙ sym (entries_of_lem retabled f Psf2 kind)
+          let b : through_body retabled ≡ Ok f = sym (body_after retabled (Ok f) says h) ∙ sym (body_whole (length retabled) f l) in
+          sym (entries_after retabled (Ok f) b) ∙ sym (entries_of_lem retabled f Psf2 kind)
 
       is_table : IsTable (coding_of f.kind) f.count (tail_of retabled f)
       is_table =
@@ -122,14 +117,14 @@ over_over p q xs e =
 same_bitmap : (f : Font) → f.kind ≡ Psf2 → (s o : List ℕ) (g : ℕ) → bitmap_of s f g ≡ bitmap_of o f g
 unfolding bitmap_of
 same_bitmap f e s o g =
-    ap (λ (k : Kind). when (ltb g f.count) (kind_bitmap s f g k) (NotLocated (refusal Ask 0))) e
-    ∙ ap (λ (k : Kind). when (ltb g f.count) (kind_bitmap o f g k) (NotLocated (refusal Ask 0))) (sym e)
+    ap (λ (k : Kind). when (ltb g f.count) (kind_bitmap s f g k) (Err (refusal Ask 0))) e
+    ∙ ap (λ (k : Kind). when (ltb g f.count) (kind_bitmap o f g k) (Err (refusal Ask 0))) (sym e)
 
 -- and hold the same pixels where the bytes up to the table are the same
 same_pixel : (f : Font) → f.kind ≡ Psf2 → (s o : List ℕ) → Placed s f → take f.end o ≡ take f.end s → (g i j : ℕ) → pixel_of o (bitmap_of o f g) i j ≡ pixel_of s (bitmap_of s f g) i j
 unfolding when
 same_pixel f e s o p q g i j =
-    ap (λ (l : Located). pixel_of o l i j) (same_bitmap f e o s g) ∙ go (below g f.count)
+    ap (λ (l : Result Bitmap Refusal). pixel_of o l i j) (same_bitmap f e o s g) ∙ go (below g f.count)
   where
     b : Bitmap
     b = even_bitmap f g
@@ -144,8 +139,8 @@ same_pixel f e s o p q g i j =
         sym (part_of_take z b.start f.end o m) ∙ ap (λ (x : List ℕ). take z (drop b.start x)) q ∙ part_of_take z b.start f.end s m
 
     at_pixel : g < f.count → (t u : Bool) → ltb i f.height ≡ t → ltb j f.width ≡ u →
-        when t (when u (Bit (pixel_in o b i j)) (NoPixel (refusal Ask 0))) (NoPixel (refusal Ask 0)) ≡ when t (when u (Bit (pixel_in s b i j)) (NoPixel (refusal Ask 0))) (NoPixel (refusal Ask 0))
-    at_pixel l true true x y = ap Bit (same_pixels o s b b f.height f.width refl refl (bytes l) i j (ltb-true i f.height x) (ltb-true j f.width y))
+        when t (when u (Ok (pixel_in o b i j)) (Err (refusal Ask 0))) (Err (refusal Ask 0)) ≡ when t (when u (Ok (pixel_in s b i j)) (Err (refusal Ask 0))) (Err (refusal Ask 0))
+    at_pixel l true true x y = ap Ok (same_pixels o s b b f.height f.width refl refl (bytes l) i j (ltb-true i f.height x) (ltb-true j f.width y))
     at_pixel l true false x y = refl
     at_pixel l false true x y = refl
     at_pixel l false false x y = refl
@@ -153,20 +148,20 @@ same_pixel f e s o p q g i j =
     go : (g < f.count) ⊎ (f.count ≤ g) → pixel_of o (bitmap_of s f g) i j ≡ pixel_of s (bitmap_of s f g) i j
     go (inl l) =
         let k = known s f g p l Psf2 e in
-        ap (λ (x : Located). pixel_of o x i j) (sym k) ∙ at_pixel l (ltb i f.height) (ltb j f.width) refl refl ∙ ap (λ (x : Located). pixel_of s x i j) k
+        ap (λ (x : Result Bitmap Refusal). pixel_of o x i j) (sym k) ∙ at_pixel l (ltb i f.height) (ltb j f.width) refl refl ∙ ap (λ (x : Result Bitmap Refusal). pixel_of s x i j) k
     go (inr h) =
         let k = too_high s f g h in
-        ap (λ (x : Located). pixel_of o x i j) (sym k) ∙ ap (λ (x : Located). pixel_of s x i j) k
+        ap (λ (x : Result Bitmap Refusal). pixel_of o x i j) (sym k) ∙ ap (λ (x : Result Bitmap Refusal). pixel_of s x i j) k
 
-same_metrics : (f : Font) → f.kind ≡ Psf2 → (s o : List ℕ) (g : ℕ) (l : Located) → metrics_of o f g l ≡ metrics_of s f g l
-same_metrics f e s o g (Found b) = ap (λ (k : Kind). Is (kind_metrics o f g k)) e ∙ ap (λ (k : Kind). Is (kind_metrics s f g k)) (sym e)
-same_metrics f e s o g (NotLocated r) = refl
+same_metrics : (f : Font) → f.kind ≡ Psf2 → (s o : List ℕ) (g : ℕ) (l : Result Bitmap Refusal) → metrics_of o f g l ≡ metrics_of s f g l
+same_metrics f e s o g (Ok b) = ap (λ (k : Kind). Ok (kind_metrics o f g k)) e ∙ ap (λ (k : Kind). Ok (kind_metrics s f g k)) (sym e)
+same_metrics f e s o g (Err r) = refl
 
 -- a font that an edit may be asked of, and its descriptions
 pub record Editable (xs : List ℕ) (len g v : ℕ) (ds : List Desc) : Type 0 where
   pub within : len ≤ length xs
   pub font : Font
-  pub sound : check_of (take len xs) ≡ Sound font
+  pub sound : check_of (take len xs) ≡ Ok font
   pub kind : font.kind ≡ Psf2
   pub marked : font.table ≡ true
   pub low : g < font.count
@@ -221,7 +216,7 @@ module _ (xs : List ℕ) (y : Bytes xs) (len g v : ℕ) (ds : List Desc) (a : Ed
   unfolding zeros
   new_whole = ap length laid ∙ length_over (new ++ zeros) xs (omega (arith, all_long))
 
-  pub new_sound : check_of (take n out) ≡ Sound f
+  pub new_sound : check_of (take n out) ≡ Ok f
   new_sound = ap check_of new_front ∙ retabled_sound old f old_bytes a.sound a.kind a.marked (changed change g ds) count values (omega (arith, long))
 
   -- any reading of the old font is its descriptions
@@ -260,7 +255,7 @@ module _ (xs : List ℕ) (y : Bytes xs) (len g v : ℕ) (ds : List Desc) (a : Ed
 
   new_rows : (h i : ℕ) → row_part_of (take n out) h i ≡ row_part_of old h i
   new_rows h i =
-      row_asked (take n out) f new_sound h i ∙ ap (λ (x : Located). row_of x i) (same_bitmap f a.kind (take n out) old h) ∙ sym (row_asked old f a.sound h i)
+      row_asked (take n out) f new_sound h i ∙ ap (λ (x : Result Bitmap Refusal). row_of x i) (same_bitmap f a.kind (take n out) old h) ∙ sym (row_asked old f a.sound h i)
 
   new_metrics : (h : ℕ) → glyph_metrics_of (take n out) h ≡ glyph_metrics_of old h
   new_metrics h =
@@ -305,14 +300,14 @@ module _ (xs : List ℕ) (y : Bytes xs) (len g v : ℕ) (ds : List Desc) (a : Ed
   pub value_moved : (w : ℕ) → find_value w 0 (items (changed change g ds)) ≡ find_value w 0 (items ds) → value_glyph (take n out) w ≡ value_glyph old w
   value_moved w q =
       value_asked (take n out) f new_sound w
-      ∙ ap (λ (x : F.Found). pick f.table (when (ltb 0x10FFFF w) (NoLookup (refusal Ask 0)) (lookup_of x)) (NoLookup (refusal NoTable 0)))
+      ∙ ap (λ (x : Option ℕ). pick f.table (when (ltb 0x10FFFF w) (Err (refusal Ask 0)) (lookup_of x)) (Err (refusal NoTable 0)))
       (ap (find_value w 0) new_items ∙ q ∙ ap (find_value w 0) (sym old_items))
       ∙ sym (value_asked old f a.sound w)
 
   pub sequence_moved : (vs : List ℕ) → find_sequence vs (items (changed change g ds)) ≡ find_sequence vs (items ds) → sequence_glyph (take n out) vs ≡ sequence_glyph old vs
   sequence_moved vs q =
       sequence_asked (take n out) f new_sound vs
-      ∙ ap (λ (x : F.Found). pick f.table (when (askable vs) (lookup_of x) (NoLookup (refusal Ask 0))) (NoLookup (refusal NoTable 0)))
+      ∙ ap (λ (x : Option ℕ). pick f.table (when (askable vs) (lookup_of x) (Err (refusal Ask 0))) (Err (refusal NoTable 0)))
       (ap (find_sequence vs) new_items ∙ q ∙ ap (find_sequence vs) (sym old_items))
       ∙ sym (sequence_asked old f a.sound vs)
 

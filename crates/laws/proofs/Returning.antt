@@ -12,7 +12,6 @@ use Rattle.table.specs.Meaning.{Desc, encode, Readable}
 use Rattle.header.specs.declared.Kind.{Kind}
 use Rattle.header.specs.declared.Kind.TheVariants.{Psf1}
 use Rattle.header.specs.declared.Font.{Font}
-use Rattle.header.specs.declared.Checked.TheVariants.{Sound}
 use Rattle.header.specs.Meaning.{limit, glyph_bytes, char_size, psf1_count, psf1_table}
 use Rattle.header.specs.Reading.{mode_of}
 use Rattle.header.specs.Bounds.{Even}
@@ -29,12 +28,12 @@ use Rattle.content.proofs.Self.{psf1_self}
 use Rattle.content.proofs.Kept.{rewritten}
 use Rattle.conversion.specs.declared.Conversion.TheVariants.{Psf1ToPsf2, Psf2ToPsf1}
 use Rattle.conversion.specs.Meaning.{front_len}
-use Rattle.convert.specs.declared.Converted.TheVariants.{Wrote as Written}
 use Rattle.convert.specs.Reading.{converted_of, converted_into}
 use Rattle.laws.specs.Meaning.{GlyphsAt, needed, Wrote, RoundTrip}
 use Rattle.laws.proofs.Asking.{read_as}
 use Rattle.laws.proofs.Converting.{one_font, means, back_keeps, back_bytes, back_again}
 use Rattle.laws.proofs.Refusing.{none_above, wrote_given}
+use Rattle.std.specs.Prelude.{Ok}
 
 -- the third byte of a list changed
 put : (s : List ℕ) (v : ℕ) → 4 ≤ length s →
@@ -52,7 +51,7 @@ put (a ∷ b ∷ c ∷ s) v l = (refl, refl, at)
     at (suc (suc (suc i))) n = refl
 
 -- an accepted PSF1 font
-module _ (s : List ℕ) (f : Font) (y : Bytes s) (e : check_of s ≡ Sound f) (q : f.kind ≡ Psf1) where
+module _ (s : List ℕ) (f : Font) (y : Bytes s) (e : check_of s ≡ Ok f) (q : f.kind ≡ Psf1) where
   counted : ((f.count ≡ 256) ⊎ (f.count ≡ 512)) × (f.width ≡ 8)
   counted =
       let v : AllEven s f f.kind = subst (AllEven s f) (sym q) tt in
@@ -69,7 +68,7 @@ module _ (s : List ℕ) (f : Font) (y : Bytes s) (e : check_of s ≡ Sound f) (q
       omega (arith, length-drop f.end s, (is_placed s f y e).7, ap length t, v.0, b, z)
 
 -- the descriptions of a content are the reading of the file
-described_in : (x : List ℕ) (a : Font) → Bytes x → check_of x ≡ Sound a → (m : Content) → HasContent x m →
+described_in : (x : List ℕ) (a : Font) → Bytes x → check_of x ≡ Ok a → (m : Content) → HasContent x m →
     Readable (coding_of a.kind) m.descriptions × (tail_of x a ≡ encode (coding_of a.kind) m.descriptions)
 described_in x a b p m h =
     let same : h.font ≡ a = one_font x h.font a h.sound p in
@@ -115,18 +114,18 @@ module _ (s xs : List ℕ) (n : ℕ) (y : Bytes s) (there : Wrote Psf1ToPsf2 s n
       omega (arith, long s f y there.sound there.kind ds t, z)
 
   -- with that room it is written
-  room_enough : (m : ℕ) → length s ≤ m → converted_of Psf2ToPsf1 (take n (converted_into Psf1ToPsf2 s xs)) m ≡ Written (length s)
+  room_enough : (m : ℕ) → length s ≤ m → converted_of Psf2ToPsf1 (take n (converted_into Psf1ToPsf2 s xs)) m ≡ Ok (length s)
   room_enough m l =
       let b = both in
       let ds = b.0 in
       let z = needs ds b.2 in
       let small : needed Psf2ToPsf1 g ds ≤ limit = omega (arith, z, (is_placed s f y there.sound).0) in
       let room : needed Psf2ToPsf1 g ds ≤ m = omega (arith, z, l) in
-      wrote_given Psf2ToPsf1 o g m there.octets there.keeps.sound there.keeps.kind ds (b.3, b.4) suits (none_above ds b.1) small room ∙ ap Written z
+      wrote_given Psf2ToPsf1 o g m there.octets there.keeps.sound there.keeps.kind ds (b.3, b.4) suits (none_above ds b.1) small room ∙ ap Ok z
 
-module _ (s xs : List ℕ) (n : ℕ) (y : Bytes s) (e : converted_of Psf1ToPsf2 s (length xs) ≡ Written n) where
+module _ (s xs : List ℕ) (n : ℕ) (y : Bytes s) (e : converted_of Psf1ToPsf2 s (length xs) ≡ Ok n) where
   -- the way back is refused for want of room alone
-  pub back_accepted : (m : ℕ) → length s ≤ m → converted_of Psf2ToPsf1 (take n (converted_into Psf1ToPsf2 s xs)) m ≡ Written (length s)
+  pub back_accepted : (m : ℕ) → length s ≤ m → converted_of Psf2ToPsf1 (take n (converted_into Psf1ToPsf2 s xs)) m ≡ Ok (length s)
   back_accepted = room_enough s xs n y (means Psf1ToPsf2 s xs n y e)
 
   module _ (ys : List ℕ) (l : length s ≤ length ys) where
@@ -134,7 +133,7 @@ module _ (s xs : List ℕ) (n : ℕ) (y : Bytes s) (e : converted_of Psf1ToPsf2 
     back = take (length s) (converted_into Psf2ToPsf1 (take n (converted_into Psf1ToPsf2 s xs)) ys)
 
     -- the file but for the mode
-    changed : (f : Font) × (f.kind ≡ Psf1) × (check_of s ≡ Sound f) × (back ≡ take 2 s ++ (mode_of f.count f.table ∷ drop 3 s))
+    changed : (f : Font) × (f.kind ≡ Psf1) × (check_of s ≡ Ok f) × (back ≡ take 2 s ++ (mode_of f.count f.table ∷ drop 3 s))
     changed =
         let w = means Psf1ToPsf2 s xs n y e in
         let a = back_again Psf1ToPsf2 Psf2ToPsf1 s xs ys n (length s) y e (back_accepted (length ys) l) refl in

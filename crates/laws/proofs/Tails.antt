@@ -10,23 +10,23 @@ use lib.Seq.{take_all}
 use Rattle.base.specs.Meaning.{Bytes}
 use Rattle.base.proofs.Parts.{bytes_drop, byte_at}
 use Rattle.coding.specs.declared.Coding.{Coding}
-use Rattle.table.specs.declared.TableAnswer.{TableAnswer}
-use Rattle.table.specs.declared.TableAnswer.TheVariants.{Complete, Cut, Bad, Trailing as Over}
 use Rattle.table.specs.Reading.{table_of}
 use Rattle.table.specs.Meaning.{IsTable, Completable, LongestStart, Unfinished, BadAt, TrailingAt}
 use Rattle.table.proofs.Meaning as meaning
 use Rattle.header.specs.declared.Font.{Font}
-use Rattle.header.specs.declared.Checked.TheVariants.{Sound}
 use Rattle.stages.specs.Meaning.{coding_of, tail_of}
 use Rattle.stages.specs.Reading.{answered, through_entries, check_of}
 use Rattle.stages.proofs.Cases.{with_table, bare_trailing, bare_sound, tail_after, placed}
 use Rattle.laws.specs.Meaning.{Exact, gives, refuses, check_says, given, skipped, given_at, skipped_at, of_tail, TailRows}
 use Rattle.laws.proofs.Exactly.{row, row_at, is, less, clash, said_place}
+use Rattle.std.specs.Prelude.{Result, Ok, Err}
+use Rattle.table.specs.declared.Fault.{Fault}
+use Rattle.table.specs.declared.Fault.TheVariants.{Cut, Bad, Trailing as Over}
 
 not_refused : {A : Type 0} {f : Font} (number p : ℕ) → refuses number p ≡ gives f → A
 not_refused number p e = let z : ◌≡◌ {A = ℕ} 0 1 = cc in absurd (omega arith)
 
-module _ (s : List ℕ) (y : Bytes s) (f : Font) (passed : through_entries s ≡ Sound f) (marked : f.table ≡ true) where
+module _ (s : List ℕ) (y : Bytes s) (f : Font) (passed : through_entries s ≡ Ok f) (marked : f.table ≡ true) where
   abbrev c : Coding
   c = coding_of f.kind
 
@@ -34,16 +34,16 @@ module _ (s : List ℕ) (y : Bytes s) (f : Font) (passed : through_entries s ≡
   t_bytes = bytes_drop f.end s y
 
   checked : check_of s ≡ answered f (table_of c f.count (tail_of s f))
-  checked = sym (with_table s f marked ∙ tail_after s (Sound f) passed)
+  checked = sym (with_table s f marked ∙ tail_after s (Ok f) passed)
 
   where_it_ends : f.end + length (tail_of s f) ≡ length s
   where_it_ends = let p = placed s f (byte_at s y 3) passed in omega (arith, p.7, length-drop f.end s)
 
   -- the check's answer for each of the table's; a refusal by its number and place
-  pub accepted : of_tail IsTable s f → check_of s ≡ Sound f
+  pub accepted : of_tail IsTable s f → check_of s ≡ Ok f
   accepted h = checked ∙ ap (answered f) ((meaning.complete_exactly c f.count (tail_of s f) t_bytes).1 h)
 
-  answer_says : (a : TableAnswer) → table_of c f.count (tail_of s f) ≡ a → check_says (check_of s) ≡ check_says (answered f a)
+  answer_says : (a : Result (Unit {0}) Fault) → table_of c f.count (tail_of s f) ≡ a → check_says (check_of s) ≡ check_says (answered f a)
   answer_says a e = ap check_says (checked ∙ ap (answered f) e)
 
   cut : of_tail Unfinished s f → check_says (check_of s) ≡ refuses 10 (length s)
@@ -62,11 +62,11 @@ module _ (s : List ℕ) (y : Bytes s) (f : Font) (passed : through_entries s ≡
   outcome : Outcome
   outcome = go (table_of c f.count (tail_of s f)) refl
     where
-      go : (a : TableAnswer) → table_of c f.count (tail_of s f) ≡ a → Outcome
-      go Complete e = inl ((meaning.complete_exactly c f.count (tail_of s f) t_bytes).0 e)
-      go (Cut k g) e = inr (inl ((meaning.cut_place c f.count (tail_of s f) k t_bytes).0 (g, e)).1)
-      go (Bad k g) e = inr (inr (inl (k, (meaning.bad_place c f.count (tail_of s f) k t_bytes).0 (g, e))))
-      go (Over k) e = inr (inr (inr (k, (meaning.trailing_exactly c f.count (tail_of s f) k t_bytes).0 e)))
+      go : (a : Result (Unit {0}) Fault) → table_of c f.count (tail_of s f) ≡ a → Outcome
+      go (Ok tt) e = inl ((meaning.complete_exactly c f.count (tail_of s f) t_bytes).0 e)
+      go (Err (Cut k g)) e = inr (inl ((meaning.cut_place c f.count (tail_of s f) k t_bytes).0 (g, e)).1)
+      go (Err (Bad k g)) e = inr (inr (inl (k, (meaning.bad_place c f.count (tail_of s f) k t_bytes).0 (g, e))))
+      go (Err (Over k)) e = inr (inr (inr (k, (meaning.trailing_exactly c f.count (tail_of s f) k t_bytes).0 e)))
 
   -- the table's rows
   pub table_rows : Exact (check_says (check_of s)) (TailRows s f true)
@@ -177,10 +177,10 @@ module _ (s : List ℕ) (y : Bytes s) (f : Font) (passed : through_entries s ≡
       go (inr (inr (inl (k, h)))) = (k, ap said_place (sym e ∙ bad k h), h.0)
       go (inr (inr (inr (k, h)))) = (k, ap said_place (sym e ∙ over k h), meaning.trailing_start c f.count (tail_of s f) k t_bytes h)
 
-module _ (s : List ℕ) (y : Bytes s) (f : Font) (passed : through_entries s ≡ Sound f) where
+module _ (s : List ℕ) (y : Bytes s) (f : Font) (passed : through_entries s ≡ Ok f) where
   bare_rows : f.table ≡ false → Exact (check_says (check_of s)) (TailRows s f false)
   bare_rows t =
-      let there = tail_after s (Sound f) passed in
+      let there = tail_after s (Ok f) passed in
       row (less f.end (length s)) (λ h. ap check_says (sym (bare_trailing s f t h ∙ there)))
       (λ n. is _ (gives f) (ap check_says (sym (bare_sound s f t (omega arith) ∙ there))))
 

@@ -19,14 +19,12 @@ use Rattle.coding.specs.Meaning.{ValueOf, value_bytes}
 use Rattle.coding.specs.Reading.{read_token}
 use Rattle.coding.proofs.Codings.{stopping}
 use Rattle.table.specs.declared.Item.{Item}
-use Rattle.table.specs.declared.TableAnswer.TheVariants.{Bad}
 use Rattle.table.specs.Meaning.{Desc, items, bytes, Readable, BadAt}
 use Rattle.table.specs.Reading.{ends_in, table_of}
 use Rattle.table.proofs.Places.{bad_token, bad_broken}
 use Rattle.lookup.specs.Meaning.{Any, ListsValue, ListsSequence, Nowhere}
 use Rattle.header.specs.declared.Kind.TheVariants.{Psf2}
 use Rattle.header.specs.declared.Font.{Font}
-use Rattle.header.specs.declared.Checked.TheVariants.{Sound}
 use Rattle.stages.specs.Meaning.{coding_of}
 use Rattle.stages.specs.Reading.{check_of}
 use Rattle.content.specs.Meaning.{Describes}
@@ -37,6 +35,8 @@ use Rattle.laws.proofs.Questions.{item_exactly, value_exactly, sequence_exactly}
 use Rattle.laws.proofs.Asking.{described, not_bare}
 use Rattle.laws.proofs.Listed.{no_value, listed_value, listed_sequence, item_value}
 use Rattle.laws.proofs.Editing.{add_rows, drop_rows}
+use Rattle.std.specs.Prelude.{Ok, Err}
+use Rattle.table.specs.declared.Fault.TheVariants.{Bad}
 
 not-false : {b : Bool} → b ≡ true → b ≡ false → ⊥
 not-false p q = let z : ◌≡◌ {A = ℕ} 0 1 = cc in absurd (omega arith)
@@ -81,7 +81,7 @@ module _ (s : List ℕ) (y : Bytes s) where
       go (sound f q (skipped t (reads ds d (skipped u (gives_it j m w))))) =
           no_value (coding_of f.kind) v (item_value (coding_of f.kind) ds (readable s f ds (not_bare f.table t) d) g k j v m (subst (Holds v) (same w) h)) n
 
-  module _ (f : Font) (e : check_of s ≡ Sound f) (marked : f.table ≡ true) where
+  module _ (f : Font) (e : check_of s ≡ Ok f) (marked : f.table ≡ true) where
     -- looked up
     pub value_none : (v : ℕ) → v ≤ 0x10FFFF → Noncharacter v → lookup_says (value_glyph s v) ≡ refuses 15 0
     value_none v l n =
@@ -110,10 +110,10 @@ bad_in_table c n ds is i js q o e v p m s x y t =
     let a = bad_token c n ds is i js (value_bytes c v ++ x) k q o e (omega arith) b in
     let z : 0 + length (bytes c is) + k ≡ length (bytes c is) + k = omega arith in
     bad_broken c n s (length (bytes c is) + k) (0 + ends_in is) y
-    (ap (table_of c n) t ∙ a ∙ ap (λ (j : ℕ). Bad j (0 + ends_in is)) z)
+    (ap (table_of c n) t ∙ a ∙ ap (λ (j : ℕ). Err (Bad j (0 + ends_in is))) z)
 
 -- edits of a PSF2 font with a table in the first len bytes of a buffer
-module _ (xs : List ℕ) (y : Bytes xs) (len g v : ℕ) (within : len ≤ length xs) (f : Font) (e : check_of (take len xs) ≡ Sound f) (kind : f.kind ≡ Psf2)
+module _ (xs : List ℕ) (y : Bytes xs) (len g v : ℕ) (within : len ≤ length xs) (f : Font) (e : check_of (take len xs) ≡ Ok f) (kind : f.kind ≡ Psf2)
     (marked : f.table ≡ true) (n : Noncharacter v) where
   -- it is no surrogate
   no_surrogate : In 0xD800 0xDFFF v → ⊥

@@ -20,7 +20,6 @@ use Rattle.coding.specs.declared.Coding.{Coding}
 use Rattle.coding.specs.declared.Coding.TheVariants.{Utf8, Ucs2}
 use Rattle.coding.specs.Reading.{read_token, mark_len}
 use Rattle.coding.specs.Meaning.{ValueOf, value_bytes, start_bytes, end_bytes}
-use Rattle.table.specs.declared.TableAnswer.TheVariants.{Cut, Bad, Trailing}
 use Rattle.table.specs.Meaning.{Seq, Desc, encode, Readable, Unfinished, BadAt, TrailingAt}
 use Rattle.table.specs.Reading.{steps_from, value_item, step_items, check_steps, table_of}
 use Rattle.table.proofs.Meaning as meaning
@@ -36,6 +35,8 @@ use Rattle.lookup.specs.Reading.{find_value, goes_on, is_whole, find_sequence_fr
 use Rattle.questions.specs.Reading.{any_high}
 use Rattle.fonts.specs.Reading.{value_glyph, sequence_glyph}
 use Rattle.laws.specs.Meaning.{gives, refuses, lookup_says, converted_says}
+use Rattle.std.specs.Prelude.{Err}
+use Rattle.table.specs.declared.Fault.TheVariants.{Cut, Bad, Trailing}
 
 -- the column "Answer": a reading, or CUT, BAD or TRAILING at a place
 pub data Answer : Type 0 where
@@ -104,13 +105,13 @@ are_bytes (b ∷ s) e = go (ltb b 256) refl (octets s) refl (are_bytes s) e
     go false p y q f r = let z : ◌≡◌ {A = ℕ} 0 1 = cc in absurd (omega arith)
 
 -- the check of a table gives each of the refused its place
-cuts : (c : Coding) (n : ℕ) (s : List ℕ) (k g : ℕ) → octets s ≡ true → table_of c n s ≡ Cut k g → Meets c n s (cut k)
+cuts : (c : Coding) (n : ℕ) (s : List ℕ) (k g : ℕ) → octets s ≡ true → table_of c n s ≡ Err (Cut k g) → Meets c n s (cut k)
 cuts c n s k g o e = (meaning.cut_place c n s k (are_bytes s o)).0 (g, e)
 
-bads : (c : Coding) (n : ℕ) (s : List ℕ) (k g : ℕ) → octets s ≡ true → table_of c n s ≡ Bad k g → Meets c n s (bad k)
+bads : (c : Coding) (n : ℕ) (s : List ℕ) (k g : ℕ) → octets s ≡ true → table_of c n s ≡ Err (Bad k g) → Meets c n s (bad k)
 bads c n s k g o e = (meaning.bad_place c n s k (are_bytes s o)).0 (g, e)
 
-trails : (c : Coding) (n : ℕ) (s : List ℕ) (k : ℕ) → octets s ≡ true → table_of c n s ≡ Trailing k → Meets c n s (trailing k)
+trails : (c : Coding) (n : ℕ) (s : List ℕ) (k : ℕ) → octets s ≡ true → table_of c n s ≡ Err (Trailing k) → Meets c n s (trailing k)
 trails c n s k o e = (meaning.trailing_exactly c n s k (are_bytes s o)).0 e
 
 -- a number below D800 is a value of both codings

@@ -1,5 +1,5 @@
 -- The words of the statements: what a call says back, document 01's rows call by call, what a conversion keeps.
-use Rattle.std.specs.Prelude.{ℕ, zero, suc, ◌+◌, ◌-◌, ◌*◌, ◌≤◌, ◌<◌, ◌≡◌, ◌⊎◌, ◌↔◌, Bool, true, false, List, [], ◌∷◌, ◌++◌, length, get_or, take, drop, replicate}
+use Rattle.std.specs.Prelude.{ℕ, zero, suc, ◌+◌, ◌-◌, ◌*◌, ◌≤◌, ◌<◌, ◌≡◌, ◌⊎◌, ◌↔◌, Bool, true, false, List, [], ◌∷◌, ◌++◌, length, get_or, take, drop, replicate, Result, Ok, Err}
 use Rattle.std.proofs.Math.Option.{Option, none, some}
 use Rattle.base.specs.Meaning.{le32, Begins, Bytes}
 use Rattle.refusal.specs.Meaning.{number_of, no_glyph}
@@ -13,39 +13,24 @@ use Rattle.lookup.specs.Meaning.{Nth, Any, ListsValue, ListsSequence, Lowest, No
 use Rattle.header.specs.declared.Kind as K
 use Rattle.header.specs.declared.Kind.TheVariants.{Psf1, Psf2, Vfont2}
 use Rattle.header.specs.declared.Font.{Font}
-use Rattle.header.specs.declared.Checked.{Checked}
-use Rattle.header.specs.declared.Checked.TheVariants.{Sound, Refused}
 use Rattle.header.specs.Meaning.{limit, row_bytes, psf1_font, fields_of, psf2_font, vfont2_font, char_size, magic_of, header_len, psf1_count, psf1_table}
 use Rattle.entries.specs.declared.Metrics.{Metrics}
 use Rattle.entries.specs.Meaning.{entry_at, address_at, rows_at, cols_at, FirstBroken, IsGreatest}
-use Rattle.bitmap.specs.declared.Part.{Part}
-use Rattle.bitmap.specs.declared.Part.TheVariants.{At, Refused as NoPart}
-use Rattle.bitmap.specs.declared.Pixel.{Pixel}
-use Rattle.bitmap.specs.declared.Pixel.TheVariants.{Bit, Refused as NoPixel}
-use Rattle.bitmap.specs.declared.GlyphMetrics.{GlyphMetrics}
-use Rattle.bitmap.specs.declared.GlyphMetrics.TheVariants.{Is as IsMetrics, Refused as NoMetrics}
 use Rattle.bitmap.specs.Meaning.{kind_metrics, row_start, pixel_in, view_of}
 use Rattle.stages.specs.Meaning.{coding_of, tail_of}
 use Rattle.stages.specs.Reading.{check_of}
-use Rattle.questions.specs.declared.Walk.{Walk}
-use Rattle.questions.specs.declared.Walk.TheVariants.{Is, Refused as NoWalk}
-use Rattle.questions.specs.declared.Lookup.{Lookup}
-use Rattle.questions.specs.declared.Lookup.TheVariants.{Glyph, Refused as NoLookup}
 use Rattle.content.specs.Meaning.{Drawing, bitmap_in, NoGlyph, Describes, Content, HasContent, Plain}
 use Rattle.conversion.specs.declared.Conversion.{Conversion}
 use Rattle.conversion.specs.declared.Conversion.TheVariants.{Psf1ToPsf2, Psf2ToPsf1, Psf2ToVfont2, Vfont2ToPsf2}
 use Rattle.conversion.specs.Meaning.{source_kind, target_kind, front_len, FirstUneven}
-use Rattle.convert.specs.declared.Converted.{Converted}
-use Rattle.convert.specs.declared.Converted.TheVariants.{Wrote as Written, Refused as NotConverted}
 use Rattle.token.specs.Meaning.{Noncharacter}
 use Rattle.utf8.specs.Meaning.{Scalar, utf8_bytes}
 use Rattle.mapping.specs.Meaning.{Lists}
-use Rattle.edit.specs.declared.Edited.{Edited}
-use Rattle.edit.specs.declared.Edited.TheVariants.{Length, Refused as NotEdited}
-use Rattle.differences.specs.declared.Compared.{Compared}
-use Rattle.differences.specs.declared.Compared.TheVariants.{Pairs, Refused as NotCompared}
 use Rattle.differences.specs.Meaning.{numbers}
 use Rattle.fonts.specs.Reading.{glyph_part_of, row_part_of, pixel_at, glyph_metrics_of, item_of, value_glyph, sequence_glyph}
+use Rattle.bitmap.specs.declared.Part.{Part}
+use Rattle.differences.specs.declared.Uncompared.{Uncompared}
+use Rattle.differences.specs.declared.Uncompared.TheVariants.{First, Second, Neither}
 
 -- What a call says back: an answer, or "a number and a place". "When an answer is an enum, a definition gives this paper's number and
 -- values for each of its cases."
@@ -56,36 +41,36 @@ pub data Said (A : Type 0) : Type 0 where
 abbrev pub told : {A : Type 0} → Refusal → Said A
 told r = refuses (number_of r.reason) r.place
 
-abbrev pub check_says : Checked → Said Font
-check_says (Sound f) = gives f
-check_says (Refused r) = told r
+abbrev pub check_says : Result Font Refusal → Said Font
+check_says (Ok f) = gives f
+check_says (Err r) = told r
 
 -- an offset and a length
-abbrev pub part_says : Part → Said (ℕ × ℕ)
-part_says (At start len) = gives (start, len)
-part_says (NoPart r) = told r
+abbrev pub part_says : Result Part Refusal → Said (ℕ × ℕ)
+part_says (Ok p) = gives (p.start, p.len)
+part_says (Err r) = told r
 
-abbrev pub pixel_says : Pixel → Said ℕ
-pixel_says (Bit v) = gives v
-pixel_says (NoPixel r) = told r
+abbrev pub pixel_says : Result ℕ Refusal → Said ℕ
+pixel_says (Ok v) = gives v
+pixel_says (Err r) = told r
 
-abbrev pub metrics_says : GlyphMetrics → Said Metrics
-metrics_says (IsMetrics m) = gives m
-metrics_says (NoMetrics r) = told r
+abbrev pub metrics_says : Result Metrics Refusal → Said Metrics
+metrics_says (Ok m) = gives m
+metrics_says (Err r) = told r
 
-abbrev pub walk_says : Walk → Said Item
-walk_says (Is i) = gives i
-walk_says (NoWalk r) = told r
+abbrev pub walk_says : Result Item Refusal → Said Item
+walk_says (Ok i) = gives i
+walk_says (Err r) = told r
 
 -- a glyph number
-abbrev pub lookup_says : Lookup → Said ℕ
-lookup_says (Glyph g) = gives g
-lookup_says (NoLookup r) = told r
+abbrev pub lookup_says : Result ℕ Refusal → Said ℕ
+lookup_says (Ok g) = gives g
+lookup_says (Err r) = told r
 
 -- the bytes written
-abbrev pub converted_says : Converted → Said ℕ
-converted_says (Written n) = gives n
-converted_says (NotConverted r) = told r
+abbrev pub converted_says : Result ℕ Refusal → Said ℕ
+converted_says (Ok n) = gives n
+converted_says (Err r) = told r
 
 -- Rows: "Checks on a font run in this order; the first that applies is given."
 
@@ -101,8 +86,8 @@ pub data RowAt {A : Type 0} (applies : ℕ → Type 0) (number : ℕ) (place : �
 
 -- "Every question and conversion gives the font's own refusal (1 to 12) first."
 pub data Own {A : Type 0} (s : List ℕ) (rest : Font → Said A → Type 0) (a : Said A) : Type 0 where
-  own : (r : Refusal) → check_of s ≡ Refused r → a ≡ told r → Own s rest a
-  sound : (f : Font) → check_of s ≡ Sound f → rest f a → Own s rest a
+  own : (r : Refusal) → check_of s ≡ Err r → a ≡ told r → Own s rest a
+  sound : (f : Font) → check_of s ≡ Ok f → rest f a → Own s rest a
 
 -- the rows on a font's reading: its descriptions
 pub data Reading {A : Type 0} (s : List ℕ) (f : Font) (rest : List Desc → Said A → Type 0) (a : Said A) : Type 0 where
@@ -375,7 +360,7 @@ ConversionRows c s m =
 -- o is a sound font of a kind, with all that font f of s has: whatever is asked, the calls answer of o as they do of s
 pub record Keeps (s : List ℕ) (f : Font) (o : List ℕ) (k : K.Kind) : Type 0 where
   pub font : Font
-  pub sound : check_of o ≡ Sound font
+  pub sound : check_of o ≡ Ok font
   pub kind : font.kind ≡ k
   pub count : font.count ≡ f.count
   pub height : font.height ≡ f.height
@@ -395,7 +380,7 @@ pub record Keeps (s : List ℕ) (f : Font) (o : List ℕ) (k : K.Kind) : Type 0 
 -- keeps what the font has
 pub record Wrote (c : Conversion) (s : List ℕ) (n : ℕ) (xs out : List ℕ) : Type 0 where
   pub font : Font
-  pub sound : check_of s ≡ Sound font
+  pub sound : check_of s ≡ Ok font
   pub kind : font.kind ≡ source_kind c
   pub long : length (take n out) ≡ n
   pub behind : drop n out ≡ drop n xs
@@ -410,7 +395,7 @@ pub record Wrote (c : Conversion) (s : List ℕ) (n : ℕ) (xs out : List ℕ) :
 -- with the same glyphs and mappings."
 pub record RoundTrip (s o : List ℕ) : Type 0 where
   pub font : Font
-  pub sound : check_of s ≡ Sound font
+  pub sound : check_of s ≡ Ok font
   -- glyphs, metrics and mappings are kept
   pub keeps : Keeps s font o Psf1
   -- the bytes are the same exactly for modes 0 to 3
@@ -423,9 +408,9 @@ pub record RoundTrip (s o : List ℕ) : Type 0 where
 -- Edits (document 02, W4): "Order: the font's, 17, 14, 13, 24 or 25, 20, 21."
 
 -- the new length
-abbrev pub edited_says : Edited → Said ℕ
-edited_says (Length n) = gives n
-edited_says (NotEdited r) = told r
+abbrev pub edited_says : Result ℕ Refusal → Said ℕ
+edited_says (Ok n) = gives n
+edited_says (Err r) = told r
 
 -- "ASK also for L beyond the buffer (before all others) and for a surrogate": the rows before 24, of a font in the first len bytes of xs
 abbrev pub EditRows : List ℕ → ℕ → ℕ → ℕ → (List Desc → Said ℕ → Type 0) → Said ℕ → Type 0
@@ -459,11 +444,11 @@ DropRows xs len g v = EditRows xs len g v (DropLast len g v)
 -- what a good edit makes of a font f in the first len bytes of xs: one in the first n bytes of out, with glyph g's description changed
 pub record Edits (change : List Desc → List Desc) (g : ℕ) (xs : List ℕ) (len : ℕ) (out : List ℕ) (n : ℕ) : Type 0 where
   pub font : Font
-  pub sound : check_of (take len xs) ≡ Sound font
+  pub sound : check_of (take len xs) ≡ Ok font
   pub kind : font.kind ≡ Psf2
   pub marked : font.table ≡ true
   -- the font is accepted, its header says the same, and its reading is the old one changed
-  pub accepted : check_of (take n out) ≡ Sound font
+  pub accepted : check_of (take n out) ≡ Ok font
   pub reading : (ds : List Desc) → Describes (take len xs) font true ds → Describes (take n out) font true (change ds)
   -- "Every other item of every description stays, as do header and bitmaps."
   pub others : (h k : ℕ) → (h ≡ g → ⊥) → item_of (take n out) h k ≡ item_of (take len xs) h k
@@ -545,14 +530,18 @@ swapped [] = []
 swapped (p ∷ ps) = (swap_kind p.0, p.1) ∷ swapped ps
 
 -- "The count of pairs is answered"
-abbrev pub compared_says : Compared → Said ℕ
-compared_says (Pairs n) = gives n
-compared_says (NotCompared w r) = told r
+abbrev pub compared_says : Result ℕ Uncompared → Said ℕ
+compared_says (Ok n) = gives n
+compared_says (Err (First r)) = told r
+compared_says (Err (Second r)) = told r
+compared_says (Err (Neither r)) = told r
 
 -- "with which one it was": 1 the first font's refusal, 2 the second's, 0 neither's
-abbrev pub whose_refusal : Compared → ℕ
-whose_refusal (Pairs n) = 0
-whose_refusal (NotCompared w r) = w
+abbrev pub whose_refusal : Result ℕ Uncompared → ℕ
+whose_refusal (Ok n) = 0
+whose_refusal (Err (First r)) = 1
+whose_refusal (Err (Second r)) = 2
+whose_refusal (Err (Neither r)) = 0
 
 -- "Refusals: the first font's, else the second's; ROOM with the count of numbers needed", for a buffer of so many numbers and so many pairs
 abbrev pub CompareRows : List ℕ → List ℕ → ℕ → ℕ → Said ℕ → Type 0

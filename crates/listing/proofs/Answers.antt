@@ -15,33 +15,31 @@ use Rattle.refusal.specs.declared.Refusal.{Refusal}
 use Rattle.refusal.specs.declared.Reason.TheVariants.{Room}
 use Rattle.coding.specs.declared.Coding.{Coding}
 use Rattle.header.specs.declared.Font.{Font}
-use Rattle.header.specs.declared.Checked.{Checked}
 use Rattle.stages.specs.Meaning.{coding_of}
 use Rattle.stages.specs.Reading.{check_of}
-use Rattle.listing.specs.declared.Listed.{Listed}
-use Rattle.listing.specs.declared.Listed.TheVariants.{Wrote, Refused as Unlisted}
 use Rattle.words.specs.Meaning.{big_text}
 use Rattle.listing.specs.Meaning.{first_line}
 use Rattle.listing.specs.Reading.{lines_text, font_text, answer_text, listing_of, listed_of, left_of}
 use Rattle.lines.specs.Reading.{table_text}
+use Rattle.std.specs.Prelude.{Result, Ok, Err}
 
 -- what a call answers, and what it leaves where xs was
-abbrev pub Lists : List ℕ → List ℕ → Listed → List ℕ → Type 0
+abbrev pub Lists : List ℕ → List ℕ → Result ℕ Refusal → List ℕ → Type 0
 Lists text xs r w = (r ≡ listed_of text (length xs)) × (w ≡ left_of text xs)
 
 module _ (text xs : List ℕ) (m : ℕ) (e : m ≡ length text) where
-  pub no_room : length xs < m → Lists text xs (Unlisted (refusal Room m)) xs
+  pub no_room : length xs < m → Lists text xs (Err (refusal Room m)) xs
   unfolding listed_of left_of when
   no_room h = let k : length xs < length text = omega arith in (rw (lt-ltb (length xs) (length text) k, e), rw (lt-ltb (length xs) (length text) k))
 
-  pub no_room_as : (r : Refusal) → length xs < m → r ≡ refusal Room m → Lists text xs (Unlisted r) xs
-  no_room_as r h q = subst (λ (x : Refusal). Lists text xs (Unlisted x) xs) (sym q) (no_room h)
+  pub no_room_as : (r : Refusal) → length xs < m → r ≡ refusal Room m → Lists text xs (Err r) xs
+  no_room_as r h q = subst (λ (x : Refusal). Lists text xs (Err x) xs) (sym q) (no_room h)
 
-  pub wrote : m ≤ length xs → (w : List ℕ) → w ≡ over text xs → Lists text xs (Wrote m) w
+  pub wrote : m ≤ length xs → (w : List ℕ) → w ≡ over text xs → Lists text xs (Ok m) w
   unfolding listed_of left_of when
   wrote h w o = let k : length text ≤ length xs = omega arith in (rw (le-ltb (length xs) (length text) k, e), rw (le-ltb (length xs) (length text) k) o)
 
-pub same_text : (t u xs : List ℕ) (r : Listed) (w : List ℕ) → t ≡ u → Lists t xs r w → Lists u xs r w
+pub same_text : (t u xs : List ℕ) (r : Result ℕ Refusal) (w : List ℕ) → t ≡ u → Lists t xs r w → Lists u xs r w
 same_text t u xs r w e l = (l.0 ∙ ap (λ (z : List ℕ). listed_of z (length xs)) e, l.1 ∙ ap (λ (z : List ℕ). left_of z xs) e)
 
 -- a text is what stands in front
@@ -69,19 +67,19 @@ pub listing_big : (s : List ℕ) → 65536 < length s → big_text ≡ listing_o
 unfolding listing_of when
 listing_big s h = rw (lt-ltb 65536 (length s) h)
 
-pub listing_answer : (s : List ℕ) (a : Checked) → length s ≤ 65536 → a ≡ check_of s → answer_text s a ≡ listing_of s
+pub listing_answer : (s : List ℕ) (a : Result Font Refusal) → length s ≤ 65536 → a ≡ check_of s → answer_text s a ≡ listing_of s
 unfolding listing_of when
 listing_answer s a h e = rw (le-ltb 65536 (length s) h, e)
 
 -- what is written stands within the buffer
-pub wrote_inside : (text : List ℕ) (room n : ℕ) → listed_of text room ≡ Wrote n → n ≤ room
+pub wrote_inside : (text : List ℕ) (room n : ℕ) → listed_of text room ≡ Ok n → n ≤ room
 unfolding listed_of when
 wrote_inside text room n e = go (ltb room (length text)) refl e
   where
-    go : (t : Bool) → ltb room (length text) ≡ t → when t (Unlisted (refusal Room (length text))) (Wrote (length text)) ≡ Wrote n → n ≤ room
+    go : (t : Bool) → ltb room (length text) ≡ t → when t (Err (refusal Room (length text))) (Ok (length text)) ≡ Ok n → n ≤ room
     go true p q = let z : ◌≡◌ {A = ℕ} 0 1 = cc in absurd (omega arith)
     go false p q = let h : length text ≡ n = cc in let k = ltb-false room (length text) p in omega arith
 
 -- and a buffer that is as long as the text is never refused: the text stands in front, and nothing behind it is changed
-pub always_wrote : (text xs : List ℕ) → length text ≤ length xs → (listed_of text (length xs) ≡ Wrote (length text)) × (left_of text xs ≡ over text xs)
+pub always_wrote : (text xs : List ℕ) → length text ≤ length xs → (listed_of text (length xs) ≡ Ok (length text)) × (left_of text xs ≡ over text xs)
 always_wrote text xs h = let w = wrote text xs (length text) refl h (over text xs) refl in (sym w.0, sym w.1)

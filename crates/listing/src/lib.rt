@@ -8,15 +8,8 @@ ghost use Rattle.words.specs.Meaning.{refused_text};
 ghost use Rattle.listing.specs.Meaning.{kind_text, table_word, first_line};
 ghost use Rattle.listing.specs.Reading.{lines_text, font_text, listing_of, listed_of, left_of};
 
-use header::{Checked, Font, Kind};
+use header::{Font, Kind};
 use refusal::{Reason, Refusal};
-
-// How many bytes of text stand in front of the buffer; or ROOM with the bytes needed, and the buffer is untouched.
-#[derive(Clone, Copy)]
-pub enum Listed {
-    Wrote(usize),
-    Refused(Refusal),
-}
 
 // The name of a kind and a blank. Asks for room: the caller has measured.
 fn put_kind(kind: Kind, out: &mut [u8]) -> usize
@@ -80,19 +73,19 @@ fn put_lines(file: &[u8], f: Font, out: &mut [u8])
 }
 
 // A text as a listing.
-fn list_text(text: &[u8], out: &mut [u8]) -> Listed
+fn list_text(text: &[u8], out: &mut [u8]) -> Result<usize, Refusal>
     ensures { (result ≡ listed_of text.now (length out.old)) × (out.new ≡ left_of text.now out.old) }
 {
     let n = text.len();
     if out.len() < n {
-        return Listed::Refused(refusal::refuse(Reason::Room, n));
+        return Err(refusal::refuse(Reason::Room, n));
     }
     base::copy(text, out);
-    Listed::Wrote(n)
+    Ok(n)
 }
 
 // The listing of a refused font.
-fn list_refused(r: Refusal, out: &mut [u8]) -> Listed
+fn list_refused(r: Refusal, out: &mut [u8]) -> Result<usize, Refusal>
     ensures equal { (result ≡ listed_of (refused_text r) (length out.old)) × (out.new ≡ left_of (refused_text r) out.old) }
     ensures bounded { length (refused_text r) ≤ 96 }
 {
@@ -102,7 +95,7 @@ fn list_refused(r: Refusal, out: &mut [u8]) -> Listed
 }
 
 // The listing of a font whose check passed. Asks that the file is one that is listed.
-fn list_font(file: &[u8], f: Font, out: &mut [u8]) -> Listed
+fn list_font(file: &[u8], f: Font, out: &mut [u8]) -> Result<usize, Refusal>
     requires { (Placed file.now f) × (length file.now ≤ 65536) }
     ensures equal { (result ≡ listed_of (font_text file.now f) (length out.old)) × (out.new ≡ left_of (font_text file.now f) out.old) }
     ensures bounded { length (font_text file.now f) ≤ 917600 }
@@ -112,16 +105,16 @@ fn list_font(file: &[u8], f: Font, out: &mut [u8]) -> Listed
     let m = lines_len(file, f);
     let total = n + m;
     if out.len() < total {
-        return Listed::Refused(refusal::refuse(Reason::Room, total));
+        return Err(refusal::refuse(Reason::Room, total));
     }
     base::copy(&line[..n], out);
     put_lines(file, f, &mut out[n..]);
-    Listed::Wrote(total)
+    Ok(total)
 }
 
 // The listing of a file, whatever it holds, to the front of a buffer. Refusal: ROOM, place the bytes needed; 917,600 always suffice.
 #[tactic(auto, using(crate::proofs::Answers::listing_big, crate::proofs::Answers::same_text))]
-pub fn list(file: &[u8], out: &mut [u8]) -> Listed
+pub fn list(file: &[u8], out: &mut [u8]) -> Result<usize, Refusal>
     ensures equal { (result ≡ listed_of (listing_of file.now) (length out.old)) × (out.new ≡ left_of (listing_of file.now) out.old) }
     ensures bounded { length (listing_of file.now) ≤ 917600 }
 {
@@ -130,7 +123,7 @@ pub fn list(file: &[u8], out: &mut [u8]) -> Listed
     }
     let a = stages::check(file);
     match a {
-        Checked::Sound(f) => list_font(file, f, out),
-        Checked::Refused(r) => list_refused(r, out),
+        Ok(f) => list_font(file, f, out),
+        Err(r) => list_refused(r, out),
     }
 }

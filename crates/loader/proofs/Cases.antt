@@ -15,8 +15,6 @@ use Rattle.refusal.specs.declared.Reason.TheVariants.{TooLong, Entry, TableCut, 
 use Rattle.header.specs.declared.Kind.{Kind}
 use Rattle.header.specs.declared.Kind.TheVariants.{Vfont2}
 use Rattle.header.specs.declared.Font.{Font}
-use Rattle.header.specs.declared.Checked.{Checked}
-use Rattle.header.specs.declared.Checked.TheVariants.{Sound, Refused}
 use Rattle.header.specs.Meaning.{limit}
 use Rattle.header.specs.Reading.{says_of}
 use Rattle.stages.specs.Meaning.{coding_of}
@@ -31,8 +29,8 @@ use Rattle.tablefeed.specs.declared.Standing.{Standing}
 use Rattle.tablefeed.specs.declared.Fed as tables
 use Rattle.tablefeed.specs.Reading.{table_fed}
 use Rattle.loader.specs.declared.Loader.{Loader}
-use Rattle.loader.specs.declared.Reply.TheVariants.{Taken, Refused as Untaken}
 use Rattle.loader.specs.Reading.{part_of, entries_in, table_in, counted, font_fed, said_fed, body_fed, head_fed, past_limit, is_open, open_fed, fed_of, feed_answer, entry_number, kind_told, entries_told, tail_told, font_told, answer_of, close_answer, closed_of}
+use Rattle.std.specs.Prelude.{Result, Ok, Err}
 
 -- the entries in a piece, where s is their part of it
 module _ (f : Font) (total : ℕ) (h : Held) (x : Sums) (p s : List ℕ) (e : s ≡ part_of total f.entries f.bitmaps p) where
@@ -73,7 +71,7 @@ module _ (l : Loader) (p : List ℕ) where
   unfolding font_fed
   font_fed_lem f e t q w = rw (w, q)
 
-  pub said_fed_lem : (c : Checked) → c ≡ says_of l.header → (r : Loader) → r ≡ said_fed c l p → r ≡ body_fed l p
+  pub said_fed_lem : (c : Result Font Refusal) → c ≡ says_of l.header → (r : Loader) → r ≡ said_fed c l p → r ≡ body_fed l p
   unfolding body_fed
   said_fed_lem c e r q = q ∙ rw e
 
@@ -118,11 +116,11 @@ module _ (l : Loader) (p : List ℕ) where
 
 -- what feeding and closing answer
 module _ (l : Loader) where
-  pub taken : is_open l ≡ true → Taken ≡ feed_answer l
+  pub taken : is_open l ≡ true → Ok tt ≡ feed_answer l
   unfolding feed_answer
   taken e = rw e
 
-  pub fed_late : is_open l ≡ false → Untaken (refusal Late 0) ≡ feed_answer l
+  pub fed_late : is_open l ≡ false → Err (refusal Late 0) ≡ feed_answer l
   unfolding feed_answer
   fed_late e = rw e
 
@@ -130,7 +128,7 @@ module _ (l : Loader) where
   unfolding close_answer
   answers e = rw e
 
-  pub close_late : is_open l ≡ false → Refused (refusal Late 0) ≡ close_answer l
+  pub close_late : is_open l ≡ false → Err (refusal Late 0) ≡ close_answer l
   unfolding close_answer
   close_late e = rw e
 
@@ -143,7 +141,7 @@ module _ (l : Loader) where
   stays_closed e = rw e
 
   -- the stages
-  pub answer_long : limit < l.total → Refused (refusal TooLong limit) ≡ answer_of l
+  pub answer_long : limit < l.total → Err (refusal TooLong limit) ≡ answer_of l
   unfolding answer_of
   answer_long h = search chain depth 30
 
@@ -155,49 +153,49 @@ module _ (l : Loader) where
   unfolding answer_of
   answer_whole h = search chain depth 30
 
-  pub font_cut : (f : Font) (r : Refusal) (c : Checked) → c ≡ sized l.total f → c ≡ Refused r → Refused r ≡ font_told f l
+  pub font_cut : (f : Font) (r : Refusal) (c : Result Font Refusal) → c ≡ sized l.total f → c ≡ Err r → Err r ≡ font_told f l
   unfolding font_told
   font_cut f r c e q = rw (← e, q)
 
-  pub entries_refused : (f g : Font) (r : Refusal) (c d : Checked) → c ≡ sized l.total f → c ≡ Sound g → d ≡ entries_told g l.sums → d ≡ Refused r → Refused r ≡ font_told f l
+  pub entries_refused : (f g : Font) (r : Refusal) (c d : Result Font Refusal) → c ≡ sized l.total f → c ≡ Ok g → d ≡ entries_told g l.sums → d ≡ Err r → Err r ≡ font_told f l
   unfolding font_told
   entries_refused f g r c d e q w v = rw (← e, q, ← w, v)
 
-  pub to_tail : (f g k : Font) (c d x : Checked) → c ≡ sized l.total f → c ≡ Sound g → d ≡ entries_told g l.sums → d ≡ Sound k → x ≡ tail_told k l.total l.standing → x ≡ font_told f l
+  pub to_tail : (f g k : Font) (c d x : Result Font Refusal) → c ≡ sized l.total f → c ≡ Ok g → d ≡ entries_told g l.sums → d ≡ Ok k → x ≡ tail_told k l.total l.standing → x ≡ font_told f l
   unfolding font_told
   to_tail f g k c d x e q w v u = u ∙ rw (← e, q, ← w, v)
 
-pub told_by : (f : Font) (x : Sums) (k : Kind) → f.kind ≡ k → (r : Checked) → r ≡ kind_told f x k → r ≡ entries_told f x
+pub told_by : (f : Font) (x : Sums) (k : Kind) → f.kind ≡ k → (r : Result Font Refusal) → r ≡ kind_told f x k → r ≡ entries_told f x
 unfolding entries_told
 told_by f x k e r q = q ∙ rw e
 
-pub broke : (f : Font) (x : Sums) → (x.broken ≡ 0 → ⊥) → Refused (refusal_at Entry x.broken (entry_number f.entries x.broken)) ≡ kind_told f x Vfont2
+pub broke : (f : Font) (x : Sums) → (x.broken ≡ 0 → ⊥) → Err (refusal_at Entry x.broken (entry_number f.entries x.broken)) ≡ kind_told f x Vfont2
 broke f x h = search chain depth 30
 
 pub whole : (f : Font) (x : Sums) → x.broken ≡ 0 → greatest_of f x.height x.width ≡ kind_told f x Vfont2
 whole f x h = search chain depth 30
 
 module _ (f : Font) (total : ℕ) (t : Standing) where
-  pub bare_over : f.table ≡ false → f.end < total → Refused (refusal Trailing f.end) ≡ tail_told f total t
+  pub bare_over : f.table ≡ false → f.end < total → Err (refusal Trailing f.end) ≡ tail_told f total t
   unfolding tail_told when
   bare_over b h = rw (b, lt-ltb f.end total h)
 
-  pub bare_sound : f.table ≡ false → total ≤ f.end → Sound f ≡ tail_told f total t
+  pub bare_sound : f.table ≡ false → total ≤ f.end → Ok f ≡ tail_told f total t
   unfolding tail_told when
   bare_sound b h = rw (b, le-ltb f.end total h)
 
-  pub table_cut : f.table ≡ true → t.halted ≡ 0 → t.ended < f.count → Refused (refusal_at TableCut total t.ended) ≡ tail_told f total t
+  pub table_cut : f.table ≡ true → t.halted ≡ 0 → t.ended < f.count → Err (refusal_at TableCut total t.ended) ≡ tail_told f total t
   unfolding tail_told when
   table_cut b h k = rw (b, eq-eqb t.halted 0 h, lt-ltb t.ended f.count k)
 
-  pub table_whole : f.table ≡ true → t.halted ≡ 0 → f.count ≤ t.ended → Sound f ≡ tail_told f total t
+  pub table_whole : f.table ≡ true → t.halted ≡ 0 → f.count ≤ t.ended → Ok f ≡ tail_told f total t
   unfolding tail_told when
   table_whole b h k = rw (b, eq-eqb t.halted 0 h, le-ltb t.ended f.count k)
 
-  pub table_over : f.table ≡ true → (t.halted ≡ 0 → ⊥) → t.halted ≡ 12 → Refused (refusal Trailing t.place) ≡ tail_told f total t
+  pub table_over : f.table ≡ true → (t.halted ≡ 0 → ⊥) → t.halted ≡ 12 → Err (refusal Trailing t.place) ≡ tail_told f total t
   unfolding tail_told when
   table_over b h k = rw (b, ne_eqb t.halted 0 h, eq-eqb t.halted 12 k)
 
-  pub table_bad : f.table ≡ true → (t.halted ≡ 0 → ⊥) → (t.halted ≡ 12 → ⊥) → Refused (refusal_at TableBad t.place t.ended) ≡ tail_told f total t
+  pub table_bad : f.table ≡ true → (t.halted ≡ 0 → ⊥) → (t.halted ≡ 12 → ⊥) → Err (refusal_at TableBad t.place t.ended) ≡ tail_told f total t
   unfolding tail_told when
   table_bad b h k = rw (b, ne_eqb t.halted 0 h, ne_eqb t.halted 12 k)

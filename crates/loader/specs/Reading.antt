@@ -1,5 +1,5 @@
 -- The loader (document 02, W2), for any record: what a piece makes of it, what a close answers, and when both are LATE.
-use Rattle.std.specs.Prelude.{ℕ, ◌+◌, ◌-◌, ◌/◌, Bool, ◌&&◌, not, List, [], ◌++◌, ltb, eqb, length, take, drop, replicate}
+use Rattle.std.specs.Prelude.{ℕ, ◌+◌, ◌-◌, ◌/◌, Bool, ◌&&◌, not, List, [], ◌++◌, ltb, eqb, length, take, drop, replicate, Result, Ok, Err}
 use Rattle.base.specs.Meaning.{pick}
 use Rattle.base.specs.Reading.{when}
 use Rattle.refusal.specs.Meaning.{refusal, refusal_at}
@@ -7,8 +7,6 @@ use Rattle.refusal.specs.declared.Reason.TheVariants.{TooLong, Entry, TableCut, 
 use Rattle.header.specs.declared.Kind.{Kind}
 use Rattle.header.specs.declared.Kind.TheVariants.{Psf1, Psf2, Vfont2}
 use Rattle.header.specs.declared.Font.{Font}
-use Rattle.header.specs.declared.Checked.{Checked}
-use Rattle.header.specs.declared.Checked.TheVariants.{Sound, Refused}
 use Rattle.header.specs.Meaning.{limit, entry_len}
 use Rattle.header.specs.Reading.{says_of}
 use Rattle.stages.specs.Meaning.{coding_of}
@@ -22,8 +20,7 @@ use Rattle.tablefeed.specs.declared.Standing.{Standing}
 use Rattle.tablefeed.specs.declared.Fed as tables
 use Rattle.tablefeed.specs.Reading.{table_fed}
 use Rattle.loader.specs.declared.Loader.{Loader}
-use Rattle.loader.specs.declared.Reply.{Reply}
-use Rattle.loader.specs.declared.Reply.TheVariants.{Taken, Refused as Untaken}
+use Rattle.refusal.specs.declared.Refusal.{Refusal}
 
 -- before the first byte
 unfoldable pub fresh_of : Loader
@@ -70,9 +67,9 @@ font_fed f l p =
     (table_in f l.total (entries_in f l.total l.held l.sums p).held l.standing p).standing
 
 -- a file that the header refuses is only counted
-abbrev pub said_fed : Checked → Loader → List ℕ → Loader
-said_fed (Sound f) l p = font_fed f l p
-said_fed (Refused r) l p = counted l p l.held l.sums l.standing
+abbrev pub said_fed : Result Font Refusal → Loader → List ℕ → Loader
+said_fed (Ok f) l p = font_fed f l p
+said_fed (Err r) l p = counted l p l.held l.sums l.standing
 
 unfoldable pub body_fed : Loader → List ℕ → Loader
 body_fed l p = said_fed (says_of l.header) l p
@@ -110,44 +107,44 @@ unfoldable pub fed_of : Loader → List ℕ → Loader
 fed_of l p = pick (is_open l) (open_fed l p) l
 
 -- "LATE (22, place 0) for a piece or close after the close"
-unfoldable pub feed_answer : Loader → Reply
-feed_answer l = pick (is_open l) Taken (Untaken (refusal Late 0))
+unfoldable pub feed_answer : Loader → Result (Unit {0}) Refusal
+feed_answer l = pick (is_open l) (Ok tt) (Err (refusal Late 0))
 
 -- the number of the entry that stands at a place of the dispatch table, which begins at start
 abbrev pub entry_number : ℕ → ℕ → ℕ
 entry_number start place = (place - start) / entry_len Vfont2
 
 -- 9
-abbrev pub kind_told : Font → Sums → Kind → Checked
-kind_told f x Psf1 = Sound f
-kind_told f x Psf2 = Sound f
-kind_told f x Vfont2 = when (not (eqb x.broken 0)) (Refused (refusal_at Entry x.broken (entry_number f.entries x.broken))) (greatest_of f x.height x.width)
+abbrev pub kind_told : Font → Sums → Kind → Result Font Refusal
+kind_told f x Psf1 = Ok f
+kind_told f x Psf2 = Ok f
+kind_told f x Vfont2 = when (not (eqb x.broken 0)) (Err (refusal_at Entry x.broken (entry_number f.entries x.broken))) (greatest_of f x.height x.width)
 
-unfoldable pub entries_told : Font → Sums → Checked
+unfoldable pub entries_told : Font → Sums → Result Font Refusal
 entries_told f x = kind_told f x f.kind
 
 -- 10 to 12, of a file of so many bytes
-unfoldable pub tail_told : Font → ℕ → Standing → Checked
+unfoldable pub tail_told : Font → ℕ → Standing → Result Font Refusal
 tail_told f total t =
-    when (not f.table) (when (ltb f.end total) (Refused (refusal Trailing f.end)) (Sound f))
-    (when (eqb t.halted 0) (when (ltb t.ended f.count) (Refused (refusal_at TableCut total t.ended)) (Sound f))
-    (when (eqb t.halted 12) (Refused (refusal Trailing t.place))
-    (Refused (refusal_at TableBad t.place t.ended))))
+    when (not f.table) (when (ltb f.end total) (Err (refusal Trailing f.end)) (Ok f))
+    (when (eqb t.halted 0) (when (ltb t.ended f.count) (Err (refusal_at TableCut total t.ended)) (Ok f))
+    (when (eqb t.halted 12) (Err (refusal Trailing t.place))
+    (Err (refusal_at TableBad t.place t.ended))))
 
 -- 8 to 12
-unfoldable pub font_told : Font → Loader → Checked
+unfoldable pub font_told : Font → Loader → Result Font Refusal
 font_told f l = and_then (sized l.total f) (λ g. and_then (entries_told g l.sums) (λ k. tail_told k l.total l.standing))
 
 -- 1 to 12, or what the font is; fewer than 32 bytes are all held
-unfoldable pub answer_of : Loader → Checked
+unfoldable pub answer_of : Loader → Result Font Refusal
 answer_of l =
-    when (ltb limit l.total) (Refused (refusal TooLong limit))
+    when (ltb limit l.total) (Err (refusal TooLong limit))
     (when (ltb l.total 32) (check_of (held_bytes l.held))
     (and_then (says_of l.header) (λ f. font_told f l)))
 
 -- what a close answers
-unfoldable pub close_answer : Loader → Checked
-close_answer l = pick (is_open l) (answer_of l) (Refused (refusal Late 0))
+unfoldable pub close_answer : Loader → Result Font Refusal
+close_answer l = pick (is_open l) (answer_of l) (Err (refusal Late 0))
 
 -- the record after it: "which closes the record whatever it answers"
 unfoldable pub closed_of : Loader → Loader

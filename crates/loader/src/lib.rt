@@ -9,7 +9,7 @@ ghost use Rattle.loader.specs.Reading.{part_of, entries_in, table_in, font_fed, 
 ghost use Rattle.loader.specs.Bounds.{Fitting};
 
 use entryfeed::Sums;
-use header::{Checked, Font, Kind};
+use header::{Font, Kind};
 use refusal::{Reason, Refusal};
 use tablefeed::Standing;
 use unfinished::Held;
@@ -27,13 +27,6 @@ pub struct Loader {
     pub held: Held,
     pub sums: Sums,
     pub standing: Standing,
-}
-
-// What feeding answers: neither sound nor refused, or LATE.
-#[derive(Clone, Copy)]
-pub enum Reply {
-    Taken,
-    Refused(Refusal),
 }
 
 // Before the first byte.
@@ -161,8 +154,8 @@ fn feed_body(l: Loader, piece: &[u8]) -> Loader
     let header = l.header;
     let c = stages::describes(&header);
     match c {
-        Checked::Sound(f) => feed_font(l, f, piece),
-        Checked::Refused(_) => {
+        Ok(f) => feed_font(l, f, piece),
+        Err(_) => {
             let mut next = l;
             next.total = l.total + piece.len();
             next
@@ -241,13 +234,13 @@ pub fn fed(l: Loader, piece: &[u8]) -> Loader
 }
 
 // What feeding a record answers: LATE (22, place 0) if it is not open.
-pub fn fed_answer(l: Loader) -> Reply
+pub fn fed_answer(l: Loader) -> Result<(), Refusal>
     ensures { result ≡ feed_answer l }
 {
     if is_open(l) {
-        return Reply::Taken;
+        return Ok(());
     }
-    Reply::Refused(refusal::refuse(Reason::Late, 0))
+    Err(refusal::refuse(Reason::Late, 0))
 }
 
 // The number of the entry that stands at a place of the dispatch table.
@@ -261,16 +254,16 @@ fn entry_number(start: usize, place: usize) -> usize
 }
 
 // What the entries of a font said.
-fn told_entries(f: Font, x: Sums) -> Checked
+fn told_entries(f: Font, x: Sums) -> Result<Font, Refusal>
     ensures { result ≡ entries_told f x }
 {
     let kind = f.kind;
     match kind {
-        Kind::Psf1 => Checked::Sound(f),
-        Kind::Psf2 => Checked::Sound(f),
+        Kind::Psf1 => Ok(f),
+        Kind::Psf2 => Ok(f),
         Kind::Vfont2 => {
             if x.broken != 0 {
-                return Checked::Refused(refusal::refuse_at(
+                return Err(refusal::refuse_at(
                     Reason::Entry,
                     x.broken,
                     entry_number(f.entries, x.broken),
@@ -282,51 +275,43 @@ fn told_entries(f: Font, x: Sums) -> Checked
 }
 
 // What the tail of a font of so many bytes said.
-fn told_tail(f: Font, total: usize, t: Standing) -> Checked
+fn told_tail(f: Font, total: usize, t: Standing) -> Result<Font, Refusal>
     ensures { result ≡ tail_told f total t }
 {
     if !f.table {
         if f.end < total {
-            return Checked::Refused(refusal::refuse(Reason::Trailing, f.end));
+            return Err(refusal::refuse(Reason::Trailing, f.end));
         }
-        return Checked::Sound(f);
+        return Ok(f);
     }
     if t.halted == 0 {
         if t.ended < f.count {
-            return Checked::Refused(refusal::refuse_at(Reason::TableCut, total, t.ended));
+            return Err(refusal::refuse_at(Reason::TableCut, total, t.ended));
         }
-        return Checked::Sound(f);
+        return Ok(f);
     }
     if t.halted == 12 {
-        return Checked::Refused(refusal::refuse(Reason::Trailing, t.place));
+        return Err(refusal::refuse(Reason::Trailing, t.place));
     }
-    Checked::Refused(refusal::refuse_at(Reason::TableBad, t.place, t.ended))
+    Err(refusal::refuse_at(Reason::TableBad, t.place, t.ended))
 }
 
 // What a font said that the header describes: its length, its entries, its tail.
-fn told_font(f: Font, l: Loader) -> Checked
+fn told_font(f: Font, l: Loader) -> Result<Font, Refusal>
     ensures { result ≡ font_told f l }
 {
-    let b = stages::check_length(l.total, f);
-    match b {
-        Checked::Sound(g) => {
-            let e = told_entries(g, l.sums);
-            match e {
-                Checked::Sound(k) => told_tail(k, l.total, l.standing),
-                Checked::Refused(r) => Checked::Refused(r),
-            }
-        }
-        Checked::Refused(r) => Checked::Refused(r),
-    }
+    let g = stages::check_length(l.total, f)?;
+    let k = told_entries(g, l.sums)?;
+    told_tail(k, l.total, l.standing)
 }
 
 // What the whole-file check says of the bytes that an open record was fed.
-fn told_open(l: Loader) -> Checked
+fn told_open(l: Loader) -> Result<Font, Refusal>
     requires { is_open l ≡ true }
     ensures { result ≡ answer_of l }
 {
     if header::LIMIT < l.total {
-        return Checked::Refused(refusal::refuse(Reason::TooLong, header::LIMIT));
+        return Err(refusal::refuse(Reason::TooLong, header::LIMIT));
     }
     let header = l.header;
     if l.total < 32 {
@@ -335,21 +320,18 @@ fn told_open(l: Loader) -> Checked
         let bytes = h.bytes;
         return stages::check(&bytes[..n]);
     }
-    let c = stages::describes(&header);
-    match c {
-        Checked::Sound(f) => told_font(f, l),
-        Checked::Refused(r) => Checked::Refused(r),
-    }
+    let f = stages::describes(&header)?;
+    told_font(f, l)
 }
 
 // What closing a record answers: LATE (22, place 0) if it is not open.
-pub fn closed_answer(l: Loader) -> Checked
+pub fn closed_answer(l: Loader) -> Result<Font, Refusal>
     ensures { result ≡ close_answer l }
 {
     if is_open(l) {
         return told_open(l);
     }
-    Checked::Refused(refusal::refuse(Reason::Late, 0))
+    Err(refusal::refuse(Reason::Late, 0))
 }
 
 // The record after a close, whatever it answers; one that is not open stays as it is.
@@ -367,7 +349,7 @@ pub fn closed(l: Loader) -> Loader
 // A piece to a record that is lent, and changed there: LATE (22, place 0), and the record as it was, if it is not open. A record that these
 // calls can't have made is LATE where it is marked as closed or the number of its unfinished bytes is none that feeding leaves (`is_open`);
 // any other is taken at its word.
-pub fn feed(state: &mut Loader, piece: &[u8]) -> Reply
+pub fn feed(state: &mut Loader, piece: &[u8]) -> Result<(), Refusal>
     ensures { (result ≡ feed_answer state.old) × (state.new ≡ fed_of state.old piece.now) }
 {
     let s = *state;
@@ -376,7 +358,7 @@ pub fn feed(state: &mut Loader, piece: &[u8]) -> Reply
 }
 
 // The close of a record that is lent: what the whole-file check says of all pieces joined, and the record closed; LATE as above.
-pub fn close(state: &mut Loader) -> Checked
+pub fn close(state: &mut Loader) -> Result<Font, Refusal>
     ensures { (result ≡ close_answer state.old) × (state.new ≡ closed_of state.old) }
 {
     let s = *state;

@@ -10,13 +10,12 @@ use Rattle.base.specs.Meaning.{pick}
 use Rattle.table.specs.declared.Item.{Item}
 use Rattle.table.specs.declared.Item.TheVariants.{Single, Start, Value, End}
 use Rattle.table.specs.Meaning.{Seq, Desc, each, seqs, items}
-use Rattle.lookup.specs.declared.Found.{Found}
-use Rattle.lookup.specs.declared.Found.TheVariants.{At}
 use Rattle.lookup.specs.Reading.{find_value, goes_on, is_whole, rest, find_sequence_from}
 use Rattle.lookup.specs.Meaning.{ListsValue, ListsSequence}
 use Rattle.lookup.proofs.Searching.{true_false, any, any_yes, any_no, lowest}
+use Rattle.std.specs.Prelude.{Option, Some}
 
-either : (x y : Bool) (a b : Found) → pick x a (pick y a b) ≡ pick (pick x true y) a b
+either : (x y : Bool) (a b : Option ℕ) → pick x a (pick y a b) ≡ pick (pick x true y) a b
 either true y a b = refl
 either false y a b = refl
 
@@ -34,10 +33,10 @@ pub value_no : (v : ℕ) (d : Desc) → has_value v d ≡ false → ListsValue v
 value_no v d = any_no (is_value v) (λ (w : ℕ). w ≡ v) (λ w e. eqb-true w v e) (λ w e. eqb-false w v e) d.singles
 
 module _ (v g : ℕ) where
-  among : (us : List ℕ) (k : List Item) → find_value v g (each Single us k) ≡ pick (any (is_value v) us) (At g) (find_value v g k)
+  among : (us : List ℕ) (k : List Item) → find_value v g (each Single us k) ≡ pick (any (is_value v) us) (Some g) (find_value v g k)
   unfolding find_value
   among [] k = refl
-  among (u ∷ us) k = ap (pick (eqb u v) (At g)) (among us k) ∙ either (eqb u v) (any (is_value v) us) (At g) (find_value v g k)
+  among (u ∷ us) k = ap (pick (eqb u v) (Some g)) (among us k) ∙ either (eqb u v) (any (is_value v) us) (Some g) (find_value v g k)
 
   in_sequence : (us : List ℕ) (k : List Item) → find_value v g (each Value us k) ≡ find_value v g k
   unfolding find_value
@@ -54,7 +53,7 @@ unfolding find_value
 find_value_lem v g [] = refl
 find_value_lem v g (d ∷ ds) =
     among v g d.singles (seqs d.sequences (End ∷ items ds))
-    ∙ ap (pick (has_value v d) (At g)) (past v g d.sequences (items ds) ∙ find_value_lem v (g + 1) ds)
+    ∙ ap (pick (has_value v d) (Some g)) (past v g d.sequences (items ds) ∙ find_value_lem v (g + 1) ds)
 
 -- a sequence
 abbrev pub same_as : List ℕ → List ℕ → Bool
@@ -144,17 +143,17 @@ module _ (vs : List ℕ) where
     find_values a ws (u ∷ us) k = find_values (goes_on a u ws) (rest ws) us k
 
     find_seqs : (a : Bool) (ws : List ℕ) (qs : List Seq) (k : List Item) →
-        find_sequence_from vs g a ws (seqs qs (End ∷ k)) ≡ pick (is_whole a ws) (At g) (pick (any (is_sequence vs) qs) (At g) (find_sequence_from vs (g + 1) false vs k))
+        find_sequence_from vs g a ws (seqs qs (End ∷ k)) ≡ pick (is_whole a ws) (Some g) (pick (any (is_sequence vs) qs) (Some g) (find_sequence_from vs (g + 1) false vs k))
     unfolding find_sequence_from
-    find_seqs a ws [] k = ap (pick (is_whole a ws) (At g)) (no_matter (g + 1) ws vs k)
+    find_seqs a ws [] k = ap (pick (is_whole a ws) (Some g)) (no_matter (g + 1) ws vs k)
     find_seqs a ws (q ∷ qs) k =
         let us = q.first ∷ q.others in
-        let rest-found = pick (any (is_sequence vs) qs) (At g) (find_sequence_from vs (g + 1) false vs k) in
-        ap (pick (is_whole a ws) (At g))
+        let rest-found = pick (any (is_sequence vs) qs) (Some g) (find_sequence_from vs (g + 1) false vs k) in
+        ap (pick (is_whole a ws) (Some g))
         (find_values true vs us (seqs qs (End ∷ k))
         ∙ find_seqs (after true vs us) (left vs us) qs k
-        ∙ ap (λ (b : Bool). pick b (At g) rest-found) (whole_exactly vs us)
-        ∙ either (same_as vs us) (any (is_sequence vs) qs) (At g) (find_sequence_from vs (g + 1) false vs k))
+        ∙ ap (λ (b : Bool). pick b (Some g) rest-found) (whole_exactly vs us)
+        ∙ either (same_as vs us) (any (is_sequence vs) qs) (Some g) (find_sequence_from vs (g + 1) false vs k))
 
   pub find_sequence_lem : (g : ℕ) (ws : List ℕ) (ds : List Desc) → find_sequence_from vs g false ws (items ds) ≡ lowest (has_sequence vs) g ds
   unfolding find_sequence_from is_whole
@@ -162,4 +161,4 @@ module _ (vs : List ℕ) where
   find_sequence_lem g ws (d ∷ ds) =
       find_singles g false ws d.singles (seqs d.sequences (End ∷ items ds))
       ∙ find_seqs g false ws d.sequences (items ds)
-      ∙ ap (pick (has_sequence vs d) (At g)) (find_sequence_lem (g + 1) vs ds)
+      ∙ ap (pick (has_sequence vs d) (Some g)) (find_sequence_lem (g + 1) vs ds)

@@ -18,10 +18,9 @@ use Rattle.table.specs.declared.Step.TheVariants.{Value as StepValue, Start as S
 use Rattle.table.specs.Reading.{steps_from, steps_at, value_item, step_items}
 use Rattle.table.specs.Skipping.{Phase, singles, opened, filled, after_value, Front, front, skip_from, no_start, phase_of, ended_of, NoValue, refused_of}
 use Rattle.table.proofs.Skipping.{phase_none, phase_here, ended_trailing}
-use Rattle.lookup.specs.declared.Found.{Found}
-use Rattle.lookup.specs.declared.Found.TheVariants.{At, Nothing}
 use Rattle.lookup.specs.Reading.{find_value, goes_on, is_whole, rest, find_sequence_from, find_from, sequence_in, begins_at, looked_of}
 use Rattle.lookup.proofs.Finding.{no_matter}
+use Rattle.std.specs.Prelude.{Option, Some, None}
 
 -- whether a sequence stands from a place on, one law for each way that a turn can go
 module _ (vs : List ℕ) (m : ℕ) (xs ys : List Step) where
@@ -104,15 +103,15 @@ module _ (vs : List ℕ) (start at w : ℕ) (xs : List Step) where
 
 -- a sequence that stands there whole, or the next
 whole_or_next : (vs : List ℕ) (g : ℕ) (ws : List ℕ) (xs : List Step) →
-    find_sequence_from vs g true ws (step_items true xs) ≡ pick (sequence_in ws xs) (At g) (find_sequence_from vs g false ws (step_items true xs))
+    find_sequence_from vs g true ws (step_items true xs) ≡ pick (sequence_in ws xs) (Some g) (find_sequence_from vs g false ws (step_items true xs))
 unfolding find_sequence_from sequence_in step_items value_item goes_on is_whole
 whole_or_next vs g [] [] = refl
 whole_or_next vs g (u ∷ us) [] = refl
 whole_or_next vs g [] (StepValue w next ∷ xs) = refl
 whole_or_next vs g (u ∷ us) (StepValue w next ∷ xs) = go (eqb u w) (whole_or_next vs g us xs)
   where
-    go : (t : Bool) → find_sequence_from vs g true us (step_items true xs) ≡ pick (sequence_in us xs) (At g) (find_sequence_from vs g false us (step_items true xs)) →
-        find_sequence_from vs g t us (step_items true xs) ≡ pick (pick t (sequence_in us xs) false) (At g) (find_sequence_from vs g false us (step_items true xs))
+    go : (t : Bool) → find_sequence_from vs g true us (step_items true xs) ≡ pick (sequence_in us xs) (Some g) (find_sequence_from vs g false us (step_items true xs)) →
+        find_sequence_from vs g t us (step_items true xs) ≡ pick (pick t (sequence_in us xs) false) (Some g) (find_sequence_from vs g false us (step_items true xs))
     go true i = i
     go false i = refl
 whole_or_next vs g [] (StepStart next ∷ xs) = refl
@@ -126,7 +125,7 @@ whole_or_next vs g (u ∷ us) (StepBad k ∷ xs) = refl
 
 -- a value: what is asked for begins with it, or is looked for behind it
 pub found_or_next : (q : Bool) (vs : List ℕ) (g : ℕ) (p : Phase) (w next : ℕ) (xs : List Step) →
-    find_from q vs g p (StepValue w next ∷ xs) ≡ pick (begins_at q vs p w (StepValue w next ∷ xs)) (At g) (find_from q vs g (after_value p) xs)
+    find_from q vs g p (StepValue w next ∷ xs) ≡ pick (begins_at q vs p w (StepValue w next ∷ xs)) (Some g) (find_from q vs g (after_value p) xs)
 unfolding find_value find_sequence_from step_items value_item goes_on
 found_or_next false vs g singles w next xs = refl
 found_or_next false vs g opened w next xs = refl
@@ -134,11 +133,11 @@ found_or_next false vs g filled w next xs = refl
 found_or_next true vs g singles w next xs = refl
 found_or_next true vs g opened w next xs =
     whole_or_next vs g vs (StepValue w next ∷ xs)
-    ∙ ap (pick (sequence_in vs (StepValue w next ∷ xs)) (At g)) (no_matter vs g (rest vs) vs (step_items true xs))
+    ∙ ap (pick (sequence_in vs (StepValue w next ∷ xs)) (Some g)) (no_matter vs g (rest vs) vs (step_items true xs))
 found_or_next true vs g filled w next xs = no_matter vs g (rest vs) vs (step_items true xs)
 
 -- what is found from a front on, in a table of N descriptions
-abbrev pub find_front : Bool → List ℕ → ℕ → Front → Found
+abbrev pub find_front : Bool → List ℕ → ℕ → Front → Option ℕ
 find_front q vs N f = find_from q vs (N - f.left) f.phase f.rest
 
 -- another value begins nothing
@@ -163,7 +162,7 @@ module _ (c : Coding) (k : ℕ) (vs : List ℕ) (h : 1 ≤ length vs) (e : key_o
       go : (t : Bool) → eqb (key_of c w) k ≡ t → find_from q vs (N - suc n) (after_value p) xs ≡ find_front q vs N (skip_from c k n (after_value p) next xs) →
           find_from q vs (N - suc n) p (StepValue w next ∷ xs) ≡ find_front q vs N (pick t (front (suc n) p at (StepValue w next ∷ xs)) (skip_from c k n (after_value p) next xs))
       go true d i = refl
-      go false d i = found_or_next q vs (N - suc n) p w next xs ∙ ap (λ (t : Bool). pick t (At (N - suc n)) (find_from q vs (N - suc n) (after_value p) xs)) (other_value c k q vs h e p w next xs d) ∙ i
+      go false d i = found_or_next q vs (N - suc n) p w next xs ∙ ap (λ (t : Bool). pick t (Some (N - suc n)) (find_from q vs (N - suc n) (after_value p) xs)) (other_value c k q vs h e p w next xs d) ∙ i
   find_skip false n singles at (StepStart next ∷ xs) l = find_skip false n opened next xs l
   find_skip true n singles at (StepStart next ∷ xs) l = find_skip true n opened next xs l
   find_skip q n opened at (StepStart next ∷ xs) l = refl
@@ -186,21 +185,21 @@ module _ (c : Coding) (k : ℕ) (vs : List ℕ) (h : 1 ≤ length vs) (e : key_o
   find_skip q n p at (StepBad j ∷ xs) l = refl
 
 -- behind the last description nothing is found where the table is complete; and a refused table answers so whatever was found
-find_nil : (q : Bool) (vs : List ℕ) (g : ℕ) (p : Phase) → find_from q vs g p [] ≡ Nothing
+find_nil : (q : Bool) (vs : List ℕ) (g : ℕ) (p : Phase) → find_from q vs g p [] ≡ None
 unfolding find_value find_sequence_from step_items
 find_nil false vs g p = refl
 find_nil true vs g p = refl
 
 pub looked_ended : (c : Coding) (s : List ℕ) (q : Bool) (vs : List ℕ) (g : ℕ) (p : Phase) (at : ℕ) →
-    looked_of Nothing (ended_of (length s) at) ≡ looked_of (find_from q vs g p (steps_at c s at)) (ended_of (length s) at)
+    looked_of None (ended_of (length s) at) ≡ looked_of (find_from q vs g p (steps_at c s at)) (ended_of (length s) at)
 unfolding steps_from
 looked_ended c s q vs g p at = go (below at (length s))
   where
-    go : (at < length s) ⊎ (length s ≤ at) → looked_of Nothing (ended_of (length s) at) ≡ looked_of (find_from q vs g p (steps_at c s at)) (ended_of (length s) at)
+    go : (at < length s) ⊎ (length s ≤ at) → looked_of None (ended_of (length s) at) ≡ looked_of (find_from q vs g p (steps_at c s at)) (ended_of (length s) at)
     go (inl l) = rw (← ended_trailing (length s) at l)
-    go (inr l) = ap (λ (w : Found). looked_of w (ended_of (length s) at)) (sym (ap (λ (t : List ℕ). find_from q vs g p (steps_from c at 0 t)) (drop_of_length-le s l) ∙ find_nil q vs g p))
+    go (inr l) = ap (λ (w : Option ℕ). looked_of w (ended_of (length s) at)) (sym (ap (λ (t : List ℕ). find_from q vs g p (steps_from c at 0 t)) (drop_of_length-le s l) ∙ find_nil q vs g p))
 
-pub looked_refused : (e g : ℕ) (x : Step) → NoValue x → (w u : Found) → looked_of w (refused_of e g x) ≡ looked_of u (refused_of e g x)
+pub looked_refused : (e g : ℕ) (x : Step) → NoValue x → (w u : Option ℕ) → looked_of w (refused_of e g x) ≡ looked_of u (refused_of e g x)
 looked_refused e g (StepValue v next) n w u = absurd n
 looked_refused e g (StepStart next) n w u = refl
 looked_refused e g (StepEnd next) n w u = refl

@@ -16,16 +16,14 @@ use types.Run.{OneOf}
 use denote.Enum.Declared.{tag_of}
 use Rattle.table.specs.contracts.Step.{the_type}
 use Rattle.table.specs.declared.Cursor.{Cursor}
-use Rattle.table.specs.declared.TableAnswer.{TableAnswer}
 use Rattle.table.specs.Reading.{step_at, steps_at, items_in, check_steps, table_of}
 use Rattle.table.specs.Skipping.{Phase, singles, is_opened, after_value, front, skipped, no_start, phase_of, cursor_of, front_at, Stands, ended_of, NoValue, refused_of, check_at}
 use Rattle.table.proofs.Skipping.{HaltedAt, phase_none, phase_value, next_phase}
 use Rattle.table.proofs.Halting.{ended_there, refused_there, left_after, halted_after, check_after, fresh_check}
-use Rattle.lookup.specs.declared.Found.{Found}
-use Rattle.lookup.specs.declared.Found.TheVariants.{At, Nothing}
-use Rattle.lookup.specs.declared.Looked.{Looked}
 use Rattle.lookup.specs.Reading.{find_asked, looked_of, find_from, begins_at}
 use Rattle.lookup.proofs.Looking.{find_front, find_skip, found_or_next, looked_ended, looked_refused}
+use Rattle.std.specs.Prelude.{Result, Option, Some, None}
+use Rattle.table.specs.declared.Fault.{Fault}
 
 -- a step of another kind than a value's
 pub no_value : (x : Step) → OneOf (1 ∷ 2 ∷ 3 ∷ 4 ∷ []) (tag_of the_type x) → NoValue x
@@ -81,15 +79,15 @@ module _ (c : Coding) (s : List ℕ) (n : ℕ) (q : Bool) (vs : List ℕ) where
     goes_halted = halted_after c s k (cursor_of at left start) p r (omega arith)
 
   -- what is told
-  both : (a : Found) (t : TableAnswer) → a ≡ find_asked q vs (items_in c s) → t ≡ table_of c n s → looked_of a t ≡ looked_of (find_asked q vs (items_in c s)) (table_of c n s)
-  both a t x y = ap (λ (b : Found). looked_of b t) x ∙ ap (looked_of (find_asked q vs (items_in c s))) y
+  both : (a : Option ℕ) (t : Result (Unit {0}) Fault) → a ≡ find_asked q vs (items_in c s) → t ≡ table_of c n s → looked_of a t ≡ looked_of (find_asked q vs (items_in c s)) (table_of c n s)
+  both a t x y = ap (λ (b : Option ℕ). looked_of b t) x ∙ ap (looked_of (find_asked q vs (items_in c s))) y
 
   module _ (at left start : ℕ) (w : Goes at left start) where
     -- behind the last description
-    pub told_ended : left ≡ 0 → (t : TableAnswer) → t ≡ ended_of (length s) at → (r : Looked) → r ≡ looked_of Nothing t → r ≡ looked_of (find_asked q vs (items_in c s)) (table_of c n s)
+    pub told_ended : left ≡ 0 → (t : Result (Unit {0}) Fault) → t ≡ ended_of (length s) at → (r : Result (Option ℕ) Fault) → r ≡ looked_of None t → r ≡ looked_of (find_asked q vs (items_in c s)) (table_of c n s)
     told_ended z t y r x =
         let g : n - left ≡ n - 0 = omega arith in
-        x ∙ ap (looked_of Nothing) y ∙ looked_ended c s q vs (n - left) (phase_of start at) at
+        x ∙ ap (looked_of None) y ∙ looked_ended c s q vs (n - left) (phase_of start at) at
         ∙ both (find_from q vs (n - left) (phase_of start at) (steps_at c s at)) (ended_of (length s) at) w.3
         (ended_there c s (n - left) (is_opened (phase_of start at)) at
         ∙ ap (λ (m : ℕ). check_steps (length s) (n - left) m (is_opened (phase_of start at)) at (steps_at c s at)) (sym z)
@@ -97,11 +95,11 @@ module _ (c : Coding) (s : List ℕ) (n : ℕ) (q : Bool) (vs : List ℕ) where
 
     -- where no value stands
     pub told_refused : (left ≡ 0 → ⊥) → (k : ℕ) → HaltedAt c k (front_at c s (cursor_of at left start)) → NoValue (step_at c s at) →
-        (t : TableAnswer) → t ≡ refused_of (length s) (n - left) (step_at c s at) → (r : Looked) → r ≡ looked_of Nothing t → r ≡ looked_of (find_asked q vs (items_in c s)) (table_of c n s)
+        (t : Result (Unit {0}) Fault) → t ≡ refused_of (length s) (n - left) (step_at c s at) → (r : Result (Option ℕ) Fault) → r ≡ looked_of None t → r ≡ looked_of (find_asked q vs (items_in c s)) (table_of c n s)
     told_refused z k (inl u) v t y r x = absurd (z u)
     told_refused z k (inr u) v t y r x =
         let m : suc (left - 1) ≡ left = omega arith in
-        x ∙ ap (looked_of Nothing) y ∙ looked_refused (length s) (n - left) (step_at c s at) v Nothing (find_from q vs (n - left) (phase_of start at) (steps_at c s at))
+        x ∙ ap (looked_of None) y ∙ looked_refused (length s) (n - left) (step_at c s at) v None (find_from q vs (n - left) (phase_of start at) (steps_at c s at))
         ∙ both (find_from q vs (n - left) (phase_of start at) (steps_at c s at)) (refused_of (length s) (n - left) (step_at c s at)) w.3
         (refused_there c s at (phase_of start at) k u v (n - left) (left - 1) w.0.0
         ∙ ap (λ (i : ℕ). check_steps (length s) (n - left) i (is_opened (phase_of start at)) at (steps_at c s at)) m
@@ -129,12 +127,12 @@ module _ (c : Coding) (s : List ℕ) (n : ℕ) (q : Bool) (vs : List ℕ) where
           ∙ w.2
 
       by_value : find_from q vs (n - left) (phase_of start at) (steps_at c s at) ≡
-          pick (begins_at q vs (phase_of start at) v (steps_at c s at)) (At (n - left)) (find_from q vs (n - left) (phase_of start next) (steps_at c s next))
+          pick (begins_at q vs (phase_of start at) v (steps_at c s at)) (Some (n - left)) (find_from q vs (n - left) (phase_of start next) (steps_at c s next))
       by_value =
           ap (find_from q vs (n - left) (phase_of start at)) o.2
           ∙ found_or_next q vs (n - left) (phase_of start at) v next (steps_at c s next)
-          ∙ ap (λ (xs : List Step). pick (begins_at q vs (phase_of start at) v xs) (At (n - left)) (find_from q vs (n - left) (after_value (phase_of start at)) (steps_at c s next))) (sym o.2)
-          ∙ ap (λ (p : Phase). pick (begins_at q vs (phase_of start at) v (steps_at c s at)) (At (n - left)) (find_from q vs (n - left) p (steps_at c s next))) next_is
+          ∙ ap (λ (xs : List Step). pick (begins_at q vs (phase_of start at) v xs) (Some (n - left)) (find_from q vs (n - left) (after_value (phase_of start at)) (steps_at c s next))) (sym o.2)
+          ∙ ap (λ (p : Phase). pick (begins_at q vs (phase_of start at) v (steps_at c s at)) (Some (n - left)) (find_from q vs (n - left) p (steps_at c s next))) next_is
 
       module _ (t : Bool) (y : t ≡ begins_at q vs (phase_of start at) v (steps_at c s at)) where
         pub goes_next : t ≡ false → Goes next left start
@@ -142,15 +140,15 @@ module _ (c : Coding) (s : List ℕ) (n : ℕ) (q : Bool) (vs : List ℕ) where
           stands_next,
           w.1,
           check_next,
-          sym (by_value ∙ ap (λ (u : Bool). pick u (At (n - left)) (find_from q vs (n - left) (phase_of start next) (steps_at c s next))) (sym y ∙ x)) ∙ w.3,
+          sym (by_value ∙ ap (λ (u : Bool). pick u (Some (n - left)) (find_from q vs (n - left) (phase_of start next) (steps_at c s next))) (sym y ∙ x)) ∙ w.3,
         )
 
         pub next_stands : (f : Cursor) → f ≡ cursor_of next left start → Stands s f × (1 ≤ f.left) × (f.left ≤ n)
         next_stands f d = subst (λ (x : Cursor). Stands s x × (1 ≤ x.left) × (x.left ≤ n)) (sym d) (stands_next, omega arith, w.1)
 
-        pub told_found : t ≡ true → (f : Cursor) → f ≡ cursor_of next left start → (a : TableAnswer) → a ≡ check_at c s n f → (r : Looked) → r ≡ looked_of (At (n - left)) a →
+        pub told_found : t ≡ true → (f : Cursor) → f ≡ cursor_of next left start → (a : Result (Unit {0}) Fault) → a ≡ check_at c s n f → (r : Result (Option ℕ) Fault) → r ≡ looked_of (Some (n - left)) a →
             r ≡ looked_of (find_asked q vs (items_in c s)) (table_of c n s)
         told_found x f d a u r m =
-            m ∙ both (At (n - left)) a
-            (sym (by_value ∙ ap (λ (i : Bool). pick i (At (n - left)) (find_from q vs (n - left) (phase_of start next) (steps_at c s next))) (sym y ∙ x)) ∙ w.3)
+            m ∙ both (Some (n - left)) a
+            (sym (by_value ∙ ap (λ (i : Bool). pick i (Some (n - left)) (find_from q vs (n - left) (phase_of start next) (steps_at c s next))) (sym y ∙ x)) ∙ w.3)
             (u ∙ ap (check_at c s n) d ∙ check_next)

@@ -8,9 +8,8 @@ use native.Mathlib.Omega.{arith}
 use lib.ListN.{length}
 use Rattle.base.specs.Meaning.{pick}
 use Rattle.table.specs.Meaning.{Desc}
-use Rattle.lookup.specs.declared.Found.{Found}
-use Rattle.lookup.specs.declared.Found.TheVariants.{At, Nothing}
 use Rattle.lookup.specs.Meaning.{Nth, Any, Lowest, Nowhere}
+use Rattle.std.specs.Prelude.{Option, Some, None}
 
 pub true_false : {A : Type 0} (t : Bool) → t ≡ true → t ≡ false → A
 true_false t e f = let z : ◌≡◌ {A = ℕ} 0 1 = cc in absurd (omega arith)
@@ -45,11 +44,11 @@ module _ {A : Type 0} (t : A → Bool) (P : A → Type 0) (yes : (x : A) → t x
       go false p f (inr h) ih = ih f h
 
 -- the lowest description that passes, counted from g
-abbrev pub lowest : (Desc → Bool) → ℕ → List Desc → Found
-lowest t g [] = Nothing
-lowest t g (d ∷ ds) = pick (t d) (At g) (lowest t (g + 1) ds)
+abbrev pub lowest : (Desc → Bool) → ℕ → List Desc → Option ℕ
+lowest t g [] = None
+lowest t g (d ∷ ds) = pick (t d) (Some g) (lowest t (g + 1) ds)
 
-no_at : {A : Type 0} (g : ℕ) → Nothing ≡ At g → A
+no_at : {A : Type 0} (g : ℕ) → None ≡ Some g → A
 no_at g e = let z : ◌≡◌ {A = ℕ} 0 1 = cc in absurd (omega arith)
 
 module _ (t : Desc → Bool) (P : Desc → Type 0) (yes : (d : Desc) → t d ≡ true → P d) (no : (d : Desc) → t d ≡ false → P d → ⊥) where
@@ -58,7 +57,7 @@ module _ (t : Desc → Bool) (P : Desc → Type 0) (yes : (d : Desc) → t d ≡
     place : j ≡ h + glyph
     low : Lowest P 0 ds glyph
 
-  at_below : (ds : List Desc) (h j : ℕ) → lowest t h ds ≡ At j → Below ds h j
+  at_below : (ds : List Desc) (h j : ℕ) → lowest t h ds ≡ Some j → Below ds h j
   at_below [] h j e = no_at j e
   at_below (d ∷ ds) h j e = go (t d) refl e (at_below ds (h + 1) j)
     where
@@ -66,7 +65,7 @@ module _ (t : Desc → Bool) (P : Desc → Type 0) (yes : (d : Desc) → t d ≡
       further p g l zero f z k n q = no d p (subst P (sym n) q)
       further p g l (suc i) f z k n q = l.lower i f (omega arith) (omega arith) n q
 
-      go : (b : Bool) → t d ≡ b → pick b (At h) (lowest t (h + 1) ds) ≡ At j → (lowest t (h + 1) ds ≡ At j → Below ds (h + 1) j) → Below (d ∷ ds) h j
+      go : (b : Bool) → t d ≡ b → pick b (Some h) (lowest t (h + 1) ds) ≡ Some j → (lowest t (h + 1) ds ≡ Some j → Below ds (h + 1) j) → Below (d ∷ ds) h j
       go true p f ih =
           let q : h ≡ j = cc in
           record { glyph = 0; place = omega arith; low = record { description = d; seen = omega arith; here = refl; lists = yes d p; lower = λ i f z k n q. absurd (omega arith) } }
@@ -78,44 +77,44 @@ module _ (t : Desc → Bool) (P : Desc → Type 0) (yes : (d : Desc) → t d ≡
             low = record { description = r.low.description; seen = omega arith; here = r.low.here; lists = r.low.lists; lower = further p r.glyph r.low };
           }
 
-  none_nowhere : (ds : List Desc) (h : ℕ) → lowest t h ds ≡ Nothing → Nowhere P 0 ds
+  none_nowhere : (ds : List Desc) (h : ℕ) → lowest t h ds ≡ None → Nowhere P 0 ds
   none_nowhere [] h e = λ g d z n p. n
   none_nowhere (d ∷ ds) h e = go (t d) refl e (none_nowhere ds (h + 1))
     where
-      go : (b : Bool) → t d ≡ b → pick b (At h) (lowest t (h + 1) ds) ≡ Nothing → (lowest t (h + 1) ds ≡ Nothing → Nowhere P 0 ds) → Nowhere P 0 (d ∷ ds)
+      go : (b : Bool) → t d ≡ b → pick b (Some h) (lowest t (h + 1) ds) ≡ None → (lowest t (h + 1) ds ≡ None → Nowhere P 0 ds) → Nowhere P 0 (d ∷ ds)
       go true q f ih g d' z n p = no_at h (sym f)
       go false q f ih zero d' z n p = no d q (subst P (sym n) p)
       go false q f ih (suc g) d' z n p = ih f g d' (omega arith) n p
 
-  below_at : (ds : List Desc) (h g : ℕ) → Lowest P 0 ds g → lowest t h ds ≡ At (h + g)
+  below_at : (ds : List Desc) (h g : ℕ) → Lowest P 0 ds g → lowest t h ds ≡ Some (h + g)
   below_at [] h g l = absurd l.here
   below_at (d ∷ ds) h zero l = go (t d) refl
     where
-      go : (b : Bool) → t d ≡ b → pick b (At h) (lowest t (h + 1) ds) ≡ At (h + 0)
-      go true p = ap At (omega arith)
+      go : (b : Bool) → t d ≡ b → pick b (Some h) (lowest t (h + 1) ds) ≡ Some (h + 0)
+      go true p = ap Some (omega arith)
       go false p = absurd (no d p (subst P (sym l.here) l.lists))
   below_at (d ∷ ds) h (suc g) l = go (t d) refl (below_at ds (h + 1) g)
     where
-      go : (b : Bool) → t d ≡ b → (Lowest P 0 ds g → lowest t (h + 1) ds ≡ At (h + 1 + g)) → pick b (At h) (lowest t (h + 1) ds) ≡ At (h + suc g)
+      go : (b : Bool) → t d ≡ b → (Lowest P 0 ds g → lowest t (h + 1) ds ≡ Some (h + 1 + g)) → pick b (Some h) (lowest t (h + 1) ds) ≡ Some (h + suc g)
       go true p ih = absurd (l.lower 0 d (omega arith) (omega arith) refl (yes d p))
       go false p ih =
           let e : h + 1 + g ≡ h + suc g = omega arith in
-          ih (record { description = l.description; seen = omega arith; here = l.here; lists = l.lists; lower = λ i f z k n q. l.lower (suc i) f (omega arith) (omega arith) n q }) ∙ ap At e
+          ih (record { description = l.description; seen = omega arith; here = l.here; lists = l.lists; lower = λ i f z k n q. l.lower (suc i) f (omega arith) (omega arith) n q }) ∙ ap Some e
 
-  nowhere_none : (ds : List Desc) (h : ℕ) → Nowhere P 0 ds → lowest t h ds ≡ Nothing
+  nowhere_none : (ds : List Desc) (h : ℕ) → Nowhere P 0 ds → lowest t h ds ≡ None
   nowhere_none [] h f = refl
   nowhere_none (d ∷ ds) h f = go (t d) refl (nowhere_none ds (h + 1) (λ g d' z n q. f (suc g) d' (omega arith) n q))
     where
-      go : (b : Bool) → t d ≡ b → lowest t (h + 1) ds ≡ Nothing → pick b (At h) (lowest t (h + 1) ds) ≡ Nothing
+      go : (b : Bool) → t d ≡ b → lowest t (h + 1) ds ≡ None → pick b (Some h) (lowest t (h + 1) ds) ≡ None
       go true p ih = absurd (f 0 d (omega arith) refl (yes d p))
       go false p ih = ih
 
-  module _ (ds : List Desc) (r : Found) (e : r ≡ lowest t 0 ds) where
-    pub at_exactly : (g : ℕ) → (r ≡ At g → Lowest P 0 ds g) × (Lowest P 0 ds g → r ≡ At g)
+  module _ (ds : List Desc) (r : Option ℕ) (e : r ≡ lowest t 0 ds) where
+    pub at_exactly : (g : ℕ) → (r ≡ Some g → Lowest P 0 ds g) × (Lowest P 0 ds g → r ≡ Some g)
     at_exactly g = (
       λ q. let w = at_below ds 0 g (sym e ∙ q) in let z : w.glyph ≡ g = omega (arith, w.place) in subst (Lowest P 0 ds) z w.low,
-      λ l. let z : 0 + g ≡ g = omega arith in e ∙ below_at ds 0 g l ∙ ap At z,
+      λ l. let z : 0 + g ≡ g = omega arith in e ∙ below_at ds 0 g l ∙ ap Some z,
     )
 
-    pub none_exactly : (r ≡ Nothing → Nowhere P 0 ds) × (Nowhere P 0 ds → r ≡ Nothing)
+    pub none_exactly : (r ≡ None → Nowhere P 0 ds) × (Nowhere P 0 ds → r ≡ None)
     none_exactly = (λ q. none_nowhere ds 0 (sym e ∙ q), λ f. e ∙ nowhere_none ds 0 f)

@@ -7,8 +7,8 @@ use native.Mathlib.Omega.{arith}
 use Rattle.table.specs.declared.Item.{Item}
 use Rattle.table.specs.declared.Item.TheVariants.{Single, Start, Value, End}
 use Rattle.table.specs.Reading.{value_item}
-use Rattle.lookup.specs.declared.Walked.TheVariants.{Found as Got, Nothing as NoItem}
 use Rattle.lookup.specs.Reading.{item_at}
+use Rattle.std.specs.Prelude.{Some, None}
 
 -- an item that does not end its description
 abbrev pub Inner : Item → Type 0
@@ -23,7 +23,7 @@ inner_told false v = tt
 inner_told true v = tt
 
 module _ (g k : ℕ) (is : List Item) where
-  pub item_here : (i : Item) → g ≡ 0 → k ≡ 0 → item_at g k (i ∷ is) ≡ Got i
+  pub item_here : (i : Item) → g ≡ 0 → k ≡ 0 → item_at g k (i ∷ is) ≡ Some i
   unfolding item_at
   item_here i p q = rw (p, q)
 
@@ -49,11 +49,11 @@ module _ (g k : ℕ) (is : List Item) where
       go (suc m) f (Value v) n = refl
       go (suc m) f End n = absurd n
 
-  pub no_item : g ≡ 0 → (k ≡ 0 → ⊥) → item_at g k (End ∷ is) ≡ NoItem
+  pub no_item : g ≡ 0 → (k ≡ 0 → ⊥) → item_at g k (End ∷ is) ≡ None
   unfolding item_at
   no_item p q = rw p (go k q)
     where
-      go : (m : ℕ) → (m ≡ 0 → ⊥) → item_at 0 m (End ∷ is) ≡ NoItem
+      go : (m : ℕ) → (m ≡ 0 → ⊥) → item_at 0 m (End ∷ is) ≡ None
       go zero f = absurd (f refl)
       go (suc m) f = refl
 
@@ -65,6 +65,6 @@ module _ (g k : ℕ) (is : List Item) where
       go zero f = absurd (f refl)
       go (suc m) f = let e : suc m - 1 ≡ m = omega arith in rw e
 
-pub item_none : (g k : ℕ) → item_at g k [] ≡ NoItem
+pub item_none : (g k : ℕ) → item_at g k [] ≡ None
 unfolding item_at
 item_none g k = refl

@@ -6,16 +6,15 @@ use native.Mathlib.Omega.{arith}
 use Rattle.table.specs.declared.Item.{Item}
 use Rattle.table.specs.declared.Item.TheVariants.{Single, Start, Value, End}
 use Rattle.table.specs.Meaning.{Seq, Desc, each, seqs, described, items_of, items}
-use Rattle.lookup.specs.declared.Walked.{Walked}
-use Rattle.lookup.specs.declared.Walked.TheVariants.{Found as Got, Nothing as NoItem}
 use Rattle.lookup.specs.Reading.{item_at}
 use Rattle.lookup.specs.Meaning.{Nth, ItemIs}
 use Rattle.lookup.proofs.Turns.{Inner}
+use Rattle.std.specs.Prelude.{Option, Some, None}
 
 -- item k of a list
-unfoldable nth_item : ℕ → List Item → Walked
-nth_item k [] = NoItem
-nth_item zero (i ∷ is) = Got i
+unfoldable nth_item : ℕ → List Item → Option Item
+nth_item k [] = None
+nth_item zero (i ∷ is) = Some i
 nth_item (suc k) (i ∷ is) = nth_item k is
 
 next : (k : ℕ) (i : Item) (is : List Item) → Inner i → item_at zero (suc k) (i ∷ is) ≡ item_at zero k is
@@ -25,7 +24,7 @@ next k Start is n = refl
 next k (Value v) is n = refl
 next k End is n = absurd n
 
-first : (i : Item) (is : List Item) → item_at zero zero (i ∷ is) ≡ Got i
+first : (i : Item) (is : List Item) → item_at zero zero (i ∷ is) ≡ Some i
 unfolding item_at
 first i is = refl
 
@@ -80,42 +79,42 @@ past_described : (g k : ℕ) (d : Desc) (is : List Item) → item_at (suc g) k (
 past_described g k d is = past_each Single (λ v. tt) g k d.singles _ ∙ past_seqs g k d.sequences (End ∷ is) ∙ past_end g k is
 
 -- a place of a list
-got_nth : (k : ℕ) (is : List Item) (i : Item) → nth_item k is ≡ Got i → Nth k is i
+got_nth : (k : ℕ) (is : List Item) (i : Item) → nth_item k is ≡ Some i → Nth k is i
 unfolding nth_item
 got_nth k [] i e = let z : ◌≡◌ {A = ℕ} 0 1 = cc in absurd (omega arith)
 got_nth zero (j ∷ is) i e = let h : j ≡ i = cc in h
 got_nth (suc k) (j ∷ is) i e = got_nth k is i e
 
-nth_got : (k : ℕ) (is : List Item) (i : Item) → Nth k is i → nth_item k is ≡ Got i
+nth_got : (k : ℕ) (is : List Item) (i : Item) → Nth k is i → nth_item k is ≡ Some i
 unfolding nth_item
 nth_got k [] i n = absurd n
-nth_got zero (j ∷ is) i n = ap Got n
+nth_got zero (j ∷ is) i n = ap Some n
 nth_got (suc k) (j ∷ is) i n = nth_got k is i n
 
-nothing : (g k : ℕ) → item_at g k [] ≡ NoItem
+nothing : (g k : ℕ) → item_at g k [] ≡ None
 unfolding item_at
 nothing g k = refl
 
-pub found_item : (ds : List Desc) (g k : ℕ) (i : Item) → item_at g k (items ds) ≡ Got i → ItemIs ds g k i
+pub found_item : (ds : List Desc) (g k : ℕ) (i : Item) → item_at g k (items ds) ≡ Some i → ItemIs ds g k i
 found_item [] g k i e = let f = sym (nothing g k) ∙ e in let z : ◌≡◌ {A = ℕ} 0 1 = cc in absurd (omega arith)
 found_item (d ∷ ds) zero k i e = record { description = d; here = refl; item = got_nth k (items_of d) i (sym (alike_first d (items ds) k) ∙ e) }
 found_item (d ∷ ds) (suc g) k i e =
     let r = found_item ds g k i (sym (past_described g k d (items ds)) ∙ e) in
     record { description = r.description; here = r.here; item = r.item }
 
-pub item_found : (ds : List Desc) (g k : ℕ) (i : Item) → ItemIs ds g k i → item_at g k (items ds) ≡ Got i
+pub item_found : (ds : List Desc) (g k : ℕ) (i : Item) → ItemIs ds g k i → item_at g k (items ds) ≡ Some i
 item_found [] g k i r = absurd r.here
 item_found (d ∷ ds) zero k i r =
     alike_first d (items ds) k ∙ nth_got k (items_of d) i (subst (λ (x : Desc). Nth k (items_of x) i) (sym r.here) r.item)
 item_found (d ∷ ds) (suc g) k i r =
     past_described g k d (items ds) ∙ item_found ds g k i (record { description = r.description; here = r.here; item = r.item })
 
-pub none_item : (ds : List Desc) (g k : ℕ) → item_at g k (items ds) ≡ NoItem → (i : Item) → ItemIs ds g k i → ⊥
+pub none_item : (ds : List Desc) (g k : ℕ) → item_at g k (items ds) ≡ None → (i : Item) → ItemIs ds g k i → ⊥
 none_item ds g k e i r = let f = sym e ∙ item_found ds g k i r in let z : ◌≡◌ {A = ℕ} 0 1 = cc in absurd (omega arith)
 
-pub item_none : (ds : List Desc) (g k : ℕ) → ((i : Item) → ItemIs ds g k i → ⊥) → item_at g k (items ds) ≡ NoItem
+pub item_none : (ds : List Desc) (g k : ℕ) → ((i : Item) → ItemIs ds g k i → ⊥) → item_at g k (items ds) ≡ None
 item_none ds g k f = go (item_at g k (items ds)) refl
   where
-    go : (w : Walked) → item_at g k (items ds) ≡ w → item_at g k (items ds) ≡ NoItem
-    go (Got i) e = absurd (f i (found_item ds g k i e))
-    go NoItem e = e
+    go : (w : Option Item) → item_at g k (items ds) ≡ w → item_at g k (items ds) ≡ None
+    go (Some i) e = absurd (f i (found_item ds g k i e))
+    go None e = e

@@ -1,38 +1,32 @@
 -- Looking things up on items, as far as a tail can be read.
-use Rattle.std.specs.Prelude.{List, [], ◌∷◌, ℕ, zero, suc, ◌+◌, Bool, true, false, eqb, get_or}
+use Rattle.std.specs.Prelude.{List, [], ◌∷◌, ℕ, zero, suc, ◌+◌, Bool, true, false, eqb, get_or, Result, Ok, Err, Option, Some, None}
 use Rattle.table.specs.declared.Item.{Item}
 use Rattle.base.specs.Meaning.{pick}
 use Rattle.table.specs.declared.Item.TheVariants.{Single, Start, Value, End}
 use Rattle.table.specs.declared.Step.{Step}
 use Rattle.table.specs.declared.Step.TheVariants.{Value as StepValue, Start as StepStart, End as StepEnd, Cut as StepCut, Bad as StepBad}
-use Rattle.table.specs.declared.TableAnswer.{TableAnswer}
-use Rattle.table.specs.declared.TableAnswer.TheVariants.{Complete, Cut as TableCut, Bad as TableBad, Trailing}
 use Rattle.table.specs.Reading.{step_items, table_place}
 use Rattle.table.specs.Skipping.{Phase, singles, opened, filled, is_opened, is_inside}
-use Rattle.lookup.specs.declared.Walked.{Walked}
-use Rattle.lookup.specs.declared.Walked.TheVariants.{Found as Got, Nothing as NoItem}
-use Rattle.lookup.specs.declared.Found.{Found}
-use Rattle.lookup.specs.declared.Found.TheVariants.{At, Nothing}
-use Rattle.lookup.specs.declared.Looked.{Looked}
-use Rattle.lookup.specs.declared.Looked.TheVariants.{At as LookedAt, Not}
+use Rattle.table.specs.declared.Fault.{Fault}
+use Rattle.table.specs.declared.Fault.TheVariants.{Cut as TableCut, Bad as TableBad, Trailing}
 
 -- item k of description g
-unfoldable pub item_at : ℕ → ℕ → List Item → Walked
-item_at g k [] = NoItem
-item_at zero zero (i ∷ is) = Got i
+unfoldable pub item_at : ℕ → ℕ → List Item → Option Item
+item_at g k [] = None
+item_at zero zero (i ∷ is) = Some i
 item_at zero (suc k) (Single v ∷ is) = item_at zero k is
 item_at zero (suc k) (Start ∷ is) = item_at zero k is
 item_at zero (suc k) (Value v ∷ is) = item_at zero k is
-item_at zero (suc k) (End ∷ is) = NoItem
+item_at zero (suc k) (End ∷ is) = None
 item_at (suc g) k (Single v ∷ is) = item_at (suc g) k is
 item_at (suc g) k (Start ∷ is) = item_at (suc g) k is
 item_at (suc g) k (Value v ∷ is) = item_at (suc g) k is
 item_at (suc g) k (End ∷ is) = item_at g k is
 
 -- the first description, counted from g, that has v as a single
-unfoldable pub find_value : ℕ → ℕ → List Item → Found
-find_value v g [] = Nothing
-find_value v g (Single w ∷ is) = pick (eqb w v) (At g) (find_value v g is)
+unfoldable pub find_value : ℕ → ℕ → List Item → Option ℕ
+find_value v g [] = None
+find_value v g (Single w ∷ is) = pick (eqb w v) (Some g) (find_value v g is)
 find_value v g (Start ∷ is) = find_value v g is
 find_value v g (Value w ∷ is) = find_value v g is
 find_value v g (End ∷ is) = find_value v (g + 1) is
@@ -56,42 +50,37 @@ rest (w ∷ ws) = ws
 
 -- the first description, counted from g, with a sequence that is vs; alike where the sequence that is being read is like vs
 -- so far, and then ws is what is still to come of vs
-unfoldable pub find_sequence_from : List ℕ → ℕ → Bool → List ℕ → List Item → Found
-find_sequence_from vs g alike ws [] = Nothing
+unfoldable pub find_sequence_from : List ℕ → ℕ → Bool → List ℕ → List Item → Option ℕ
+find_sequence_from vs g alike ws [] = None
 find_sequence_from vs g alike ws (Single v ∷ is) = find_sequence_from vs g alike ws is
-find_sequence_from vs g alike ws (Start ∷ is) = pick (is_whole alike ws) (At g) (find_sequence_from vs g true vs is)
+find_sequence_from vs g alike ws (Start ∷ is) = pick (is_whole alike ws) (Some g) (find_sequence_from vs g true vs is)
 find_sequence_from vs g alike ws (Value v ∷ is) = find_sequence_from vs g (goes_on alike v ws) (rest ws) is
-find_sequence_from vs g alike ws (End ∷ is) = pick (is_whole alike ws) (At g) (find_sequence_from vs (g + 1) false ws is)
+find_sequence_from vs g alike ws (End ∷ is) = pick (is_whole alike ws) (Some g) (find_sequence_from vs (g + 1) false ws is)
 
 -- the first description that lists the sequence vs
-abbrev pub find_sequence : List ℕ → List Item → Found
+abbrev pub find_sequence : List ℕ → List Item → Option ℕ
 find_sequence vs is = find_sequence_from vs 0 false vs is
 
 -- A lookup in one pass with the check.
 
 -- what is asked for: the first of vs as a single, or the sequence vs
-abbrev pub find_asked : Bool → List ℕ → List Item → Found
+abbrev pub find_asked : Bool → List ℕ → List Item → Option ℕ
 find_asked false vs is = find_value (get_or vs 0 0) 0 is
 find_asked true vs is = find_sequence vs is
 
 -- what was found, where the table is complete; else what its check says
-abbrev pub found_as : Found → Looked
-found_as (At g) = LookedAt g
-found_as Nothing = Not Complete
 
-abbrev pub looked_of : Found → TableAnswer → Looked
-looked_of w Complete = found_as w
-looked_of w (TableCut k g) = Not (TableCut k g)
-looked_of w (TableBad k g) = Not (TableBad k g)
-looked_of w (Trailing k) = Not (Trailing k)
+abbrev pub looked_of : Option ℕ → Result (Unit {0}) Fault → Result (Option ℕ) Fault
+looked_of w (Ok tt) = Ok w
+looked_of w (Err e) = Err e
 
 -- the place in the tail that is told
-abbrev pub looked_place : Looked → ℕ
-looked_place (LookedAt g) = 0
-looked_place (Not a) = table_place a
+abbrev pub looked_place : Result (Option ℕ) Fault → ℕ
+looked_place (Ok w) = 0
+looked_place (Err e) = table_place (Err e)
 
 -- what is asked for, from a phase of a description on, counted from g: just after a start mark the sequence that is read is like vs so far
-abbrev pub find_from : Bool → List ℕ → ℕ → Phase → List Step → Found
+abbrev pub find_from : Bool → List ℕ → ℕ → Phase → List Step → Option ℕ
 find_from false vs g p xs = find_value (get_or vs 0 0) g (step_items (is_inside p) xs)
 find_from true vs g p xs = find_sequence_from vs g (is_opened p) vs (step_items (is_inside p) xs)
 

@@ -8,31 +8,10 @@ ghost use Rattle.table.specs.Skipping.{phase_of, Stands};
 ghost use Rattle.lookup.specs.Reading.{item_at, find_value, find_sequence, sequence_in, begins_at, looked_of, find_asked};
 
 use coding::Coding;
-use table::{Cursor, Item, Step, TableAnswer};
-
-// The item asked for, or Nothing where the glyph or the item is not there.
-#[derive(Clone, Copy)]
-pub enum Walked {
-    Found(Item),
-    Nothing,
-}
-
-// The lowest glyph, or Nothing where none lists it.
-#[derive(Clone, Copy)]
-pub enum Found {
-    At(usize),
-    Nothing,
-}
-
-// The lowest glyph of a table that is complete; else what the check of the table says: where that is complete too, no glyph lists it.
-#[derive(Clone, Copy)]
-pub enum Looked {
-    At(usize),
-    Not(TableAnswer),
-}
+use table::{Cursor, Fault, Item, Step};
 
 // Item k of glyph g, counted from 0, in the order of the file.
-pub fn item_at(c: Coding, tail: &[u8], g: usize, k: usize) -> Walked
+pub fn item_at(c: Coding, tail: &[u8], g: usize, k: usize) -> Option<Item>
     ensures { result ≡ item_at g k (items_in c tail.now) }
 {
     let mut glyphs = g;
@@ -45,7 +24,7 @@ pub fn item_at(c: Coding, tail: &[u8], g: usize, k: usize) -> Walked
             Step::Value(v, next) => {
                 if glyphs == 0 {
                     if left == 0 {
-                        return Walked::Found(table::value_item(inside, v));
+                        return Some(table::value_item(inside, v));
                     }
                     left -= 1;
                 }
@@ -54,7 +33,7 @@ pub fn item_at(c: Coding, tail: &[u8], g: usize, k: usize) -> Walked
             Step::Start(next) => {
                 if glyphs == 0 {
                     if left == 0 {
-                        return Walked::Found(Item::Start);
+                        return Some(Item::Start);
                     }
                     left -= 1;
                 }
@@ -64,19 +43,19 @@ pub fn item_at(c: Coding, tail: &[u8], g: usize, k: usize) -> Walked
             Step::End(next) => {
                 if glyphs == 0 {
                     if left == 0 {
-                        return Walked::Found(Item::End);
+                        return Some(Item::End);
                     }
-                    return Walked::Nothing;
+                    return None;
                 }
                 glyphs -= 1;
                 inside = false;
                 at = next;
             }
-            Step::Cut => return Walked::Nothing,
-            Step::Bad(_) => return Walked::Nothing,
+            Step::Cut => return None,
+            Step::Bad(_) => return None,
         }
     }
-    Walked::Nothing
+    None
 }
 
 // Whether from a place on stand exactly the values vs, and then a mark.
@@ -127,23 +106,16 @@ fn begins(sequence: bool, vs: &[u32], c: Coding, tail: &[u8], p: Cursor, w: u32)
 }
 
 // What was found, where the table is complete; else what its check says.
-fn looked_by(w: Found, a: TableAnswer) -> Looked
+fn looked_by(w: Option<usize>, a: Result<(), Fault>) -> Result<Option<usize>, Fault>
     ensures { result ≡ looked_of w a }
 {
-    match a {
-        TableAnswer::Complete => match w {
-            Found::At(g) => Looked::At(g),
-            Found::Nothing => Looked::Not(a),
-        },
-        TableAnswer::Cut(_, _) => Looked::Not(a),
-        TableAnswer::Bad(_, _) => Looked::Not(a),
-        TableAnswer::Trailing(_) => Looked::Not(a),
-    }
+    a?;
+    Ok(w)
 }
 
 // Checks a table of n descriptions and looks for the first of vs as a single, or for the sequence vs, in one pass: it goes over what plainly stands
 // there, up to each value with the key of the first of vs. Asks for some value.
-fn look(c: Coding, tail: &[u8], n: usize, sequence: bool, vs: &[u32]) -> Looked
+fn look(c: Coding, tail: &[u8], n: usize, sequence: bool, vs: &[u32]) -> Result<Option<usize>, Fault>
     requires { 1 ≤ length vs.now }
     ensures { result ≡ looked_of (find_asked sequence vs.now (items_in c tail.now)) (table_of c n tail.now) }
 {
@@ -157,24 +129,24 @@ fn look(c: Coding, tail: &[u8], n: usize, sequence: bool, vs: &[u32]) -> Looked
         start = p.start;
         at = p.at;
         if left == 0 {
-            return looked_by(Found::Nothing, table::ended(tail, at));
+            return looked_by(None, table::ended(tail, at));
         }
         let Step::Value(w, next) = table::step_at(c, tail, at) else {
-            return looked_by(Found::Nothing, table::refused(c, tail, at, n - left));
+            return looked_by(None, table::refused(c, tail, at, n - left));
         };
         if begins(sequence, vs, c, tail, p, w) {
             return looked_by(
-                Found::At(n - left),
+                Some(n - left),
                 table::check_from(c, tail, n, table::cursor_at(next, left, start)),
             );
         }
         at = next;
     }
-    looked_by(Found::Nothing, table::ended(tail, at))
+    looked_by(None, table::ended(tail, at))
 }
 
 // The lowest glyph that lists v as a single, in a table of n descriptions; else what the check of the table says.
-pub fn find_value(c: Coding, tail: &[u8], n: usize, v: u32) -> Looked
+pub fn find_value(c: Coding, tail: &[u8], n: usize, v: u32) -> Result<Option<usize>, Fault>
     ensures { result ≡ looked_of (find_value v 0 (items_in c tail.now)) (table_of c n tail.now) }
 {
     let vs = [v; 1];
@@ -182,7 +154,7 @@ pub fn find_value(c: Coding, tail: &[u8], n: usize, v: u32) -> Looked
 }
 
 // The lowest glyph that, after some start mark, lists exactly vs up to the next start or end mark; as above. Asks for some value.
-pub fn find_sequence(c: Coding, tail: &[u8], n: usize, vs: &[u32]) -> Looked
+pub fn find_sequence(c: Coding, tail: &[u8], n: usize, vs: &[u32]) -> Result<Option<usize>, Fault>
     requires { 1 ≤ length vs.now }
     ensures { result ≡ looked_of (find_sequence vs.now (items_in c tail.now)) (table_of c n tail.now) }
 {

@@ -13,37 +13,34 @@ use Rattle.base.specs.Meaning.{pick}
 use Rattle.base.proofs.Tests.{same}
 use Rattle.table.specs.declared.Item.{Item}
 use Rattle.table.specs.Meaning.{Seq, Desc, items}
-use Rattle.lookup.specs.declared.Found.{Found}
-use Rattle.lookup.specs.declared.Found.TheVariants.{At, Nothing}
 use Rattle.lookup.specs.Meaning.{Nth, ListsValue, Lowest, Nowhere, ItemIs}
-use Rattle.lookup.specs.declared.Walked.{Walked}
-use Rattle.lookup.specs.declared.Walked.TheVariants.{Found as Got, Nothing as NoItem}
 use Rattle.lookup.specs.Reading.{item_at, find_value, find_sequence}
 use Rattle.lookup.proofs.Walking.{found_item, item_found, none_item, item_none}
 use Rattle.lookup.proofs.Searching.{any, lowest}
 use Rattle.lookup.proofs.Finding.{is_value, has_value, value_no, has_sequence, find_value_lem, find_sequence_lem}
 use Rattle.mapping.specs.Meaning.{Lists, changed, with_single, without, without_single, added, dropped, LowestOther, NoOther}
 use Rattle.mapping.proofs.Changing.{nth_one, changed_here, changed_there, changed_back}
+use Rattle.std.specs.Prelude.{Option, Some, None}
 
 -- a test that the change does not touch
 module _ (t : Desc → Bool) (f : Desc → Desc) where
   lowest_same : ((d : Desc) → t (f d) ≡ t d) → (g h : ℕ) (ds : List Desc) → lowest t h (changed f g ds) ≡ lowest t h ds
   unfolding changed
   lowest_same q g h [] = refl
-  lowest_same q zero h (d ∷ ds) = ap (λ (b : Bool). pick b (At h) (lowest t (h + 1) ds)) (q d)
-  lowest_same q (suc g) h (d ∷ ds) = ap (pick (t d) (At h)) (lowest_same q g (h + 1) ds)
+  lowest_same q zero h (d ∷ ds) = ap (λ (b : Bool). pick b (Some h) (lowest t (h + 1) ds)) (q d)
+  lowest_same q (suc g) h (d ∷ ds) = ap (pick (t d) (Some h)) (lowest_same q g (h + 1) ds)
 
   -- on the description that is changed
   lowest_same_at : (g h : ℕ) (ds : List Desc) (d : Desc) → Nth g ds d → t (f d) ≡ t d → lowest t h (changed f g ds) ≡ lowest t h ds
   unfolding changed
   lowest_same_at g h [] d n q = absurd n
-  lowest_same_at zero h (e ∷ ds) d n q = ap (λ (b : Bool). pick b (At h) (lowest t (h + 1) ds)) (subst (λ (x : Desc). t (f x) ≡ t x) (sym n) q)
-  lowest_same_at (suc g) h (e ∷ ds) d n q = ap (pick (t e) (At h)) (lowest_same_at g (h + 1) ds d n q)
+  lowest_same_at zero h (e ∷ ds) d n q = ap (λ (b : Bool). pick b (Some h) (lowest t (h + 1) ds)) (subst (λ (x : Desc). t (f x) ≡ t x) (sym n) q)
+  lowest_same_at (suc g) h (e ∷ ds) d n q = ap (pick (t e) (Some h)) (lowest_same_at g (h + 1) ds d n q)
 
 -- the lower of a glyph and what was found
-abbrev pub lower_of : ℕ → Found → ℕ
-lower_of g (At h) = min g h
-lower_of g Nothing = g
+abbrev pub lower_of : ℕ → Option ℕ → ℕ
+lower_of g (Some h) = min g h
+lower_of g None = g
 
 -- a test that the changed description passes
 module _ (t : Desc → Bool) (f : Desc → Desc) (yes : (d : Desc) → t (f d) ≡ true) where
@@ -54,28 +51,28 @@ module _ (t : Desc → Bool) (f : Desc → Desc) (yes : (d : Desc) → t (f d) �
       from h k [] l = refl
       from h k (d ∷ ds) l = go (t d) (from h (k + 1) ds (omega arith))
         where
-          go : (b : Bool) → lower_of h (lowest t (k + 1) ds) ≡ h → lower_of h (pick b (At k) (lowest t (k + 1) ds)) ≡ h
+          go : (b : Bool) → lower_of h (lowest t (k + 1) ds) ≡ h → lower_of h (pick b (Some k) (lowest t (k + 1) ds)) ≡ h
           go true ih = min-eq_left l
           go false ih = ih
 
-  lowest_added : (g h : ℕ) (ds : List Desc) → g < length ds → lowest t h (changed f g ds) ≡ At (lower_of (h + g) (lowest t h ds))
+  lowest_added : (g h : ℕ) (ds : List Desc) → g < length ds → lowest t h (changed f g ds) ≡ Some (lower_of (h + g) (lowest t h ds))
   unfolding changed
   lowest_added g h [] l = absurd (omega arith)
   lowest_added zero h (d ∷ ds) l =
       let z : h + 0 ≡ h = omega arith in
-      ap (λ (b : Bool). pick b (At h) (lowest t (h + 1) ds)) (yes d) ∙ ap At (sym (ap (λ (x : ℕ). lower_of x (lowest t h (d ∷ ds))) z ∙ go (t d)))
+      ap (λ (b : Bool). pick b (Some h) (lowest t (h + 1) ds)) (yes d) ∙ ap Some (sym (ap (λ (x : ℕ). lower_of x (lowest t h (d ∷ ds))) z ∙ go (t d)))
     where
-      go : (b : Bool) → lower_of h (pick b (At h) (lowest t (h + 1) ds)) ≡ h
+      go : (b : Bool) → lower_of h (pick b (Some h) (lowest t (h + 1) ds)) ≡ h
       go true = min-eq_left (le_refl h)
       go false = lower_later h ds
   lowest_added (suc g) h (d ∷ ds) l = go (t d) (lowest_added g (h + 1) ds (omega arith))
     where
-      go : (b : Bool) → lowest t (h + 1) (changed f g ds) ≡ At (lower_of (h + 1 + g) (lowest t (h + 1) ds)) →
-          pick b (At h) (lowest t (h + 1) (changed f g ds)) ≡ At (lower_of (h + suc g) (pick b (At h) (lowest t (h + 1) ds)))
-      go true ih = let q : h ≤ h + suc g = omega arith in ap At (sym (min-eq_right q))
+      go : (b : Bool) → lowest t (h + 1) (changed f g ds) ≡ Some (lower_of (h + 1 + g) (lowest t (h + 1) ds)) →
+          pick b (Some h) (lowest t (h + 1) (changed f g ds)) ≡ Some (lower_of (h + suc g) (pick b (Some h) (lowest t (h + 1) ds)))
+      go true ih = let q : h ≤ h + suc g = omega arith in ap Some (sym (min-eq_right q))
       go false ih =
           let z : h + 1 + g ≡ h + suc g = omega arith in
-          ih ∙ ap (λ (x : ℕ). At (lower_of x (lowest t (h + 1) ds))) z
+          ih ∙ ap (λ (x : ℕ). Some (lower_of x (lowest t (h + 1) ds))) z
 
 -- values with one put last, and without one
 has_last : (v : ℕ) (vs : List ℕ) → any (is_value v) (vs ++ (v ∷ [])) ≡ true
@@ -109,9 +106,9 @@ item_same f g h k ds o = go (item_at h k (items ds)) refl
     back : (i : Item) → ItemIs (changed f g ds) h k i → ItemIs ds h k i
     back i r = record { description = r.description; here = changed_back f g h ds r.description o r.here; item = r.item }
 
-    go : (w : Walked) → item_at h k (items ds) ≡ w → item_at h k (items (changed f g ds)) ≡ item_at h k (items ds)
-    go (Got i) e = item_found (changed f g ds) h k i (there i (found_item ds h k i e)) ∙ sym e
-    go NoItem e = item_none (changed f g ds) h k (λ i r. none_item ds h k e i (back i r)) ∙ sym e
+    go : (w : Option Item) → item_at h k (items ds) ≡ w → item_at h k (items (changed f g ds)) ≡ item_at h k (items ds)
+    go (Some i) e = item_found (changed f g ds) h k i (there i (found_item ds h k i e)) ∙ sym e
+    go None e = item_none (changed f g ds) h k (λ i r. none_item ds h k e i (back i r)) ∙ sym e
 
 -- what is found: every other value, and every sequence, as before
 module _ (g : ℕ) (ds : List Desc) where
@@ -130,11 +127,11 @@ module _ (g : ℕ) (ds : List Desc) where
       ∙ sym (find_sequence_lem vs 0 vs ds)
 
   -- the value added: the lower of its glyph and the one before
-  pub added_value : (v : ℕ) → g < length ds → find_value v 0 (items (added v g ds)) ≡ At (lower_of g (find_value v 0 (items ds)))
+  pub added_value : (v : ℕ) → g < length ds → find_value v 0 (items (added v g ds)) ≡ Some (lower_of g (find_value v 0 (items ds)))
   added_value v l =
       let z : 0 + g ≡ g = omega arith in
       find_value_lem v 0 (added v g ds) ∙ lowest_added (has_value v) (with_single v) (λ d. has_last v d.singles) g 0 ds l
-      ∙ ap (λ (x : ℕ). At (lower_of x (lowest (has_value v) 0 ds))) z ∙ ap (λ (x : Found). At (lower_of g x)) (sym (find_value_lem v 0 ds))
+      ∙ ap (λ (x : ℕ). Some (lower_of x (lowest (has_value v) 0 ds))) z ∙ ap (λ (x : Option ℕ). Some (lower_of g x)) (sym (find_value_lem v 0 ds))
 
   -- the value dropped: as before where the glyph lists it still
   lists_yes : (v : ℕ) (d : Desc) → ListsValue v d → has_value v d ≡ true

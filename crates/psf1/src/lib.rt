@@ -7,8 +7,8 @@ ghost use Rattle.header.specs.declared.Kind.TheVariants.{Psf1 as psf1};
 ghost use Rattle.header.specs.Meaning.{psf1_count, psf1_table};
 ghost use Rattle.header.specs.Reading.{mode_of, header_bytes, psf1_says};
 
-use header::{Checked, Font, Kind};
-use refusal::Reason;
+use header::{Font, Kind};
+use refusal::{Reason, Refusal};
 
 #[derive(Clone, Copy)]
 pub struct Psf1;
@@ -50,23 +50,23 @@ impl Psf1 {
 
     // What the header of a PSF1 file says: refusals 3, 4 and 7.
     #[tactic(auto, using(header::proofs::Cases::psf1_mode))]
-    pub fn says(file: &[u8]) -> Checked
+    pub fn says(file: &[u8]) -> Result<Font, Refusal>
         ensures { result ≡ psf1_says file.now }
     {
         let len = file.len();
         if len < Psf1::HEADER_LEN {
-            return Checked::Refused(refusal::refuse(Reason::HeaderCut, len));
+            return Err(refusal::refuse(Reason::HeaderCut, len));
         }
         let mode = file[2];
         if 5 < mode {
-            return Checked::Refused(refusal::refuse(Reason::Version, 2));
+            return Err(refusal::refuse(Reason::Version, 2));
         }
         let size = base::size(base::wide(file[3]));
         if size == 0 {
-            return Checked::Refused(refusal::refuse(Reason::Shape, 3));
+            return Err(refusal::refuse(Reason::Shape, 3));
         }
         let count = Psf1::count_of(mode);
-        Checked::Sound(Font {
+        Ok(Font {
             kind: Kind::Psf1,
             count: count,
             entries: Psf1::HEADER_LEN,

@@ -6,8 +6,8 @@ ghost use Rattle.base.specs.Reading.{over};
 ghost use Rattle.header.specs.declared.Kind.TheVariants.{Psf2 as psf2};
 ghost use Rattle.header.specs.Reading.{head_of, psf2_shaped, on_fields, header_bytes};
 
-use header::{Checked, Fields, Font, Head, Kind};
-use refusal::Reason;
+use header::{Fields, Font, Kind};
+use refusal::{Reason, Refusal};
 
 #[derive(Clone, Copy)]
 pub struct Psf2;
@@ -28,27 +28,27 @@ impl Psf2 {
     }
 
     // The font that these fields describe: refusal 7. Asks for small numbers: `header::head_of` has bounded them.
-    fn shaped(f: Fields) -> Checked
+    fn shaped(f: Fields) -> Result<Font, Refusal>
         requires { (f.header ≤ 4096) × (f.count ≤ 4096) }
         ensures { result ≡ psf2_shaped f }
     {
         if f.height < 1 {
-            return Checked::Refused(refusal::refuse(Reason::Shape, 24));
+            return Err(refusal::refuse(Reason::Shape, 24));
         }
         if 255 < f.height {
-            return Checked::Refused(refusal::refuse(Reason::Shape, 24));
+            return Err(refusal::refuse(Reason::Shape, 24));
         }
         if f.width < 1 {
-            return Checked::Refused(refusal::refuse(Reason::Shape, 28));
+            return Err(refusal::refuse(Reason::Shape, 28));
         }
         if 255 < f.width {
-            return Checked::Refused(refusal::refuse(Reason::Shape, 28));
+            return Err(refusal::refuse(Reason::Shape, 28));
         }
         if f.size != header::glyph_bytes(f.height, f.width) {
-            return Checked::Refused(refusal::refuse(Reason::Shape, 20));
+            return Err(refusal::refuse(Reason::Shape, 20));
         }
         let bitmaps = Psf2::first_bitmap(f.header, f.count);
-        Checked::Sound(Font {
+        Ok(Font {
             kind: Kind::Psf2,
             count: f.count,
             entries: f.header,
@@ -62,14 +62,11 @@ impl Psf2 {
     }
 
     // What the header of a PSF2 file says: refusals 3 to 7.
-    pub fn says(file: &[u8]) -> Checked
+    pub fn says(file: &[u8]) -> Result<Font, Refusal>
         ensures { result ≡ on_fields psf2_shaped (head_of file.now) }
     {
-        let h = header::head_of(file, Psf2::HEADER_LEN);
-        match h {
-            Head::Read(f) => Psf2::shaped(f),
-            Head::Refused(r) => Checked::Refused(r),
-        }
+        let fields = header::head_of(file, Psf2::HEADER_LEN)?;
+        Psf2::shaped(fields)
     }
 
     // The header of a PSF2 file, to the front. Asks for numbers that four bytes hold, and for room: the caller has worked out both.

@@ -17,26 +17,19 @@ use Rattle.base.proofs.Tests.{below}
 use Rattle.refusal.specs.Meaning.{refusal}
 use Rattle.refusal.specs.declared.Reason.TheVariants.{Ask, NoTable}
 use Rattle.coding.specs.declared.Coding.{Coding}
-use Rattle.table.specs.declared.TableAnswer.{TableAnswer}
-use Rattle.table.specs.declared.TableAnswer.TheVariants.{Complete, Cut as TableCut, Bad as TableBad, Trailing}
 use Rattle.table.specs.Reading.{items_in, table_of, table_place}
-use Rattle.lookup.specs.declared.Walked.{Walked}
-use Rattle.lookup.specs.declared.Found.{Found}
-use Rattle.lookup.specs.declared.Found.TheVariants.{At, Nothing}
-use Rattle.lookup.specs.declared.Looked.{Looked}
 use Rattle.lookup.specs.Reading.{item_at, find_value, find_sequence, looked_of, looked_place}
 use Rattle.header.specs.declared.Font.{Font}
-use Rattle.header.specs.declared.Checked.{Checked}
-use Rattle.header.specs.declared.Checked.TheVariants.{Sound, Refused}
 use Rattle.header.specs.Bounds.{Placed}
-use Rattle.stages.specs.declared.TailAnswer.TheVariants.{Sound as TailSound}
 use Rattle.stages.specs.Meaning.{coding_of, tail_of}
 use Rattle.stages.specs.Reading.{answered, table_tail, tabled}
 use Rattle.stages.proofs.Cases.{place_fits, table_read, tabled_by}
-use Rattle.questions.specs.declared.Walk.TheVariants.{Refused as NoWalk}
-use Rattle.questions.specs.declared.Lookup.{Lookup}
-use Rattle.questions.specs.declared.Lookup.TheVariants.{Refused as NoLookup}
 use Rattle.questions.specs.Reading.{font_items, walk_of, item_on, lookup_of, value_on, any_high, askable, sequence_on, after_tail, lookup_told}
+use Rattle.std.specs.Prelude.{Result, Ok, Err, Option, Some, None}
+use Rattle.refusal.specs.declared.Refusal.{Refusal}
+use Rattle.table.specs.declared.Fault.{Fault}
+use Rattle.table.specs.declared.Item.{Item}
+use Rattle.table.specs.declared.Fault.TheVariants.{Cut as TableCut, Bad as TableBad, Trailing}
 
 module _ (s : List ℕ) (f : Font) where
   -- the items of the part that the reader is handed
@@ -44,68 +37,65 @@ module _ (s : List ℕ) (f : Font) where
   part_items c e = rw (rest_all s f.end, e)
 
   module _ (g k : ℕ) where
-    pub item_told : f.table ≡ true → (c : Coding) → c ≡ coding_of f.kind → (w : Walked) →
+    pub item_told : f.table ≡ true → (c : Coding) → c ≡ coding_of f.kind → (w : Option Item) →
         w ≡ item_at g k (items_in c (take (length s - f.end) (drop f.end s))) → walk_of w ≡ item_on s g k f
     item_told t c e w q = rw t (ap walk_of (q ∙ ap (item_at g k) (part_items c e)))
 
-    pub item_bare : f.table ≡ false → NoWalk (refusal NoTable 0) ≡ item_on s g k f
+    pub item_bare : f.table ≡ false → Err (refusal NoTable 0) ≡ item_on s g k f
     item_bare t = rw t
 
   module _ (v : ℕ) where
-    pub value_told : f.table ≡ true → (m : Bool) → m ≡ leb v 0x10FFFF → (c : Coding) → c ≡ coding_of f.kind → (w : Found) →
-        w ≡ find_value v 0 (items_in c (take (length s - f.end) (drop f.end s))) → pick m (lookup_of w) (NoLookup (refusal Ask 0)) ≡ value_on s v f
+    pub value_told : f.table ≡ true → (m : Bool) → m ≡ leb v 0x10FFFF → (c : Coding) → c ≡ coding_of f.kind → (w : Option ℕ) →
+        w ≡ find_value v 0 (items_in c (take (length s - f.end) (drop f.end s))) → pick m (lookup_of w) (Err (refusal Ask 0)) ≡ value_on s v f
     unfolding when
     value_told t m a c e w q = rw (t, a) (go (below 0x10FFFF v))
       where
         go : (0x10FFFF < v) ⊎ (v ≤ 0x10FFFF) →
-            pick (leb v 0x10FFFF) (lookup_of w) (NoLookup (refusal Ask 0)) ≡ pick (ltb 0x10FFFF v) (NoLookup (refusal Ask 0)) (lookup_of (find_value v 0 (font_items s f)))
+            pick (leb v 0x10FFFF) (lookup_of w) (Err (refusal Ask 0)) ≡ pick (ltb 0x10FFFF v) (Err (refusal Ask 0)) (lookup_of (find_value v 0 (font_items s f)))
         go (inl h) = rw (lt-leb v 0x10FFFF h, lt-ltb 0x10FFFF v h)
         go (inr h) = rw (le-leb v 0x10FFFF h, le-ltb 0x10FFFF v h) (ap lookup_of (q ∙ ap (find_value v 0) (part_items c e)))
 
-    pub value_bare : f.table ≡ false → NoLookup (refusal NoTable 0) ≡ value_on s v f
+    pub value_bare : f.table ≡ false → Err (refusal NoTable 0) ≡ value_on s v f
     value_bare t = rw t
 
   module _ (vs : List ℕ) where
-    pub sequence_told : f.table ≡ true → (m : Bool) → m ≡ askable vs → m ≡ true → (c : Coding) → c ≡ coding_of f.kind → (w : Found) →
+    pub sequence_told : f.table ≡ true → (m : Bool) → m ≡ askable vs → m ≡ true → (c : Coding) → c ≡ coding_of f.kind → (w : Option ℕ) →
         w ≡ find_sequence vs (items_in c (take (length s - f.end) (drop f.end s))) → lookup_of w ≡ sequence_on s vs f
     unfolding when
     sequence_told t m a b c e w q = rw (t, sym a ∙ b) (ap lookup_of (q ∙ ap (find_sequence vs) (part_items c e)))
 
-    pub sequence_ask : f.table ≡ true → (m : Bool) → m ≡ askable vs → m ≡ false → NoLookup (refusal Ask 0) ≡ sequence_on s vs f
+    pub sequence_ask : f.table ≡ true → (m : Bool) → m ≡ askable vs → m ≡ false → Err (refusal Ask 0) ≡ sequence_on s vs f
     unfolding when
     sequence_ask t m a b = rw (t, sym a ∙ b)
 
-    pub sequence_bare : f.table ≡ false → NoLookup (refusal NoTable 0) ≡ sequence_on s vs f
+    pub sequence_bare : f.table ≡ false → Err (refusal NoTable 0) ≡ sequence_on s vs f
     sequence_bare t = rw t
 
 -- a lookup in one pass, by what was found and what the table's check answers
-by_table : (asked : Bool) (f : Font) (w : Found) (t : TableAnswer) → lookup_told f.end asked (looked_of w t) ≡ after_tail (λ _. pick asked (lookup_of w) (NoLookup (refusal Ask 0))) (answered f t)
-by_table asked f (At g) Complete = refl
-by_table asked f Nothing Complete = refl
-by_table asked f w (TableCut k g) = refl
-by_table asked f w (TableBad k g) = refl
-by_table asked f w (Trailing k) = refl
+by_table : (asked : Bool) (f : Font) (w : Option ℕ) (t : Result (Unit {0}) Fault) → lookup_told f.end asked (looked_of w t) ≡ after_tail (λ _. pick asked (lookup_of w) (Err (refusal Ask 0))) (answered f t)
+by_table asked f (Some g) (Ok tt) = refl
+by_table asked f None (Ok tt) = refl
+by_table asked f w (Err (TableCut k g)) = refl
+by_table asked f w (Err (TableBad k g)) = refl
+by_table asked f w (Err (Trailing k)) = refl
 
-looked_place_lem : (w : Found) (t : TableAnswer) → looked_place (looked_of w t) ≡ table_place t
-looked_place_lem (At g) Complete = refl
-looked_place_lem Nothing Complete = refl
-looked_place_lem w (TableCut k g) = refl
-looked_place_lem w (TableBad k g) = refl
-looked_place_lem w (Trailing k) = refl
+looked_place_lem : (w : Option ℕ) (t : Result (Unit {0}) Fault) → looked_place (looked_of w t) ≡ table_place t
+looked_place_lem w (Ok tt) = refl
+looked_place_lem w (Err t) = refl
 
 -- answers that agree on the font agree after its table
-after_table : (f : Font) (t : TableAnswer) (a b : Font → Lookup) → a f ≡ b f → after_tail a (answered f t) ≡ after_tail b (answered f t)
-after_table f Complete a b q = q
-after_table f (TableCut k g) a b q = refl
-after_table f (TableBad k g) a b q = refl
-after_table f (Trailing k) a b q = refl
+after_table : (f : Font) (t : Result (Unit {0}) Fault) (a b : Font → Result ℕ Refusal) → a f ≡ b f → after_tail a (answered f t) ≡ after_tail b (answered f t)
+after_table f (Ok tt) a b q = q
+after_table f (Err (TableCut k g)) a b q = refl
+after_table f (Err (TableBad k g)) a b q = refl
+after_table f (Err (Trailing k)) a b q = refl
 
 module _ (s : List ℕ) (f : Font) where
   -- a font without a table
-  pub bare_told : f.table ≡ false → (x : Lookup) (a : Font → Lookup) → x ≡ a f → x ≡ after_tail a (tabled s f)
-  bare_told t x a q = q ∙ ap (after_tail a) (tabled_by s f false t TailSound refl)
+  pub bare_told : f.table ≡ false → (x : Result ℕ Refusal) (a : Font → Result ℕ Refusal) → x ≡ a f → x ≡ after_tail a (tabled s f)
+  bare_told t x a q = q ∙ ap (after_tail a) (tabled_by s f false t (Ok tt) refl)
 
-  module _ (c : Coding) (e : c ≡ coding_of f.kind) (w : Found) (x : Looked) (q : x ≡ looked_of w (table_of c f.count (take (length s - f.end) (drop f.end s)))) where
+  module _ (c : Coding) (e : c ≡ coding_of f.kind) (w : Option ℕ) (x : Result (Option ℕ) Fault) (q : x ≡ looked_of w (table_of c f.count (take (length s - f.end) (drop f.end s)))) where
     from_tail : x ≡ looked_of w (table_of (coding_of f.kind) f.count (tail_of s f))
     from_tail = q ∙ ap (looked_of w) (table_read s f c e _ refl)
 
@@ -115,12 +105,12 @@ module _ (s : List ℕ) (f : Font) where
         omega (arith, z, place_fits s f y p (coding_of f.kind))
 
     -- what was found, or why the table is refused
-    pub looked_told : f.table ≡ true → (asked : Bool) (a : Font → Lookup) → pick asked (lookup_of w) (NoLookup (refusal Ask 0)) ≡ a f →
+    pub looked_told : f.table ≡ true → (asked : Bool) (a : Font → Result ℕ Refusal) → pick asked (lookup_of w) (Err (refusal Ask 0)) ≡ a f →
         lookup_told f.end asked x ≡ after_tail a (tabled s f)
     looked_told t asked a k =
         ap (lookup_told f.end asked) from_tail
         ∙ by_table asked f w (table_of (coding_of f.kind) f.count (tail_of s f))
-        ∙ after_table f (table_of (coding_of f.kind) f.count (tail_of s f)) (λ _. pick asked (lookup_of w) (NoLookup (refusal Ask 0))) a k
+        ∙ after_table f (table_of (coding_of f.kind) f.count (tail_of s f)) (λ _. pick asked (lookup_of w) (Err (refusal Ask 0))) a k
         ∙ ap (after_tail a) (tabled_by s f true t (table_tail s f) refl)
 
 -- some value is there to ask for

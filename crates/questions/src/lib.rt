@@ -2,86 +2,59 @@
 // the same pass, with refusals 10 to 15; `fonts` is the public face. Definitions: specs/Reading.antt.
 #![tactic(auto)]
 
-ghost use Rattle.std.specs.Prelude.{◌≡◌, ◌+◌, ◌<◌};
+ghost use Rattle.std.specs.Prelude.{◌≡◌, ◌+◌, ◌<◌, Err};
 ghost use Rattle.base.specs.Meaning.{pick};
 ghost use Rattle.refusal.specs.Meaning.{refusal};
 ghost use Rattle.refusal.specs.declared.Reason.TheVariants.{Ask};
 ghost use Rattle.header.specs.Bounds.{Placed};
 ghost use Rattle.lookup.specs.Reading.{looked_place};
 ghost use Rattle.stages.specs.Reading.{tabled};
-ghost use Rattle.questions.specs.declared.Lookup.TheVariants.{Refused as NoLookup};
 ghost use Rattle.questions.specs.Reading.{item_on, value_on, any_high, askable, sequence_on, after_tail, lookup_told};
 
 use header::Font;
-use lookup::{Looked, Walked};
 use refusal::{Reason, Refusal};
-use stages::TailAnswer;
-use table::Item;
-
-// An item of a glyph's description; or the refusal.
-#[derive(Clone, Copy)]
-pub enum Walk {
-    Is(Item),
-    Refused(Refusal),
-}
-
-// The glyph found; or the refusal.
-#[derive(Clone, Copy)]
-pub enum Lookup {
-    Glyph(usize),
-    Refused(Refusal),
-}
+use table::{Fault, Item};
 
 // Item k of glyph g of a font whose parts stand in the file (`Placed`).
-pub fn item_on(file: &[u8], f: Font, g: usize, k: usize) -> Walk
+pub fn item_on(file: &[u8], f: Font, g: usize, k: usize) -> Result<Item, Refusal>
     requires { Placed file.now f }
     ensures { result ≡ item_on file.now g k f }
 {
     if f.table {
         let end = f.end;
         let kind = f.kind;
-        let w = lookup::item_at(stages::coding_of(kind), &file[end..], g, k);
-        return match w {
-            Walked::Found(i) => Walk::Is(i),
-            Walked::Nothing => Walk::Refused(refusal::refuse(Reason::Ask, 0)),
-        };
+        let item = lookup::item_at(stages::coding_of(kind), &file[end..], g, k);
+        return item.ok_or(refusal::refuse(Reason::Ask, 0));
     }
-    Walk::Refused(refusal::refuse(Reason::NoTable, 0))
+    Err(refusal::refuse(Reason::NoTable, 0))
 }
 
 // ASK for a question that may not be asked, else its answer.
-fn if_asked(asked: bool, answer: Lookup) -> Lookup
-    ensures { result ≡ pick asked answer (NoLookup (refusal Ask 0)) }
+fn if_asked(asked: bool, answer: Result<usize, Refusal>) -> Result<usize, Refusal>
+    ensures { result ≡ pick asked answer (Err (refusal Ask 0)) }
 {
     if asked {
         return answer;
     }
-    Lookup::Refused(refusal::refuse(Reason::Ask, 0))
+    Err(refusal::refuse(Reason::Ask, 0))
 }
 
 // What a lookup in one pass says, of a font whose table begins at `end`: the table's refusal, then ASK, then what was found. Asks for places that are
 // offsets in the file.
-fn told(end: usize, w: Looked, asked: bool) -> Lookup
+fn told(end: usize, w: Result<Option<usize>, Fault>, asked: bool) -> Result<usize, Refusal>
     requires { end + looked_place w < 18446744073709551616 }
     ensures { result ≡ lookup_told end asked w }
 {
     match w {
-        Looked::At(g) => if_asked(asked, Lookup::Glyph(g)),
-        Looked::Not(a) => {
-            let t = stages::told_at(end, a);
-            match t {
-                TailAnswer::Sound => {
-                    if_asked(asked, Lookup::Refused(refusal::refuse(Reason::Unmapped, 0)))
-                }
-                TailAnswer::Refused(r) => Lookup::Refused(r),
-            }
-        }
+        Ok(Some(g)) => if_asked(asked, Ok(g)),
+        Ok(None) => if_asked(asked, Err(refusal::refuse(Reason::Unmapped, 0))),
+        Err(t) => Err(stages::fault_at(end, t)),
     }
 }
 
 // The lowest glyph that lists v as a single, in a font whose parts stand in the file (`Placed`): the table's refusals first. Where v may not be asked,
 // looking for it is the check.
-pub fn value_on(file: &[u8], f: Font, v: u32) -> Lookup
+pub fn value_on(file: &[u8], f: Font, v: u32) -> Result<usize, Refusal>
     requires { Placed file.now f }
     ensures { result ≡ after_tail (value_on file.now v) (tabled file.now f) }
 {
@@ -91,7 +64,7 @@ pub fn value_on(file: &[u8], f: Font, v: u32) -> Lookup
         let w = lookup::find_value(stages::coding_of(kind), &file[end..], f.count, v);
         return told(end, w, v <= 0x10FFFF);
     }
-    Lookup::Refused(refusal::refuse(Reason::NoTable, 0))
+    Err(refusal::refuse(Reason::NoTable, 0))
 }
 
 // Whether some value is above 10FFFF.
@@ -122,7 +95,7 @@ fn may_ask(vs: &[u32]) -> bool
 
 // The lowest glyph that lists the sequence vs, in a font whose parts stand in the file (`Placed`): the table's refusals first. Where vs may not be
 // asked, looking for some value is the check.
-pub fn sequence_on(file: &[u8], f: Font, vs: &[u32]) -> Lookup
+pub fn sequence_on(file: &[u8], f: Font, vs: &[u32]) -> Result<usize, Refusal>
     requires { Placed file.now f }
     ensures { result ≡ after_tail (sequence_on file.now vs.now) (tabled file.now f) }
 {
@@ -137,5 +110,5 @@ pub fn sequence_on(file: &[u8], f: Font, vs: &[u32]) -> Lookup
         let w = lookup::find_value(c, &file[end..], f.count, 0);
         return told(end, w, false);
     }
-    Lookup::Refused(refusal::refuse(Reason::NoTable, 0))
+    Err(refusal::refuse(Reason::NoTable, 0))
 }

@@ -1,15 +1,13 @@
 -- What the calls above know of an accepted font: where its parts stand.
-use Rattle.std.specs.Prelude.{ℕ, List}
-use Rattle.header.specs.declared.Checked.{Checked}
-use Rattle.header.specs.declared.Checked.TheVariants.{Sound, Refused}
+use Rattle.std.specs.Prelude.{ℕ, List, Bool, Result, Ok, Err}
 use Rattle.header.specs.Bounds.{Placed}
-use Rattle.stages.specs.declared.ToTable.{ToTable}
-use Rattle.stages.specs.declared.ToTable.TheVariants.{Sound as ToSound, Refused as ToRefused}
+use Rattle.header.specs.declared.Font.{Font}
+use Rattle.refusal.specs.declared.Refusal.{Refusal}
 
-abbrev pub CheckedPlaced : List ℕ → Checked → Type 0
-CheckedPlaced s (Sound f) = Placed s f
-CheckedPlaced s (Refused r) = Unit {0}
+abbrev pub CheckedPlaced : List ℕ → Result Font Refusal → Type 0
+CheckedPlaced s (Ok f) = Placed s f
+CheckedPlaced s (Err r) = Unit {0}
 
-abbrev pub ToTablePlaced : List ℕ → ToTable → Type 0
-ToTablePlaced s (ToSound t f) = Placed s f
-ToTablePlaced s (ToRefused r) = Unit {0}
+abbrev pub ToTablePlaced : List ℕ → Result (Bool × Font) Refusal → Type 0
+ToTablePlaced s (Ok (t , f)) = Placed s f
+ToTablePlaced s (Err r) = Unit {0}

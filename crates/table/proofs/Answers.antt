@@ -20,14 +20,15 @@ use Rattle.table.specs.declared.Item.{Item}
 use Rattle.table.specs.declared.Item.TheVariants.{Single, Start, Value, End}
 use Rattle.table.specs.declared.Step.{Step}
 use Rattle.table.specs.declared.Step.TheVariants.{Start as StepStart, End as StepEnd, Cut as StepCut, Bad as StepBad}
-use Rattle.table.specs.declared.TableAnswer.{TableAnswer}
-use Rattle.table.specs.declared.TableAnswer.TheVariants.{Complete, Cut as TableCut, Bad as TableBad, Trailing}
 use Rattle.table.specs.Reading.{ends_in, step_of, steps_from, check_steps}
 use Rattle.table.specs.Meaning.{item_bytes, bytes, OfCoding}
 use Rattle.table.specs.Skipping.{Phase, singles, opened, filled, is_opened}
 use Rattle.table.proofs.Accepts.{Accepts}
 use Rattle.table.proofs.Stepping.{first, item_front}
 use Rattle.table.proofs.Moves.{ended, ended_more, Move, single, first_value, other_value, first_start, other_start, end_singles, end_sequences, moved}
+use Rattle.std.specs.Prelude.{Result, Ok, Err}
+use Rattle.table.specs.declared.Fault.{Fault}
+use Rattle.table.specs.declared.Fault.TheVariants.{Cut as TableCut, Bad as TableBad, Trailing}
 
 -- as many end marks as descriptions are left
 abbrev ends : ℕ → List Item
@@ -38,15 +39,15 @@ ends_accepted : (n : ℕ) → Accepts n singles (ends n)
 ends_accepted zero = tt
 ends_accepted (suc n) = ends_accepted n
 
-pub same_cut : {j k g h : ℕ} → j ≡ k → g ≡ h → TableCut j g ≡ TableCut k h
-same_cut p q = λ i. TableCut (p i) (q i)
+pub same_cut : {j k g h : ℕ} → j ≡ k → g ≡ h → ◌≡◌ {A = Result (Unit {0}) Fault} (Err (TableCut j g)) (Err (TableCut k h))
+same_cut p q = λ i. Err (TableCut (p i) (q i))
 
-same_bad : {j k g h : ℕ} → j ≡ k → g ≡ h → TableBad j g ≡ TableBad k h
-same_bad p q = λ i. TableBad (p i) (q i)
+same_bad : {j k g h : ℕ} → j ≡ k → g ≡ h → ◌≡◌ {A = Result (Unit {0}) Fault} (Err (TableBad j g)) (Err (TableBad k h))
+same_bad p q = λ i. Err (TableBad (p i) (q i))
 
 module _ (c : Coding) where
   -- the check of bytes that stand at a place, from a phase on, with g descriptions complete and n still to end
-  abbrev pub walk : ℕ → ℕ → Phase → ℕ → List ℕ → TableAnswer
+  abbrev pub walk : ℕ → ℕ → Phase → ℕ → List ℕ → Result (Unit {0}) Fault
   walk g n p at s = check_steps (at + length s) g n (is_opened p) at (steps_from c at 0 s)
 
   -- the items that bytes are, from a phase on
@@ -62,18 +63,18 @@ module _ (c : Coding) where
     pub read : Read n p (s ++ more)
 
   -- the check stops at a place with an answer, whatever follows: the start before it is Q, with one byte more it is not
-  pub record Stops (g n : ℕ) (p : Phase) (at : ℕ) (s : List ℕ) (a : TableAnswer) (j : ℕ) (Q : List ℕ → Type 0) : Type 0 where
+  pub record Stops (g n : ℕ) (p : Phase) (at : ℕ) (s : List ℕ) (a : Result (Unit {0}) Fault) (j : ℕ) (Q : List ℕ → Type 0) : Type 0 where
     pub good : ℕ
     pub place : j ≡ at + good
     pub within : good < length s
     pub start : Q (take good s)
     pub never : (y : List ℕ) → walk g n p at (take (suc good) s ++ y) ≡ a
 
-  abbrev pub Says : ℕ → ℕ → Phase → ℕ → List ℕ → TableAnswer → Type 0
-  Says g n p at s Complete = Read n p s
-  Says g n p at s (TableCut j h) = (j ≡ at + length s) × More n p s
-  Says g n p at s (TableBad j h) = Stops g n p at s (TableBad j h) j (More n p)
-  Says g n p at s (Trailing j) = Stops g n p at s (Trailing j) j (Read n p)
+  abbrev pub Says : ℕ → ℕ → Phase → ℕ → List ℕ → Result (Unit {0}) Fault → Type 0
+  Says g n p at s (Ok tt) = Read n p s
+  Says g n p at s (Err (TableCut j h)) = (j ≡ at + length s) × More n p s
+  Says g n p at s (Err (TableBad j h)) = Stops g n p at s (Err (TableBad j h)) j (More n p)
+  Says g n p at s (Err (Trailing j)) = Stops g n p at s (Err (Trailing j)) j (Read n p)
 
   abbrev pub Told : ℕ → ℕ → Phase → ℕ → List ℕ → Type 0
   Told g n p at s = Says g n p at s (walk g n p at s)
@@ -104,7 +105,7 @@ module _ (c : Coding) where
     more_on : (s : List ℕ) → More n' p' s → More n p (item_bytes c i ++ s)
     more_on s x = record { more = x.more; read = rw (append_assoc (item_bytes c i) s x.more) (read_on (s ++ x.more) x.read) }
 
-    stops_on : (g at : ℕ) (s : List ℕ) (a : TableAnswer) (j : ℕ) (Q Q' : List ℕ → Type 0) → ((t : List ℕ) → Q' t → Q (item_bytes c i ++ t)) →
+    stops_on : (g at : ℕ) (s : List ℕ) (a : Result (Unit {0}) Fault) (j : ℕ) (Q Q' : List ℕ → Type 0) → ((t : List ℕ) → Q' t → Q (item_bytes c i ++ t)) →
         Stops (ended i g) n' p' (at + length (item_bytes c i)) s a j Q' → Stops g n p at (item_bytes c i ++ s) a j Q
     stops_on g at s a j Q Q' h r =
         let x = item_bytes c i in
@@ -117,17 +118,17 @@ module _ (c : Coding) where
           never = λ y. rw (q, take-append-add x s (suc r.good), append_assoc) (on g at (take (suc r.good) s ++ y) ∙ r.never y);
         }
 
-    lift : (g at : ℕ) (s : List ℕ) (a : TableAnswer) → Says (ended i g) n' p' (at + length (item_bytes c i)) s a → Says g n p at (item_bytes c i ++ s) a
-    lift g at s Complete r = read_on s r
-    lift g at s (TableCut j h) r = (omega (arith, r.0, length-append (item_bytes c i) s), more_on s r.1)
-    lift g at s (TableBad j h) r = stops_on g at s (TableBad j h) j (More n p) (More n' p') more_on r
-    lift g at s (Trailing j) r = stops_on g at s (Trailing j) j (Read n p) (Read n' p') read_on r
+    lift : (g at : ℕ) (s : List ℕ) (a : Result (Unit {0}) Fault) → Says (ended i g) n' p' (at + length (item_bytes c i)) s a → Says g n p at (item_bytes c i ++ s) a
+    lift g at s (Ok tt) r = read_on s r
+    lift g at s (Err (TableCut j h)) r = (omega (arith, r.0, length-append (item_bytes c i) s), more_on s r.1)
+    lift g at s (Err (TableBad j h)) r = stops_on g at s (Err (TableBad j h)) j (More n p) (More n' p') more_on r
+    lift g at s (Err (Trailing j)) r = stops_on g at s (Err (Trailing j)) j (Read n p) (Read n' p') read_on r
 
     -- the item, and what is told of the rest
     go_on : (s : List ℕ) (l g at : ℕ) → s ≡ item_bytes c i ++ drop l s → Told (ended i g) n' p' (at + length (item_bytes c i)) (drop l s) → Told g n p at s
     go_on s l g at d r =
         subst (λ (z : List ℕ). Told g n p at z) (sym d)
-        (subst (λ (a : TableAnswer). Says g n p at (item_bytes c i ++ drop l s) a) (sym (on g at (drop l s)))
+        (subst (λ (a : Result (Unit {0}) Fault). Says g n p at (item_bytes c i ++ drop l s) a) (sym (on g at (drop l s)))
         (lift g at (drop l s) (walk (ended i g) n' p' (at + length (item_bytes c i)) (drop l s)) r))
 
   -- a value that is begun, and as many end marks as descriptions are left, complete the table from any phase
@@ -147,18 +148,18 @@ module _ (c : Coding) where
   begun_more n filled s b = begun_by n filled filled (Value b.value) s b refl (other_value c n b.value b.of) (ends_accepted n)
 
   -- a step that ends the check at once
-  at_once : (g n : ℕ) (p : Phase) (at : ℕ) (z : List ℕ) (w : Step) (a : TableAnswer) → 1 ≤ length z → step_of (mark_len c) at (read_token c z) ≡ w →
+  at_once : (g n : ℕ) (p : Phase) (at : ℕ) (z : List ℕ) (w : Step) (a : Result (Unit {0}) Fault) → 1 ≤ length z → step_of (mark_len c) at (read_token c z) ≡ w →
       ((xs : List Step) → check_steps (at + length z) g (suc n) (is_opened p) at (w ∷ xs) ≡ a) → walk g (suc n) p at z ≡ a
   at_once g n p at [] w a h e f = absurd (omega arith)
   at_once g n p at (b ∷ t) w a h e f = ap (check_steps (at + length (b ∷ t)) g (suc n) (is_opened p) at) (first c at b t w e) ∙ f _
 
   -- a mark where a value has to stand
-  marked : (g n at : ℕ) (x s : List ℕ) → length x ≡ mark_len c → ((y : List ℕ) → walk g (suc n) opened at (x ++ y) ≡ TableBad (at + (mark_len c - 1)) g) →
+  marked : (g n at : ℕ) (x s : List ℕ) → length x ≡ mark_len c → ((y : List ℕ) → walk g (suc n) opened at (x ++ y) ≡ Err (TableBad (at + (mark_len c - 1)) g)) →
       Begun (ValueOf c) (value_bytes c) (take (mark_len c - 1) x) → s ≡ x ++ drop (mark_len c) s → Told g (suc n) opened at s
   marked g n at x s lx e b d =
       let m = (mark_small c).0 in
       subst (λ (z : List ℕ). Told g (suc n) opened at z) (sym d)
-      (subst (λ (a : TableAnswer). Says g (suc n) opened at (x ++ drop (mark_len c) s) a) (sym (e (drop (mark_len c) s)))
+      (subst (λ (a : Result (Unit {0}) Fault). Says g (suc n) opened at (x ++ drop (mark_len c) s) a) (sym (e (drop (mark_len c) s)))
       (record {
         good = mark_len c - 1;
         place = refl;
@@ -169,11 +170,11 @@ module _ (c : Coding) where
 
   -- a start or end mark, read where a value has to stand
   bad_mark : (g n at : ℕ) (x y : List ℕ) (t : Token) (w : Step) → length x ≡ mark_len c → read_token c (x ++ y) ≡ t → step_of (mark_len c) at t ≡ w →
-      ((e : ℕ) (xs : List Step) → check_steps e g (suc n) true at (w ∷ xs) ≡ TableBad (at + mark_len c - 1) g) → walk g (suc n) opened at (x ++ y) ≡ TableBad (at + (mark_len c - 1)) g
+      ((e : ℕ) (xs : List Step) → check_steps e g (suc n) true at (w ∷ xs) ≡ Err (TableBad (at + mark_len c - 1) g)) → walk g (suc n) opened at (x ++ y) ≡ Err (TableBad (at + (mark_len c - 1)) g)
   bad_mark g n at x y t w lx e q f =
       let m = (mark_small c).0 in
       let l : at + mark_len c - 1 ≡ at + (mark_len c - 1) = omega arith in
-      at_once g n opened at (x ++ y) w (TableBad (at + (mark_len c - 1)) g) (omega (arith, length-append x y)) (ap (step_of (mark_len c) at) e ∙ q) (λ xs. f (at + length (x ++ y)) xs ∙ ap (λ (k : ℕ). TableBad k g) l)
+      at_once g n opened at (x ++ y) w (Err (TableBad (at + (mark_len c - 1)) g)) (omega (arith, length-append x y)) (ap (step_of (mark_len c) at) e ∙ q) (λ xs. f (at + length (x ++ y)) xs ∙ ap (λ (k : ℕ). Err (TableBad k g)) l)
 
   module _ (s : List ℕ) (h : 1 ≤ length s) (y : Bytes s) (ih : (t : List ℕ) → length t < length s → Bytes t → (g n : ℕ) (p : Phase) (at : ℕ) → Told g n p at t) (g n at : ℕ) where
     rest : (l : ℕ) → 1 ≤ l → (g n : ℕ) (p : Phase) (at : ℕ) → Told g n p at (drop l s)
@@ -209,13 +210,13 @@ module _ (c : Coding) where
         marked g n at (end_bytes c) s (coded c).end_long (λ z. bad_mark g n at (end_bytes c) z TokenEnd (StepEnd (at + mark_len c)) (coded c).end_long ((coded c).end_read z) refl (λ e xs. refl))
         (stopping c).end_begun ((coded c).read_end s y q)
     told p TokenCut q =
-        subst (λ (a : TableAnswer). Says g (suc n) p at s a) (sym (at_once g n p at s StepCut (TableCut (at + length s) g) h (ap (step_of (mark_len c) at) q) (λ xs. refl)))
+        subst (λ (a : Result (Unit {0}) Fault). Says g (suc n) p at s a) (sym (at_once g n p at s StepCut (Err (TableCut (at + length s) g)) h (ap (step_of (mark_len c) at) q) (λ xs. refl)))
         (refl, begun_more n p s ((stopping c).cut_begun s y q))
     told p (TokenBad k) q =
         let d = stopping c in
-        let b : (z : List ℕ) → 1 ≤ length z → read_token c z ≡ TokenBad k → walk g (suc n) p at z ≡ TableBad (at + k) g =
-        λ z l e. at_once g n p at z (StepBad (at + k)) (TableBad (at + k) g) l (ap (step_of (mark_len c) at) e) (λ xs. refl) in
-        subst (λ (a : TableAnswer). Says g (suc n) p at s a) (sym (b s h q))
+        let b : (z : List ℕ) → 1 ≤ length z → read_token c z ≡ TokenBad k → walk g (suc n) p at z ≡ Err (TableBad (at + k) g) =
+        λ z l e. at_once g n p at z (StepBad (at + k)) (Err (TableBad (at + k) g)) l (ap (step_of (mark_len c) at) e) (λ xs. refl) in
+        subst (λ (a : Result (Unit {0}) Fault). Says g (suc n) p at s a) (sym (b s h q))
         (record {
           good = k;
           place = refl;
@@ -245,9 +246,9 @@ module _ (c : Coding) where
   answer_told n s y = told_all (suc (length s)) s (omega arith) y 0 n singles 0
 
   -- with no description left: all is read, or something stands behind
-  abbrev pub at_over : ℕ → List ℕ → TableAnswer
-  at_over at [] = Complete
-  at_over at (b ∷ y) = Trailing at
+  abbrev pub at_over : ℕ → List ℕ → Result (Unit {0}) Fault
+  at_over at [] = Ok tt
+  at_over at (b ∷ y) = Err (Trailing at)
 
   over : (g : ℕ) (p : Phase) (at : ℕ) (y : List ℕ) → walk g zero p at y ≡ at_over at y
   unfolding check_steps steps_from
@@ -271,12 +272,12 @@ module _ (c : Coding) where
       ∙ ap (λ (k : ℕ). at_over k y) l
 
   -- the items in front of an accepted one, written, are cut off at its place, in the description that it stands in
-  begins : (g n : ℕ) (p : Phase) (at : ℕ) → walk g (suc n) p at [] ≡ TableCut at g
+  begins : (g n : ℕ) (p : Phase) (at : ℕ) → walk g (suc n) p at [] ≡ Err (TableCut at g)
   unfolding check_steps steps_from
   begins g n p at = refl
 
   pub stops_before : (is : List Item) (i : Item) (js : List Item) (g n : ℕ) (p : Phase) (at : ℕ) → OfCoding c (is ++ (i ∷ js)) → Accepts n p (is ++ (i ∷ js)) →
-      walk g n p at (bytes c is) ≡ TableCut (at + length (bytes c is)) (g + ends_in is)
+      walk g n p at (bytes c is) ≡ Err (TableCut (at + length (bytes c is)) (g + ends_in is))
   stops_before [] i js g zero p at o a = absurd a
   stops_before [] i js g (suc n) p at o a = begins g n p at ∙ same_cut (omega arith) (omega arith)
   stops_before (x ∷ is) i js g n p at o a =
@@ -289,11 +290,11 @@ module _ (c : Coding) where
 
   -- a token that is bad, behind the items in front of an accepted one
   pub bad_behind : (is : List Item) (i : Item) (js : List Item) (g n : ℕ) (p : Phase) (at : ℕ) (y : List ℕ) (k : ℕ) → 1 ≤ length y → read_token c y ≡ TokenBad k →
-      OfCoding c (is ++ (i ∷ js)) → Accepts n p (is ++ (i ∷ js)) → walk g n p at (bytes c is ++ y) ≡ TableBad (at + length (bytes c is) + k) (g + ends_in is)
+      OfCoding c (is ++ (i ∷ js)) → Accepts n p (is ++ (i ∷ js)) → walk g n p at (bytes c is ++ y) ≡ Err (TableBad (at + length (bytes c is) + k) (g + ends_in is))
   unfolding check_steps
   bad_behind [] i js g zero p at y k h q o a = absurd a
   bad_behind [] i js g (suc n) p at y k h q o a =
-      at_once g n p at y (StepBad (at + k)) (TableBad (at + k) g) h (ap (step_of (mark_len c) at) q) (λ xs. refl) ∙ same_bad (omega arith) (omega arith)
+      at_once g n p at y (StepBad (at + k)) (Err (TableBad (at + k) g)) h (ap (step_of (mark_len c) at) q) (λ xs. refl) ∙ same_bad (omega arith) (omega arith)
   bad_behind (x ∷ is) i js g n p at y k h q o a =
       let m = moved c n p x (is ++ (i ∷ js)) o a in
       let z = item_bytes c x in

@@ -14,11 +14,12 @@ use Rattle.coding.proofs.Codings.{no_key_lem}
 use Rattle.table.specs.declared.Step.{Step}
 use Rattle.table.specs.declared.Step.TheVariants.{Value as StepValue, Start as StepStart, End as StepEnd, Cut as StepCut, Bad as StepBad}
 use Rattle.table.specs.declared.Cursor.{Cursor}
-use Rattle.table.specs.declared.TableAnswer.TheVariants.{Cut as TableCut}
 use Rattle.table.specs.Reading.{step_at, steps_from, steps_at, check_steps, table_of}
 use Rattle.table.specs.Skipping.{Phase, is_opened, Front, front, skipped, no_start, phase_of, cursor_of, front_at, Stands, ended_of, NoValue, refused_of, answer_at, check_front, check_at}
 use Rattle.table.proofs.Stepping.{step_says, says_first, past_end}
 use Rattle.table.proofs.Skipping.{check_skip, skip_left, skip_halts, Halted, HaltedAt, ended_trailing, ended_complete, phase_none}
+use Rattle.std.specs.Prelude.{Err}
+use Rattle.table.specs.declared.Fault.TheVariants.{Cut as TableCut}
 
 -- with no description left
 module _ (c : Coding) (s : List ℕ) (g : ℕ) (o : Bool) (at : ℕ) where
@@ -67,7 +68,7 @@ module _ (c : Coding) where
       go (inr l) =
           let z : length s ≡ at = omega arith in
           sym (ap (refused_of (length s) g) (past_end c s at l).0)
-          ∙ ap (λ (i : ℕ). TableCut i g) z
+          ∙ ap (λ (i : ℕ). Err (TableCut i g)) z
           ∙ sym (ap (λ (t : List ℕ). check_steps (length s) g (suc n) (is_opened p) at (steps_from c at 0 t)) (drop_of_length-le s l))
 
 -- a cursor that was gone to, and the check from there

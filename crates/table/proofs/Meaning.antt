@@ -7,7 +7,6 @@ use lib.ListN.{length, take, drop}
 use Rattle.base.specs.Meaning.{Bytes}
 use Rattle.coding.specs.declared.Coding.{Coding}
 use Rattle.table.specs.declared.Item.{Item}
-use Rattle.table.specs.declared.TableAnswer.TheVariants.{Complete, Cut, Bad, Trailing}
 use Rattle.table.specs.Meaning.{Desc, items_of, items, bytes, encode, start_of, Readable, IsTable, LongestStart, Unfinished, BadAt, TrailingAt, InGlyph}
 use Rattle.table.specs.Reading.{ends_in, items_in, table_of, table_place}
 use Rattle.table.proofs.Reading.{unique, items_back}
@@ -16,9 +15,11 @@ use Rattle.table.proofs.EndToEnd as end_to_end
 use Rattle.table.proofs.Places.{complete_table, table_complete, cut_short, short_cut, bad_broken, broken_bad, trailing_over, over_trailing, within_tail}
 use Rattle.table.proofs.Numbers.{glyph_told, in_cut, in_bad, item_glyph}
 use Rattle.table.proofs.Numbers as numbers
+use Rattle.std.specs.Prelude.{Ok, Err}
+use Rattle.table.specs.declared.Fault.TheVariants.{Cut, Bad, Trailing}
 
 -- exactly the bytes of n descriptions, nothing over, are accepted
-pub complete_exactly : (c : Coding) (n : ℕ) (s : List ℕ) → Bytes s → (table_of c n s ≡ Complete) ↔ IsTable c n s
+pub complete_exactly : (c : Coding) (n : ℕ) (s : List ℕ) → Bytes s → (table_of c n s ≡ Ok tt) ↔ IsTable c n s
 complete_exactly c n s y = (complete_table c n s y, table_complete c n s)
 
 -- a table has one reading: other descriptions have other bytes
@@ -46,7 +47,7 @@ start_on = end_to_end.start_on
 -- TABLE CUT is given exactly when the whole tail could still be completed, but isn't complete; its place is the end, and its glyph is
 -- the one in whose description that stands
 pub cut_exactly : (c : Coding) (n : ℕ) (s : List ℕ) (k g : ℕ) → Bytes s →
-    (table_of c n s ≡ Cut k g) ↔ ((k ≡ length s) × Unfinished c n s × InGlyph c s k g)
+    (table_of c n s ≡ Err (Cut k g)) ↔ ((k ≡ length s) × Unfinished c n s × InGlyph c s k g)
 cut_exactly c n s k g y = (
   λ e. let r = cut_short c n s k g y e in (r.0, r.1, (glyph_told c s n k y g (inl e)).1),
   λ r. in_cut c s n k y g (r.0, r.1) r.2,
@@ -54,13 +55,13 @@ cut_exactly c n s k g y = (
 
 -- the same, whatever the glyph
 pub cut_place : (c : Coding) (n : ℕ) (s : List ℕ) (k : ℕ) → Bytes s →
-    ((g : ℕ) × (table_of c n s ≡ Cut k g)) ↔ ((k ≡ length s) × Unfinished c n s)
+    ((g : ℕ) × (table_of c n s ≡ Err (Cut k g))) ↔ ((k ≡ length s) × Unfinished c n s)
 cut_place c n s k y = (λ (g, e). cut_short c n s k g y e, short_cut c n s k y)
 
 -- TABLE BAD is given exactly when the longest completable start is shorter than the tail and not a complete table; its place is that start's
 -- end, and its glyph is the one in whose description that stands
 pub bad_exactly : (c : Coding) (n : ℕ) (s : List ℕ) (k g : ℕ) → Bytes s →
-    (table_of c n s ≡ Bad k g) ↔ (BadAt c n s k × InGlyph c s k g)
+    (table_of c n s ≡ Err (Bad k g)) ↔ (BadAt c n s k × InGlyph c s k g)
 bad_exactly c n s k g y = (
   λ e. (bad_broken c n s k g y e, (glyph_told c s n k y g (inr e)).1),
   λ r. in_bad c s n k y g r.0 r.1,
@@ -68,12 +69,12 @@ bad_exactly c n s k g y = (
 
 -- the same, whatever the glyph
 pub bad_place : (c : Coding) (n : ℕ) (s : List ℕ) (k : ℕ) → Bytes s →
-    ((g : ℕ) × (table_of c n s ≡ Bad k g)) ↔ BadAt c n s k
+    ((g : ℕ) × (table_of c n s ≡ Err (Bad k g))) ↔ BadAt c n s k
 bad_place c n s k y = (λ (g, e). bad_broken c n s k g y e, broken_bad c n s k y)
 
 -- the glyph that is told with a place is one of the n, and the place stands in its description
 pub glyph_of_place : (c : Coding) (n : ℕ) (s : List ℕ) (k g : ℕ) → Bytes s →
-    (table_of c n s ≡ Cut k g) ⊎ (table_of c n s ≡ Bad k g) → (g < n) × InGlyph c s k g
+    (table_of c n s ≡ Err (Cut k g)) ⊎ (table_of c n s ≡ Err (Bad k g)) → (g < n) × InGlyph c s k g
 glyph_of_place c n s k g y = glyph_told c s n k y g
 
 -- no place stands in the descriptions of two
@@ -86,7 +87,7 @@ pub glyph_of_item : (c : Coding) (ds : List Desc) (is : List Item) (i : Item) (j
 glyph_of_item = item_glyph
 
 -- TRAILING is given exactly when bytes stand after a complete table; its place is the first of them
-pub trailing_exactly : (c : Coding) (n : ℕ) (s : List ℕ) (k : ℕ) → Bytes s → (table_of c n s ≡ Trailing k) ↔ TrailingAt c n s k
+pub trailing_exactly : (c : Coding) (n : ℕ) (s : List ℕ) (k : ℕ) → Bytes s → (table_of c n s ≡ Err (Trailing k)) ↔ TrailingAt c n s k
 trailing_exactly c n s k y = (λ e. let r = trailing_over c n s k y e in (r.1, r.2), λ h. over_trailing c n s k h.0 h.1)
 
 -- that table is then the longest start that could still be completed

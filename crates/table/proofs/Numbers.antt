@@ -13,28 +13,29 @@ use Rattle.coding.specs.declared.Coding.{Coding}
 use Rattle.table.specs.declared.Item.{Item}
 use Rattle.table.specs.declared.Step.{Step}
 use Rattle.table.specs.declared.Step.TheVariants.{Value as StepValue, Start as StepStart, End as StepEnd, Cut as StepCut, Bad as StepBad}
-use Rattle.table.specs.declared.TableAnswer.{TableAnswer}
-use Rattle.table.specs.declared.TableAnswer.TheVariants.{Complete, Cut as TableCut, Bad as TableBad, Trailing}
 use Rattle.table.specs.Meaning.{Desc, items, bytes, OfCoding, encode, start_of, Readable, IsTable, Completable, Unfinished, BadAt, InGlyph}
 use Rattle.table.specs.Reading.{ends_in, steps_from, check_steps, table_of}
 use Rattle.table.proofs.EndToEnd.{bytes_of_append, items_append, encode_append, of_append, of_left, start_before, readable_before}
 use Rattle.table.proofs.Reading.{items_bytes}
 use Rattle.table.proofs.Places.{complete_table, table_complete, cut_short, short_cut, bad_broken, broken_bad, trailing_over, over_trailing, cut_before}
 use Rattle.table.proofs.Answers.{same_cut}
+use Rattle.std.specs.Prelude.{Result, Ok, Err}
+use Rattle.table.specs.declared.Fault.{Fault}
+use Rattle.table.specs.declared.Fault.TheVariants.{Cut as TableCut, Bad as TableBad, Trailing}
 
 -- an answer that tells glyph h
-abbrev pub Tells : ℕ → TableAnswer → Type 0
-Tells h Complete = ⊥
-Tells h (TableCut k g) = g ≡ h
-Tells h (TableBad k g) = g ≡ h
-Tells h (Trailing k) = ⊥
+abbrev pub Tells : ℕ → Result (Unit {0}) Fault → Type 0
+Tells h (Ok tt) = ⊥
+Tells h (Err (TableCut k g)) = g ≡ h
+Tells h (Err (TableBad k g)) = g ≡ h
+Tells h (Err (Trailing k)) = ⊥
 
 -- an answer that comes with no description left
-abbrev Ended : TableAnswer → Type 0
-Ended Complete = Unit {0}
-Ended (TableCut k g) = ⊥
-Ended (TableBad k g) = ⊥
-Ended (Trailing k) = Unit {0}
+abbrev Ended : Result (Unit {0}) Fault → Type 0
+Ended (Ok tt) = Unit {0}
+Ended (Err (TableCut k g)) = ⊥
+Ended (Err (TableBad k g)) = ⊥
+Ended (Err (Trailing k)) = Unit {0}
 
 -- the same steps with another number of descriptions to end: beyond glyph h it makes no difference, and with no more than those
 -- before it the check ends there
@@ -171,11 +172,11 @@ module _ (c : Coding) where
         go (inr l) = subst (Tells h) (table_complete c m s (subst (IsTable c m) (take_all j s l) t)) q
 
     -- where the check ends with no description left, a start is a table
-    start_table : (m : ℕ) → Bytes s → (a : TableAnswer) → table_of c m s ≡ a → Ended a → (j : ℕ) × (j ≤ length s) × IsTable c m (take j s)
-    start_table m y Complete e d = (length s, omega arith, subst (IsTable c m) (sym (take-length s)) (complete_table c m s y e))
-    start_table m y (TableCut k g) e d = absurd d
-    start_table m y (TableBad k g) e d = absurd d
-    start_table m y (Trailing j) e d = let r = trailing_over c m s j y e in (j, omega (arith, r.1), r.2)
+    start_table : (m : ℕ) → Bytes s → (a : Result (Unit {0}) Fault) → table_of c m s ≡ a → Ended a → (j : ℕ) × (j ≤ length s) × IsTable c m (take j s)
+    start_table m y (Ok tt) e d = (length s, omega arith, subst (IsTable c m) (sym (take-length s)) (complete_table c m s y e))
+    start_table m y (Err (TableCut k g)) e d = absurd d
+    start_table m y (Err (TableBad k g)) e d = absurd d
+    start_table m y (Err (Trailing j)) e d = let r = trailing_over c m s j y e in (j, omega (arith, r.1), r.2)
 
     -- the glyph that is told is one of the font's, and the place stands in its description
     module _ (n h : ℕ) (y : Bytes s) (q : Tells h (table_of c n s)) where
@@ -201,30 +202,30 @@ module _ (c : Coding) where
           go j (inr x) l t = x
 
     module _ (n k : ℕ) (y : Bytes s) where
-      cut_glyph : (g : ℕ) → table_of c n s ≡ TableCut k g → (g < n) × InGlyph c s k g
+      cut_glyph : (g : ℕ) → table_of c n s ≡ Err (TableCut k g) → (g < n) × InGlyph c s k g
       cut_glyph g e =
           let q : Tells g (table_of c n s) = subst (Tells g) (sym e) refl in
           let r = (cut_short c n s k g y e).0 in
           (told_less n g y q, told_in n g y q k (λ j a b. absurd (omega arith)))
 
-      bad_glyph : (g : ℕ) → table_of c n s ≡ TableBad k g → (g < n) × InGlyph c s k g
+      bad_glyph : (g : ℕ) → table_of c n s ≡ Err (TableBad k g) → (g < n) × InGlyph c s k g
       bad_glyph g e =
           let q : Tells g (table_of c n s) = subst (Tells g) (sym e) refl in
           (told_less n g y q, told_in n g y q k (bad_broken c n s k g y e).0.longest)
 
-      pub glyph_told : (g : ℕ) → (table_of c n s ≡ TableCut k g) ⊎ (table_of c n s ≡ TableBad k g) → (g < n) × InGlyph c s k g
+      pub glyph_told : (g : ℕ) → (table_of c n s ≡ Err (TableCut k g)) ⊎ (table_of c n s ≡ Err (TableBad k g)) → (g < n) × InGlyph c s k g
       glyph_told g (inl e) = cut_glyph g e
       glyph_told g (inr e) = bad_glyph g e
 
-      pub in_cut : (g : ℕ) → (k ≡ length s) × Unfinished c n s → InGlyph c s k g → table_of c n s ≡ TableCut k g
+      pub in_cut : (g : ℕ) → (k ≡ length s) × Unfinished c n s → InGlyph c s k g → table_of c n s ≡ Err (TableCut k g)
       in_cut g f i =
           let r = short_cut c n s k y f in
-          r.1 ∙ ap (TableCut k) (one_glyph k r.0 g (cut_glyph r.0 r.1).1 i)
+          r.1 ∙ ap ((λ (h : ℕ). Err (TableCut k h))) (one_glyph k r.0 g (cut_glyph r.0 r.1).1 i)
 
-      pub in_bad : (g : ℕ) → BadAt c n s k → InGlyph c s k g → table_of c n s ≡ TableBad k g
+      pub in_bad : (g : ℕ) → BadAt c n s k → InGlyph c s k g → table_of c n s ≡ Err (TableBad k g)
       in_bad g f i =
           let r = broken_bad c n s k y f in
-          r.1 ∙ ap (TableBad k) (one_glyph k r.0 g (bad_glyph r.0 r.1).1 i)
+          r.1 ∙ ap ((λ (h : ℕ). Err (TableBad k h))) (one_glyph k r.0 g (bad_glyph r.0 r.1).1 i)
 
   -- what stands in a start of some bytes, stands in the bytes
   in_start : (s : List ℕ) (k g : ℕ) → InGlyph c (take k s) k g → InGlyph c s k g
@@ -244,6 +245,6 @@ module _ (c : Coding) where
       let y = bytes c (i ∷ js) in
       let w : encode c ds ≡ x ++ y = ap (bytes c) e ∙ bytes_of_append c is (i ∷ js) in
       let t : take (length x) (encode c ds) ≡ x = ap (take (length x)) w ∙ take_at x y (length x) refl in
-      let q : table_of c (length ds) x ≡ TableCut (length x) (ends_in is) = cut_before c (length ds) ds is i js refl o e ∙ same_cut (omega arith) (omega arith) in
+      let q : table_of c (length ds) x ≡ Err (TableCut (length x) (ends_in is)) = cut_before c (length ds) ds is i js refl o e ∙ same_cut (omega arith) (omega arith) in
       let r = glyph_told x (length ds) (length x) (items_bytes c is (of_left c is (i ∷ js) (subst (OfCoding c) e o))) (ends_in is) (inl q) in
       (r.0, in_start (encode c ds) (length x) (ends_in is) (subst (λ (z : List ℕ). InGlyph c z (length x) (ends_in is)) (sym t) r.1))

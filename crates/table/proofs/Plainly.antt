@@ -27,13 +27,14 @@ use Rattle.table.specs.declared.Step.{Step}
 use Rattle.table.specs.declared.Step.TheVariants.{Value as StepValue}
 use Rattle.table.specs.declared.Plain.{Plain}
 use Rattle.table.specs.declared.Plain.TheVariants.{Value as PlainValue, Other}
-use Rattle.table.specs.declared.TableAnswer.{TableAnswer}
-use Rattle.table.specs.declared.TableAnswer.TheVariants.{Complete, Cut as TableCut, Bad as TableBad}
 use Rattle.table.specs.Reading.{step_of, step_at}
 use Rattle.table.specs.Bounds.{StepSays}
 use Rattle.table.specs.Skipping.{plain_of, NoValue, refused_of}
 use Rattle.table.proofs.Firsts.{Stepped, value_step, first_start, first_end}
 use Rattle.table.proofs.Stepping.{past_end}
+use Rattle.std.specs.Prelude.{Result, Ok, Err}
+use Rattle.table.specs.declared.Fault.{Fault}
+use Rattle.table.specs.declared.Fault.TheVariants.{Cut as TableCut, Bad as TableBad}
 
 -- what plainly stands at a place is to be: the defined one, with what the step there says
 abbrev pub Plained : Coding → ℕ → List ℕ → ℕ → Plain → Type 0
@@ -78,10 +79,10 @@ module _ (s : List ℕ) (i k : ℕ) where
     length_some z = plained Utf8 k s i _ (PlainValue (i + l)) stepped_value ((by_length (read_value (drop i s)) l stepped_value.1 e).1 z)
 
 -- why a table is refused, by what the reader of a value says
-abbrev pub said : ℕ → ℕ → ℕ → Read → TableAnswer
-said e g i (ReadValue v l) = Complete
-said e g i ReadCut = TableCut e g
-said e g i (ReadBad k) = TableBad (i + k) g
+abbrev pub said : ℕ → ℕ → ℕ → Read → Result (Unit {0}) Fault
+said e g i (ReadValue v l) = Ok tt
+said e g i ReadCut = Err (TableCut e g)
+said e g i (ReadBad k) = Err (TableBad (i + k) g)
 
 module _ (e g i : ℕ) where
   said_so : (r : Read) → NoValue (step_of 1 i (as_token r)) → said e g i r ≡ refused_of e g (step_of 1 i (as_token r))
@@ -90,8 +91,8 @@ module _ (e g i : ℕ) where
   said_so (ReadBad k) n = refl
 
   -- a mark is bad at its only byte
-  mark_said : (r : Read) (x : Step) → r ≡ ReadBad 0 → TableBad (i + 1 - 1) g ≡ refused_of e g x → said e g i r ≡ refused_of e g x
-  mark_said r x q f = let z : i + 0 ≡ i + 1 - 1 = omega arith in rw q (ap (λ (j : ℕ). TableBad j g) z ∙ f)
+  mark_said : (r : Read) (x : Step) → r ≡ ReadBad 0 → Err (TableBad (i + 1 - 1) g) ≡ refused_of e g x → said e g i r ≡ refused_of e g x
+  mark_said r x q f = let z : i + 0 ≡ i + 1 - 1 = omega arith in rw q (ap (λ (j : ℕ). Err (TableBad j g)) z ∙ f)
 
 module _ (s : List ℕ) (g i : ℕ) (n : NoValue (step_at Utf8 s i)) where
   utf8_within : i < length s → said (length s) g i (read_value (drop i s)) ≡ refused_of (length s) g (step_at Utf8 s i)
@@ -140,17 +141,17 @@ in_one (a ∷ []) h = refl
 in_one (a ∷ (b ∷ s)) h = absurd (omega arith)
 
 module _ (s : List ℕ) (g i : ℕ) where
-  pub ucs2_cut : length s - i < 2 → TableCut (length s) g ≡ refused_of (length s) g (step_at Ucs2 s i)
+  pub ucs2_cut : length s - i < 2 → Err (TableCut (length s) g) ≡ refused_of (length s) g (step_at Ucs2 s i)
   unfolding read_token
   ucs2_cut h = let n = length-drop i s in rw (in_one (drop i s) (omega arith))
 
-  pub ucs2_bad : 2 ≤ length s - i → NoValue (step_at Ucs2 s i) → TableBad (i + 1) g ≡ refused_of (length s) g (step_at Ucs2 s i)
+  pub ucs2_bad : 2 ≤ length s - i → NoValue (step_at Ucs2 s i) → Err (TableBad (i + 1) g) ≡ refused_of (length s) g (step_at Ucs2 s i)
   unfolding read_token mark_len
   ucs2_bad h n = let m = length-drop i s in go (read_ucs2 (drop i s)) (in_two (drop i s) (omega arith)) n
     where
-      go : (t : Token) → InTwo t → NoValue (step_of 2 i t) → TableBad (i + 1) g ≡ refused_of (length s) g (step_of 2 i t)
+      go : (t : Token) → InTwo t → NoValue (step_of 2 i t) → Err (TableBad (i + 1) g) ≡ refused_of (length s) g (step_of 2 i t)
       go (TokenValue v l) w n = absurd n
-      go TokenStart w n = let z : i + 1 ≡ i + 2 - 1 = omega arith in ap (λ (j : ℕ). TableBad j g) z
-      go TokenEnd w n = let z : i + 1 ≡ i + 2 - 1 = omega arith in ap (λ (j : ℕ). TableBad j g) z
+      go TokenStart w n = let z : i + 1 ≡ i + 2 - 1 = omega arith in ap (λ (j : ℕ). Err (TableBad j g)) z
+      go TokenEnd w n = let z : i + 1 ≡ i + 2 - 1 = omega arith in ap (λ (j : ℕ). Err (TableBad j g)) z
       go TokenCut w n = absurd w
       go (TokenBad k) w n = rw w

@@ -14,9 +14,10 @@ use Rattle.coding.specs.Reading.{key_of}
 use Rattle.table.specs.declared.Step.{Step}
 use Rattle.table.specs.declared.Step.TheVariants.{Value as StepValue, Start as StepStart, End as StepEnd, Cut as StepCut, Bad as StepBad}
 use Rattle.table.specs.declared.Plain.TheVariants.{Value as PlainValue, Start as PlainStart, End as PlainEnd, Other}
-use Rattle.table.specs.declared.TableAnswer.TheVariants.{Complete, Trailing}
 use Rattle.table.specs.Reading.{check_steps}
 use Rattle.table.specs.Skipping.{Phase, singles, opened, filled, is_opened, after_value, plain_of, Front, front, skip_from, no_start, phase_of, ended_of, check_front}
+use Rattle.std.specs.Prelude.{Ok, Err}
+use Rattle.table.specs.declared.Fault.TheVariants.{Trailing}
 
 -- what plainly stands there tells the step
 pub record ValueAt (c : Coding) (k : ℕ) (x : Step) (next : ℕ) : Type 0 where
@@ -223,10 +224,10 @@ skip_halts c k n p at (StepBad j ∷ xs) = inr tt
 
 -- the answer behind the last description
 module _ (e at : ℕ) where
-  pub ended_trailing : at < e → Trailing at ≡ ended_of e at
+  pub ended_trailing : at < e → Err (Trailing at) ≡ ended_of e at
   unfolding ended_of
   ended_trailing h = rw (lt-ltb at e h)
 
-  pub ended_complete : e ≤ at → Complete ≡ ended_of e at
+  pub ended_complete : e ≤ at → Ok tt ≡ ended_of e at
   unfolding ended_of
   ended_complete h = rw (le-ltb at e h)

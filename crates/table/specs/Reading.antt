@@ -1,16 +1,16 @@
 -- The items that a list of bytes is, one by one, as far as it can be read; and what the check of a table answers: the grammar followed
 -- step by step.
-use Rattle.std.specs.Prelude.{Bool, true, false, List, [], ◌∷◌, ℕ, zero, suc, ◌-◌, ◌+◌, length, drop}
+use Rattle.std.specs.Prelude.{Bool, true, false, List, [], ◌∷◌, ℕ, zero, suc, ◌-◌, ◌+◌, length, drop, Result, Ok, Err}
 use Rattle.coding.specs.declared.Coding.{Coding}
 use Rattle.table.specs.declared.Step.{Step}
 use Rattle.table.specs.declared.Step.TheVariants.{Value as StepValue, Start as StepStart, End as StepEnd, Cut as StepCut, Bad as StepBad}
-use Rattle.table.specs.declared.TableAnswer.{TableAnswer}
-use Rattle.table.specs.declared.TableAnswer.TheVariants.{Complete, Cut as TableCut, Bad as TableBad, Trailing}
 use Rattle.table.specs.declared.Item.{Item}
 use Rattle.table.specs.declared.Item.TheVariants.{Single, Start, Value, End}
 use Rattle.token.specs.declared.Token.{Token}
 use Rattle.token.specs.declared.Token.TheVariants.{Value as TokenValue, Start as TokenStart, End as TokenEnd, Cut as TokenCut, Bad as TokenBad}
 use Rattle.coding.specs.Reading.{read_token, mark_len}
+use Rattle.table.specs.declared.Fault.{Fault}
+use Rattle.table.specs.declared.Fault.TheVariants.{Cut as TableCut, Bad as TableBad, Trailing}
 
 -- the step that a token at a place makes, where marks are m bytes long
 abbrev pub step_of : ℕ → ℕ → Token → Step
@@ -71,29 +71,32 @@ ends_in (Value v ∷ is) = ends_in is
 ends_in (End ∷ is) = suc (ends_in is)
 
 -- the answer at the end of the bytes, with g descriptions complete and n still to come
-abbrev pub at_end : ℕ → ℕ → ℕ → TableAnswer
-at_end g zero at = Complete
-at_end g (suc n) at = TableCut at g
+abbrev pub at_end : ℕ → ℕ → ℕ → Result (Unit {0}) Fault
+at_end g zero at = Ok tt
+at_end g (suc n) at = Err (TableCut at g)
 
 -- the answer on steps from a place on, of bytes that end at e: g descriptions complete, n still to end, opened just after a start mark
-unfoldable pub check_steps : ℕ → ℕ → ℕ → Bool → ℕ → List Step → TableAnswer
+unfoldable pub check_steps : ℕ → ℕ → ℕ → Bool → ℕ → List Step → Result (Unit {0}) Fault
 check_steps e g n opened at [] = at_end g n at
-check_steps e g zero opened at (x ∷ xs) = Trailing at
+check_steps e g zero opened at (x ∷ xs) = Err (Trailing at)
 check_steps e g (suc n) opened at (StepValue v next ∷ xs) = check_steps e g (suc n) false next xs
-check_steps e g (suc n) true at (StepStart next ∷ xs) = TableBad (next - 1) g
+check_steps e g (suc n) true at (StepStart next ∷ xs) = Err (TableBad (next - 1) g)
 check_steps e g (suc n) false at (StepStart next ∷ xs) = check_steps e g (suc n) true next xs
-check_steps e g (suc n) true at (StepEnd next ∷ xs) = TableBad (next - 1) g
+check_steps e g (suc n) true at (StepEnd next ∷ xs) = Err (TableBad (next - 1) g)
 check_steps e g (suc n) false at (StepEnd next ∷ xs) = check_steps e (suc g) n false next xs
-check_steps e g (suc n) opened at (StepCut ∷ xs) = TableCut e g
-check_steps e g (suc n) opened at (StepBad k ∷ xs) = TableBad k g
+check_steps e g (suc n) opened at (StepCut ∷ xs) = Err (TableCut e g)
+check_steps e g (suc n) opened at (StepBad k ∷ xs) = Err (TableBad k g)
 
 -- the answer on a tail that must be n descriptions
-abbrev pub table_of : Coding → ℕ → List ℕ → TableAnswer
+abbrev pub table_of : Coding → ℕ → List ℕ → Result (Unit {0}) Fault
 table_of c n s = check_steps (length s) 0 n false 0 (steps_from c 0 0 s)
 
 -- its place in the tail
-abbrev pub table_place : TableAnswer → ℕ
-table_place Complete = 0
-table_place (TableCut k g) = k
-table_place (TableBad k g) = k
-table_place (Trailing k) = k
+abbrev pub fault_place : Fault → ℕ
+fault_place (TableCut k g) = k
+fault_place (TableBad k g) = k
+fault_place (Trailing k) = k
+
+abbrev pub table_place : Result (Unit {0}) Fault → ℕ
+table_place (Ok tt) = 0
+table_place (Err t) = fault_place t

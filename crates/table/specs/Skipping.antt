@@ -1,5 +1,5 @@
 -- Going over a table without its values: what plainly stands at a place, how far it is gone over, and what the check answers there.
-use Rattle.std.specs.Prelude.{◌≡◌, Bool, true, false, ◌⊎◌, List, [], ◌∷◌, ℕ, zero, suc, ◌-◌, ◌≤◌, length, eqb, ltb}
+use Rattle.std.specs.Prelude.{◌≡◌, Bool, true, false, ◌⊎◌, List, [], ◌∷◌, ℕ, zero, suc, ◌-◌, ◌≤◌, length, eqb, ltb, Result, Ok, Err}
 use Rattle.base.specs.Meaning.{pick}
 use Rattle.coding.specs.declared.Coding.{Coding}
 use Rattle.coding.specs.Reading.{key_of}
@@ -8,9 +8,9 @@ use Rattle.table.specs.declared.Step.TheVariants.{Value as StepValue, Start as S
 use Rattle.table.specs.declared.Plain.{Plain}
 use Rattle.table.specs.declared.Plain.TheVariants.{Value as PlainValue, Start as PlainStart, End as PlainEnd, Other}
 use Rattle.table.specs.declared.Cursor.{Cursor}
-use Rattle.table.specs.declared.TableAnswer.{TableAnswer}
-use Rattle.table.specs.declared.TableAnswer.TheVariants.{Complete, Cut as TableCut, Bad as TableBad, Trailing}
 use Rattle.table.specs.Reading.{step_at, steps_at, check_steps}
+use Rattle.table.specs.declared.Fault.{Fault}
+use Rattle.table.specs.declared.Fault.TheVariants.{Cut as TableCut, Bad as TableBad, Trailing}
 
 -- where in a description: among its singles, just after a start mark, or in a sequence with a value
 pub data Phase : Type 0 where
@@ -94,8 +94,8 @@ abbrev pub Stands : List ℕ → Cursor → Type 0
 Stands s p = (p.at ≤ length s) × ((p.start ≤ p.at) ⊎ (p.start ≡ no_start))
 
 -- the answer behind the last description, of bytes that end at e
-unfoldable pub ended_of : ℕ → ℕ → TableAnswer
-ended_of e at = pick (ltb at e) (Trailing at) Complete
+unfoldable pub ended_of : ℕ → ℕ → Result (Unit {0}) Fault
+ended_of e at = pick (ltb at e) (Err (Trailing at)) (Ok tt)
 
 -- no value stands there
 abbrev pub NoValue : Step → Type 0
@@ -106,20 +106,20 @@ NoValue StepCut = Unit {0}
 NoValue (StepBad k) = Unit {0}
 
 -- the answer at a step where a value must stand, of bytes that end at e, with g descriptions complete
-abbrev pub refused_of : ℕ → ℕ → Step → TableAnswer
-refused_of e g (StepValue v next) = Complete
-refused_of e g (StepStart next) = TableBad (next - 1) g
-refused_of e g (StepEnd next) = TableBad (next - 1) g
-refused_of e g StepCut = TableCut e g
-refused_of e g (StepBad k) = TableBad k g
+abbrev pub refused_of : ℕ → ℕ → Step → Result (Unit {0}) Fault
+refused_of e g (StepValue v next) = Ok tt
+refused_of e g (StepStart next) = Err (TableBad (next - 1) g)
+refused_of e g (StepEnd next) = Err (TableBad (next - 1) g)
+refused_of e g StepCut = Err (TableCut e g)
+refused_of e g (StepBad k) = Err (TableBad k g)
 
 -- the answer at a cursor, where no value stands or no description is left
-abbrev pub answer_at : Coding → List ℕ → ℕ → Cursor → TableAnswer
+abbrev pub answer_at : Coding → List ℕ → ℕ → Cursor → Result (Unit {0}) Fault
 answer_at c s n p = pick (eqb p.left 0) (ended_of (length s) p.at) (refused_of (length s) (n - p.left) (step_at c s p.at))
 
 -- the check of what is left of a table of n descriptions, from a front on, of bytes that end at e
-abbrev pub check_front : ℕ → ℕ → Front → TableAnswer
+abbrev pub check_front : ℕ → ℕ → Front → Result (Unit {0}) Fault
 check_front e n f = check_steps e (n - f.left) f.left (is_opened f.phase) f.at f.rest
 
-abbrev pub check_at : Coding → List ℕ → ℕ → Cursor → TableAnswer
+abbrev pub check_at : Coding → List ℕ → ℕ → Cursor → Result (Unit {0}) Fault
 check_at c s n p = check_front (length s) n (front_at c s p)

@@ -106,11 +106,10 @@ pub fn value_item(inside: bool, v: u32) -> Item
     Item::Single(v)
 }
 
-// What the check of a table says. Places are counted from the table's first byte; Cut and Bad also tell how many descriptions are
-// complete before the place, which is the glyph whose description is being read there.
+// Why a tail is no table. Places are counted from the table's first byte; Cut and Bad also tell how many descriptions are complete before
+// the place, which is the glyph whose description is being read there.
 #[derive(Clone, Copy)]
-pub enum TableAnswer {
-    Complete,
+pub enum Fault {
     Cut(usize, usize),
     Bad(usize, usize),
     Trailing(usize),
@@ -250,42 +249,42 @@ pub fn skip(c: Coding, s: &[u8], key: u32, from: usize, n: usize, mark: usize) -
 }
 
 // The answer behind the last description, at a place.
-pub fn ended(s: &[u8], at: usize) -> TableAnswer
+pub fn ended(s: &[u8], at: usize) -> Result<(), Fault>
     ensures { result ≡ ended_of (length s.now) at }
 {
     if at < s.len() {
-        return TableAnswer::Trailing(at);
+        return Err(Fault::Trailing(at));
     }
-    TableAnswer::Complete
+    Ok(())
 }
 
 // Why a table is refused at a place in UTF-8 where no value stands, with g descriptions complete before it: the reader of a value says it, of a mark
 // too, with which no value begins. Asks for such a place.
-fn utf8_refused(s: &[u8], at: usize, g: usize) -> TableAnswer
+fn utf8_refused(s: &[u8], at: usize, g: usize) -> Result<(), Fault>
     requires { (at ≤ length s.now) × NoValue (step_at Utf8 s.now at) }
     ensures { result ≡ refused_of (length s.now) g (step_at Utf8 s.now at) }
 {
     let r = utf8::read_value(&s[at..]);
     match r {
-        Read::Value(_, _) => TableAnswer::Complete,
-        Read::Cut => TableAnswer::Cut(s.len(), g),
-        Read::Bad(k) => TableAnswer::Bad(at + k, g),
+        Read::Value(_, _) => Ok(()),
+        Read::Cut => Err(Fault::Cut(s.len(), g)),
+        Read::Bad(k) => Err(Fault::Bad(at + k, g)),
     }
 }
 
 // The same in two bytes: where both are there, a mark or a noncharacter is bad at the second, since the first could begin a value.
-fn ucs2_refused(s: &[u8], at: usize, g: usize) -> TableAnswer
+fn ucs2_refused(s: &[u8], at: usize, g: usize) -> Result<(), Fault>
     requires { (at ≤ length s.now) × NoValue (step_at Ucs2 s.now at) }
     ensures { result ≡ refused_of (length s.now) g (step_at Ucs2 s.now at) }
 {
     if s.len() - at < 2 {
-        return TableAnswer::Cut(s.len(), g);
+        return Err(Fault::Cut(s.len(), g));
     }
-    TableAnswer::Bad(at + 1, g)
+    Err(Fault::Bad(at + 1, g))
 }
 
 // Why a table is refused at a place where a value must stand and none does. Asks for such a place.
-pub fn refused(c: Coding, s: &[u8], at: usize, g: usize) -> TableAnswer
+pub fn refused(c: Coding, s: &[u8], at: usize, g: usize) -> Result<(), Fault>
     requires { (at ≤ length s.now) × NoValue (step_at c s.now at) }
     ensures { result ≡ refused_of (length s.now) g (step_at c s.now at) }
 {
@@ -296,7 +295,7 @@ pub fn refused(c: Coding, s: &[u8], at: usize, g: usize) -> TableAnswer
 }
 
 // The answer of a table of n descriptions where a walk over all that plainly stands there came to an end.
-fn answer_at(c: Coding, s: &[u8], n: usize, p: Cursor) -> TableAnswer
+fn answer_at(c: Coding, s: &[u8], n: usize, p: Cursor) -> Result<(), Fault>
     requires { Stands s.now p × (p.left ≤ n) × ((p.left ≡ 0 → ⊥) → NoValue (step_at c s.now p.at)) }
     ensures { result ≡ answer_at c s.now n p }
 {
@@ -315,7 +314,7 @@ fn skip_all(c: Coding, s: &[u8], from: Cursor) -> Cursor
 }
 
 // The check of what is left of a table of n descriptions: no value is worked out. Asks for a cursor within the table.
-pub fn check_from(c: Coding, tail: &[u8], n: usize, from: Cursor) -> TableAnswer
+pub fn check_from(c: Coding, tail: &[u8], n: usize, from: Cursor) -> Result<(), Fault>
     requires { Stands tail.now from × (1 ≤ from.left) × (from.left ≤ n) }
     ensures { result ≡ check_at c tail.now n from }
 {
@@ -325,7 +324,7 @@ pub fn check_from(c: Coding, tail: &[u8], n: usize, from: Cursor) -> TableAnswer
 // Whether the tail is n descriptions, nothing over. Cut: it could still be completed, the place is its end.
 // Bad: the place is the end of the longest start that could be completed, and that start is no table.
 // Trailing: that start is a table, and the place is the first byte after it.
-pub fn check_table(c: Coding, tail: &[u8], n: usize) -> TableAnswer
+pub fn check_table(c: Coding, tail: &[u8], n: usize) -> Result<(), Fault>
     ensures { result ≡ table_of c n tail.now }
 {
     if n == 0 {

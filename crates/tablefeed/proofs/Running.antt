@@ -16,12 +16,13 @@ use Rattle.token.specs.declared.Token.TheVariants.{Value, Start, End, Cut, Bad}
 use Rattle.coding.specs.declared.Coding.{Coding}
 use Rattle.coding.specs.Reading.{read_token, mark_len}
 use Rattle.coding.proofs.Codings.{growing}
-use Rattle.table.specs.declared.TableAnswer.{TableAnswer}
-use Rattle.table.specs.declared.TableAnswer.TheVariants.{Bad as TableBad, Trailing}
 use Rattle.table.specs.Reading.{steps_from, check_steps, at_end, table_of}
 use Rattle.tablefeed.specs.declared.Run.{Run}
 use Rattle.tablefeed.specs.Reading.{going, stopped, run_of}
 use Rattle.tablefeed.proofs.Turns.{Turn, On, Stop, Wait, turn_of, run_on, check_on, TurnIn, turns}
+use Rattle.std.specs.Prelude.{Result, Err}
+use Rattle.table.specs.declared.Fault.{Fault}
+use Rattle.table.specs.declared.Fault.TheVariants.{Bad as TableBad, Trailing}
 
 -- the same with its place d further on
 abbrev pub moved : ℕ → Run → Run
@@ -32,10 +33,10 @@ abbrev pub Rests : ℕ → ℕ → List ℕ → Run → Type 0
 Rests g at q r = (g ≤ r.ended) × (r.place ≤ at + length q) × (r.halted ≡ 0 → (at ≤ r.place) × (at + length q < r.place + 4))
 
 -- what the check says of bytes that end at e, of a table of n descriptions
-abbrev pub table_told : ℕ → ℕ → Run → TableAnswer
+abbrev pub table_told : ℕ → ℕ → Run → Result (Unit {0}) Fault
 table_told n e r =
     pick (eqb r.halted 0) (at_end r.ended (n - r.ended) e)
-    (pick (eqb r.halted 12) (Trailing r.place) (TableBad r.place r.ended))
+    (pick (eqb r.halted 12) (Err (Trailing r.place)) (Err (TableBad r.place r.ended)))
 
 -- every turn keeps the number of descriptions that are wanted, and leaves no fewer complete
 abbrev Keeps : ℕ → ℕ → Turn → Type 0

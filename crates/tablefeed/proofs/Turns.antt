@@ -15,12 +15,13 @@ use Rattle.coding.specs.Reading.{read_token, mark_len}
 use Rattle.coding.proofs.Codings.{token_sized, mark_small, growing}
 use Rattle.table.specs.declared.Step.{Step}
 use Rattle.table.specs.declared.Step.TheVariants.{Value as StepValue, Start as StepStart, End as StepEnd, Cut as StepCut, Bad as StepBad}
-use Rattle.table.specs.declared.TableAnswer.{TableAnswer}
-use Rattle.table.specs.declared.TableAnswer.TheVariants.{Cut as TableCut, Bad as TableBad}
 use Rattle.table.specs.Reading.{step_of, after_step, steps_from, check_steps}
 use Rattle.table.proofs.Stepping.{first, front}
 use Rattle.tablefeed.specs.declared.Run.{Run}
 use Rattle.tablefeed.specs.Reading.{going, stopped, run_of}
+use Rattle.std.specs.Prelude.{Result, Err}
+use Rattle.table.specs.declared.Fault.{Fault}
+use Rattle.table.specs.declared.Fault.TheVariants.{Cut as TableCut, Bad as TableBad}
 
 -- on with so many descriptions complete and to come, just after a start mark or not, behind l bytes; or stopped after k bytes
 pub data Turn : Type 0 where
@@ -45,10 +46,10 @@ run_on c g o at q (Stop k) = stopped 11 g (at + k)
 run_on c g o at q Wait = going g o at
 
 -- and what the check does, of bytes that end at e
-abbrev pub check_on : Coding → ℕ → ℕ → ℕ → List ℕ → Turn → TableAnswer
+abbrev pub check_on : Coding → ℕ → ℕ → ℕ → List ℕ → Turn → Result (Unit {0}) Fault
 check_on c e g at q (On g' n' o' l) = check_steps e g' n' o' (at + l) (steps_from c (at + l) 0 (drop l q))
-check_on c e g at q (Stop k) = TableBad (at + k) g
-check_on c e g at q Wait = TableCut e g
+check_on c e g at q (Stop k) = Err (TableBad (at + k) g)
+check_on c e g at q Wait = Err (TableCut e g)
 
 -- the bounds of a turn in n bytes
 abbrev pub TurnIn : ℕ → Turn → Type 0

@@ -18,22 +18,21 @@ use Rattle.table.specs.declared.Step.TheVariants.{Value as StepValue, Start as S
 use Rattle.table.specs.Reading.{steps_from, value_item, step_items}
 use Rattle.table.specs.Meaning.{item_bytes, bytes, OfCoding}
 use Rattle.table.proofs.Stepping.{item_front}
-use Rattle.transcode.specs.declared.Measured.{Measured}
-use Rattle.transcode.specs.declared.Measured.TheVariants.{Length, Uncarried}
 use Rattle.transcode.specs.Reading.{measure, table_len, recoded, FirstUncarried}
 use Rattle.transcode.proofs.Turns.{value_more, value_not, start_more, end_more}
+use Rattle.std.specs.Prelude.{Result, Ok, Err}
 
-never : {A : Type 0} (k m : ℕ) → Uncarried k ≡ Length m → A
+never : {A : Type 0} (k m : ℕ) → Err k ≡ Ok m → A
 never k m e = let z : ◌≡◌ {A = ℕ} 0 1 = cc in absurd (omega arith)
 
 -- whatever the steps are, a length that is step_items is that of their bytes
-told_length : (to : Coding) (at n m : ℕ) (i : Bool) (xs : List Step) → measure to at n xs ≡ Length m → m ≡ n + length (bytes to (step_items i xs))
+told_length : (to : Coding) (at n m : ℕ) (i : Bool) (xs : List Step) → measure to at n xs ≡ Ok m → m ≡ n + length (bytes to (step_items i xs))
 unfolding measure step_items value_item when
 told_length to at n m i [] e = let h : n ≡ m = cc in omega arith
 told_length to at n m i (StepValue v next ∷ xs) e = go i (carries_of to v) (λ j q. told_length to next (n + length (value_bytes to v)) m j xs q) e
   where
-    go : (i : Bool) (t : Bool) → ((j : Bool) → measure to next (n + length (value_bytes to v)) xs ≡ Length m → m ≡ n + length (value_bytes to v) + length (bytes to (step_items j xs))) →
-        when t (measure to next (n + length (value_bytes to v)) xs) (Uncarried at) ≡ Length m → m ≡ n + length (bytes to (step_items i (StepValue v next ∷ xs)))
+    go : (i : Bool) (t : Bool) → ((j : Bool) → measure to next (n + length (value_bytes to v)) xs ≡ Ok m → m ≡ n + length (value_bytes to v) + length (bytes to (step_items j xs))) →
+        when t (measure to next (n + length (value_bytes to v)) xs) (Err at) ≡ Ok m → m ≡ n + length (bytes to (step_items i (StepValue v next ∷ xs)))
     go false true f q = omega (arith, f false q, length-append (value_bytes to v) (bytes to (step_items false xs)))
     go true true f q = omega (arith, f true q, length-append (value_bytes to v) (bytes to (step_items true xs)))
     go i false f q = never at m q
@@ -44,25 +43,25 @@ told_length to at n m i (StepEnd next ∷ xs) e =
 told_length to at n m i (StepCut ∷ xs) e = let h : n ≡ m = cc in omega arith
 told_length to at n m i (StepBad k ∷ xs) e = let h : n ≡ m = cc in omega arith
 
-pub length_recoded : (from to : Coding) (s : List ℕ) (m : ℕ) → table_len from to s ≡ Length m → m ≡ length (recoded from to s)
+pub length_recoded : (from to : Coding) (s : List ℕ) (m : ℕ) → table_len from to s ≡ Ok m → m ≡ length (recoded from to s)
 unfolding table_len recoded
 length_recoded from to s m e = omega (arith, told_length to 0 0 m false (steps_from from 0 0 s) e)
 
-pub same_place : {j k : ℕ} → j ≡ k → Uncarried j ≡ Uncarried k
-same_place p = λ i. Uncarried (p i)
+pub same_place : {j k : ℕ} → j ≡ k → ◌≡◌ {A = Result ℕ ℕ} (Err j) (Err k)
+same_place p = λ i. Err (p i)
 
 -- items written in one coding, measured in another
 module _ (from to : Coding) where
   -- what an answer on items says
-  abbrev pub Said : List Item → ℕ → ℕ → Measured → Type 0
-  Said is at n (Length m) = OfCoding to is × (m ≡ n + length (bytes to is))
-  Said is at n (Uncarried k) = FirstUncarried from to is at k
+  abbrev pub Said : List Item → ℕ → ℕ → Result ℕ ℕ → Type 0
+  Said is at n (Ok m) = OfCoding to is × (m ≡ n + length (bytes to is))
+  Said is at n (Err k) = FirstUncarried from to is at k
 
   -- an item in front that is carried
   passed : (i : Item) (is : List Item) (at n next l : ℕ) → ((xs : List Item) → OfCoding to xs → OfCoding to (i ∷ xs)) →
-      next ≡ at + length (item_bytes from i) → l ≡ length (item_bytes to i) → (r : Measured) → Said is next (n + l) r → Said (i ∷ is) at n r
-  passed i is at n next l mk en el (Length m) s = (mk is s.0, omega (arith, s.1, length-append (item_bytes to i) (bytes to is)))
-  passed i is at n next l mk en el (Uncarried k) s =
+      next ≡ at + length (item_bytes from i) → l ≡ length (item_bytes to i) → (r : Result ℕ ℕ) → Said is next (n + l) r → Said (i ∷ is) at n r
+  passed i is at n next l mk en el (Ok m) s = (mk is s.0, omega (arith, s.1, length-append (item_bytes to i) (bytes to is)))
+  passed i is at n next l mk en el (Err k) s =
       record {
         before = i ∷ s.before;
         item = s.item;
@@ -75,8 +74,8 @@ module _ (from to : Coding) where
 
   -- a value in front, carried or not
   by_value : (i : Item) (v : ℕ) (is : List Item) (at n next l : ℕ) → (ValueOf to v → (xs : List Item) → OfCoding to xs → OfCoding to (i ∷ xs)) → (OfCoding to (i ∷ []) → ValueOf to v) →
-      next ≡ at + length (item_bytes from i) → l ≡ length (item_bytes to i) → (x : Measured) → Said is next (n + l) x →
-      (t : Bool) → carries_of to v ≡ t → Said (i ∷ is) at n (when t x (Uncarried at))
+      next ≡ at + length (item_bytes from i) → l ≡ length (item_bytes to i) → (x : Result ℕ ℕ) → Said is next (n + l) x →
+      (t : Bool) → carries_of to v ≡ t → Said (i ∷ is) at n (when t x (Err at))
   unfolding when
   by_value i v is at n next l mk un en el x s true c = passed i is at n next l (mk ((carries_exactly to v).0 c)) en el x s
   by_value i v is at n next l mk un en el x s false c =
@@ -115,7 +114,7 @@ module _ (from to : Coding) where
   grown : (at : ℕ) (x y : List ℕ) → at + length x + length y ≡ at + length (x ++ y)
   grown at x y = omega (arith, length-append x y)
 
-  value_out : (v : ℕ) (at n : ℕ) → (ValueOf to v → ⊥) → {xs ys : List Step} → xs ≡ StepValue v (at + length (value_bytes from v)) ∷ ys → measure to at n xs ≡ Uncarried (at + 0)
+  value_out : (v : ℕ) (at n : ℕ) → (ValueOf to v → ⊥) → {xs ys : List Step} → xs ≡ StepValue v (at + length (value_bytes from v)) ∷ ys → measure to at n xs ≡ Err (at + 0)
   value_out v at n u {xs} {ys} e = value_not to at n xs ys v _ e (no_carry (carries_of to v) refl) ∙ same_place (omega arith)
     where
       no_carry : (t : Bool) → carries_of to v ≡ t → carries_of to v ≡ false
@@ -123,12 +122,12 @@ module _ (from to : Coding) where
       no_carry false q = q
 
   value_in : (v : ℕ) (at n : ℕ) → ValueOf to v → (xs ys : List Step) → xs ≡ StepValue v (at + length (value_bytes from v)) ∷ ys →
-      {r : Measured} → measure to (at + length (value_bytes from v)) (n + length (value_bytes to v)) ys ≡ r → measure to at n xs ≡ r
+      {r : Result ℕ ℕ} → measure to (at + length (value_bytes from v)) (n + length (value_bytes to v)) ys ≡ r → measure to at n xs ≡ r
   value_in v at n c xs ys e {r} q = value_more to at n xs ys v _ _ e ((carries_exactly to v).1 c) refl ∙ q
 
   -- the first that isn't carried, measured
   pub uncarried_measured : (before : List Item) (i : Item) (after : List Item) (at n : ℕ) → OfCoding from (before ++ (i ∷ after)) → OfCoding to before → (OfCoding to (i ∷ []) → ⊥) →
-      measure to at n (steps_from from at 0 (bytes from (before ++ (i ∷ after)))) ≡ Uncarried (at + length (bytes from before))
+      measure to at n (steps_from from at 0 (bytes from (before ++ (i ∷ after)))) ≡ Err (at + length (bytes from before))
   uncarried_measured [] (Single v) after at n o c u = value_out v at n (λ p. u (p, tt)) (item_front from (Single v) at (bytes from after) (o.0, tt))
   uncarried_measured [] (Value v) after at n o c u = value_out v at n (λ p. u (p, tt)) (item_front from (Value v) at (bytes from after) (o.0, tt))
   uncarried_measured [] Start after at n o c u = absurd (u tt)

@@ -14,8 +14,8 @@ use Rattle.table.specs.declared.Step.TheVariants.{Value as StepValue, Start as S
 use Rattle.table.specs.Meaning.{bytes}
 use Rattle.table.specs.Reading.{steps_from, steps_at, value_item, step_items}
 use Rattle.table.proofs.Telling.{told_past}
-use Rattle.transcode.specs.declared.Measured.TheVariants.{Length, Uncarried}
 use Rattle.transcode.specs.Reading.{measure, table_len, recoded}
+use Rattle.std.specs.Prelude.{Ok, Err}
 
 -- the length, by the first step
 module _ (to : Coding) (at n : ℕ) (xs ys : List Step) where
@@ -23,7 +23,7 @@ module _ (to : Coding) (at n : ℕ) (xs ys : List Step) where
   unfolding measure when
   value_more v next l e c z = rw (e, c, z)
 
-  pub value_not : (v next : ℕ) → xs ≡ StepValue v next ∷ ys → carries_of to v ≡ false → measure to at n xs ≡ Uncarried at
+  pub value_not : (v next : ℕ) → xs ≡ StepValue v next ∷ ys → carries_of to v ≡ false → measure to at n xs ≡ Err at
   unfolding measure when
   value_not v next e c = rw (e, c)
 
@@ -35,23 +35,23 @@ module _ (to : Coding) (at n : ℕ) (xs ys : List Step) where
   unfolding measure
   end_more next l e z = rw (e, z)
 
-  pub cut_no_more : xs ≡ StepCut ∷ ys → measure to at n xs ≡ Length n
+  pub cut_no_more : xs ≡ StepCut ∷ ys → measure to at n xs ≡ Ok n
   unfolding measure
   cut_no_more e = rw e
 
-  pub bad_no_more : (k : ℕ) → xs ≡ StepBad k ∷ ys → measure to at n xs ≡ Length n
+  pub bad_no_more : (k : ℕ) → xs ≡ StepBad k ∷ ys → measure to at n xs ≡ Ok n
   unfolding measure
   bad_no_more k e = rw e
 
   -- a value in front, where a length is step_items: the coding carries it
-  pub value_carried : (v next m : ℕ) → xs ≡ StepValue v next ∷ ys → measure to at n xs ≡ Length m → carries_of to v ≡ true
+  pub value_carried : (v next m : ℕ) → xs ≡ StepValue v next ∷ ys → measure to at n xs ≡ Ok m → carries_of to v ≡ true
   value_carried v next m e q = go (carries_of to v) refl
     where
       go : (t : Bool) → carries_of to v ≡ t → carries_of to v ≡ true
       go true c = c
-      go false c = let u : Uncarried at ≡ Length m = sym (value_not v next e c) ∙ q in let z : ◌≡◌ {A = ℕ} 0 1 = cc in absurd (omega arith)
+      go false c = let u : Err at ≡ Ok m = sym (value_not v next e c) ∙ q in let z : ◌≡◌ {A = ℕ} 0 1 = cc in absurd (omega arith)
 
-pub past_no_more : (from to : Coding) (s : List ℕ) (at n : ℕ) → length s ≤ at → measure to at n (steps_at from s at) ≡ Length n
+pub past_no_more : (from to : Coding) (s : List ℕ) (at n : ℕ) → length s ≤ at → measure to at n (steps_at from s at) ≡ Ok n
 unfolding measure steps_from
 past_no_more from to s at n h = rw (lib.ListN.drop_of_length-le s h)
 

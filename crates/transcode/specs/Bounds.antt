@@ -1,9 +1,7 @@
 -- Bounds of the answer.
-use Rattle.std.specs.Prelude.{ℕ, ◌*◌, ◌≤◌, ◌<◌}
-use Rattle.transcode.specs.declared.Measured.{Measured}
-use Rattle.transcode.specs.declared.Measured.TheVariants.{Length, Uncarried}
+use Rattle.std.specs.Prelude.{ℕ, ◌*◌, ◌≤◌, ◌<◌, Result, Ok, Err}
 
 -- the bounds of the answer on a tail of so many bytes
-abbrev pub MeasuredWithin : ℕ → Measured → Type 0
-MeasuredWithin m (Length n) = n ≤ 4 * m
-MeasuredWithin m (Uncarried k) = k < m
+abbrev pub MeasuredWithin : ℕ → Result ℕ ℕ → Type 0
+MeasuredWithin m (Ok n) = n ≤ 4 * m
+MeasuredWithin m (Err k) = k < m

@@ -1,5 +1,5 @@
 -- A table's items in another coding: their bytes, how many those are, and the first value that the coding can't carry.
-use Rattle.std.specs.Prelude.{ℕ, ◌+◌, ◌≡◌, List, [], ◌∷◌, ◌++◌, length}
+use Rattle.std.specs.Prelude.{ℕ, ◌+◌, ◌≡◌, List, [], ◌∷◌, ◌++◌, length, Result, Ok, Err}
 use Rattle.coding.specs.declared.Coding.{Coding}
 use Rattle.table.specs.Meaning.{bytes, OfCoding}
 use Rattle.base.specs.Reading.{when}
@@ -9,25 +9,23 @@ use Rattle.table.specs.declared.Item.{Item}
 use Rattle.table.specs.declared.Step.{Step}
 use Rattle.table.specs.declared.Step.TheVariants.{Value as StepValue, Start as StepStart, End as StepEnd, Cut as StepCut, Bad as StepBad}
 use Rattle.table.specs.Reading.{steps_from, items_in}
-use Rattle.transcode.specs.declared.Measured.{Measured}
-use Rattle.transcode.specs.declared.Measured.TheVariants.{Length, Uncarried}
 
 -- the bytes that a tail's items are in another coding
 unfoldable pub recoded : Coding → Coding → List ℕ → List ℕ
 recoded from to s = bytes to (items_in from s)
 
 -- steps from a place on, with n bytes before them: how many bytes in all, or the place of the first value that is none of the coding's
-unfoldable pub measure : Coding → ℕ → ℕ → List Step → Measured
-measure to at n [] = Length n
-measure to at n (StepValue v next ∷ xs) = when (carries_of to v) (measure to next (n + length (value_bytes to v)) xs) (Uncarried at)
+unfoldable pub measure : Coding → ℕ → ℕ → List Step → Result ℕ ℕ
+measure to at n [] = Ok n
+measure to at n (StepValue v next ∷ xs) = when (carries_of to v) (measure to next (n + length (value_bytes to v)) xs) (Err at)
 measure to at n (StepStart next ∷ xs) = measure to next (n + mark_len to) xs
 measure to at n (StepEnd next ∷ xs) = measure to next (n + mark_len to) xs
-measure to at n (StepCut ∷ xs) = Length n
-measure to at n (StepBad k ∷ xs) = Length n
+measure to at n (StepCut ∷ xs) = Ok n
+measure to at n (StepBad k ∷ xs) = Ok n
 
 -- how many bytes a tail's items are in another coding; or the place in the tail of the first value, singles and sequences alike, that
 -- the coding can't carry
-unfoldable pub table_len : Coding → Coding → List ℕ → Measured
+unfoldable pub table_len : Coding → Coding → List ℕ → Result ℕ ℕ
 table_len from to s = measure to 0 0 (steps_from from 0 0 s)
 
 -- items, written in one coding from a place on, of which the first whose value another coding can't carry stands at a place:

@@ -1,26 +1,17 @@
 // Inner layer: a table's items written in another coding. Definitions: specs/Meaning.antt, specs/Reading.antt.
 #![tactic(auto)]
 
-ghost use Rattle.std.specs.Prelude.{◌≡◌, ◌≤◌, length};
+ghost use Rattle.std.specs.Prelude.{◌≡◌, ◌≤◌, length, Ok};
 ghost use Rattle.base.specs.Reading.{over};
 ghost use Rattle.transcode.specs.Reading.{recoded, table_len};
 ghost use Rattle.transcode.specs.Bounds.{MeasuredWithin};
-ghost use Rattle.transcode.specs.declared.Measured.TheVariants.{Length};
 
 use coding::Coding;
 use table::Step;
 
-// How many bytes a table's items are in another coding, or the place of the first value that the coding can't carry. Which glyph lists that
-// value is left to the caller.
-#[derive(Clone, Copy)]
-pub enum Measured {
-    Length(usize),
-    Uncarried(usize),
-}
-
 // The bytes that a tail's items are in another coding, or the place in the tail of the first value that it can't carry: one pass.
 // Asks for a tail no longer than a file, so that the sum can't wrap: the font's check gives it.
-pub fn table_len(from: Coding, to: Coding, tail: &[u8]) -> Measured
+pub fn table_len(from: Coding, to: Coding, tail: &[u8]) -> Result<usize, usize>
     requires { length tail.now ≤ 1048576 }
     ensures equal { result ≡ table_len from to tail.now }
     ensures bounded { MeasuredWithin (length tail.now) result }
@@ -36,7 +27,7 @@ pub fn table_len(from: Coding, to: Coding, tail: &[u8]) -> Measured
                     n += coding::value_len(to, v);
                     at = next;
                 } else {
-                    return Measured::Uncarried(at);
+                    return Err(at);
                 }
             }
             Step::Start(next) => {
@@ -47,16 +38,16 @@ pub fn table_len(from: Coding, to: Coding, tail: &[u8]) -> Measured
                 n += mark;
                 at = next;
             }
-            Step::Cut => return Measured::Length(n),
-            Step::Bad(_) => return Measured::Length(n),
+            Step::Cut => return Ok(n),
+            Step::Bad(_) => return Ok(n),
         }
     }
-    Measured::Length(n)
+    Ok(n)
 }
 
 // A tail's items in another coding, to the front of a buffer. Asks that the coding carries every value, and for room: `table_len` tells both.
 pub fn write_table(from: Coding, to: Coding, tail: &[u8], out: &mut [u8])
-    requires { (table_len from to tail.now ≡ Length (length (recoded from to tail.now))) × (length (recoded from to tail.now) ≤ length out.old) }
+    requires { (table_len from to tail.now ≡ Ok (length (recoded from to tail.now))) × (length (recoded from to tail.now) ≤ length out.old) }
     ensures { out.new ≡ over (recoded from to tail.now) out.old }
 {
     let mut n: usize = 0;

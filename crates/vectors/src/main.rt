@@ -209,10 +209,10 @@ fn sound(rt: &impl Print, f: Font) -> io::Result<()> {
     }
 }
 
-fn checked(rt: &impl Print, a: Checked) -> io::Result<()> {
+fn checked(rt: &impl Print, a: Result<Font, Refusal>) -> io::Result<()> {
     match a {
-        Checked::Sound(f) => sound(rt, f),
-        Checked::Refused(r) => refused(rt, r),
+        Ok(f) => sound(rt, f),
+        Err(r) => refused(rt, r),
     }
 }
 
@@ -220,14 +220,14 @@ fn ask_check(rt: &impl Print, file: &[u8]) -> io::Result<()> {
     checked(rt, fonts::check(file))
 }
 
-fn located(rt: &impl Print, p: Part, view: &[u8]) -> io::Result<()> {
+fn located(rt: &impl Print, p: Result<Part, Refusal>, view: &[u8]) -> io::Result<()> {
     match p {
         Part::At(start, len) => {
             decimal(rt, start)?;
             say(rt, b" ")?;
             decimal(rt, len)?;
         }
-        Part::Refused(r) => refused(rt, r)?,
+        Err(r) => refused(rt, r)?,
     }
     say(rt, b" ")?;
     bytes(rt, view)
@@ -259,8 +259,8 @@ fn ask_pixel(rt: &impl Print, file: &[u8], g: usize, y: usize, x: usize) -> io::
     say(rt, b" ")?;
     let p = fonts::pixel(file, g, y, x);
     match p {
-        Pixel::Bit(b) => decimal(rt, base::size(base::wide(b))),
-        Pixel::Refused(r) => refused(rt, r),
+        Ok(b) => decimal(rt, base::size(base::wide(b))),
+        Err(r) => refused(rt, r),
     }
 }
 
@@ -321,7 +321,7 @@ fn ask_metrics(rt: &impl Print, file: &[u8], g: usize, a: &[u8]) -> io::Result<(
     asked(rt, logical)?;
     let r = fonts::metrics(file, g);
     match r {
-        GlyphMetrics::Is(m) => told(
+        Ok(m) => told(
             rt,
             is_same(
                 m,
@@ -332,7 +332,7 @@ fn ask_metrics(rt: &impl Print, file: &[u8], g: usize, a: &[u8]) -> io::Result<(
                 signed(logical),
             ),
         ),
-        GlyphMetrics::Refused(r) => refused(rt, r),
+        Err(r) => refused(rt, r),
     }
 }
 
@@ -359,18 +359,18 @@ fn ask_item(rt: &impl Print, file: &[u8], g: usize, k: usize) -> io::Result<()> 
     say(rt, b" ")?;
     let w = fonts::item(file, g, k);
     match w {
-        Walk::Is(i) => item_text(rt, i),
-        Walk::Refused(r) => refused(rt, r),
+        Ok(i) => item_text(rt, i),
+        Err(r) => refused(rt, r),
     }
 }
 
-fn looked_up(rt: &impl Print, l: Lookup) -> io::Result<()> {
+fn looked_up(rt: &impl Print, l: Result<usize, Refusal>) -> io::Result<()> {
     match l {
-        Lookup::Glyph(g) => {
+        Ok(g) => {
             say(rt, b"glyph ")?;
             decimal(rt, g)
         }
-        Lookup::Refused(r) => refused(rt, r),
+        Err(r) => refused(rt, r),
     }
 }
 
@@ -461,10 +461,10 @@ fn ask_cuts(rt: &impl Print, file: &[u8], a: usize, b: usize) -> io::Result<()> 
     checked(rt, loader::closed_answer(third))
 }
 
-fn reply(rt: &impl Print, a: Reply) -> io::Result<()> {
+fn reply(rt: &impl Print, a: Result<(), Refusal>) -> io::Result<()> {
     match a {
-        Reply::Taken => say(rt, b"taken"),
-        Reply::Refused(r) => refused(rt, r),
+        Ok(()) => say(rt, b"taken"),
+        Err(r) => refused(rt, r),
     }
 }
 
@@ -611,7 +611,7 @@ fn build_len(script: &[u8], at: usize, op: u8) -> usize {
     }
 }
 
-fn converted(which: u8, file: &[u8], out: &mut [u8]) -> Converted {
+fn converted(which: u8, file: &[u8], out: &mut [u8]) -> Result<usize, Refusal> {
     match which {
         0 => fonts::psf1_to_psf2(file, out),
         1 => fonts::psf2_to_psf1(file, out),
@@ -642,12 +642,12 @@ fn ask_convert(rt: &impl Print, which: u8, file: &[u8], out: &mut [u8]) -> io::R
     let c = converted(which, file, out);
     let mut len = 0;
     match c {
-        Converted::Wrote(n) => {
+        Ok(n) => {
             say(rt, b"wrote ")?;
             decimal(rt, n)?;
             len = n;
         }
-        Converted::Refused(r) => refused(rt, r)?,
+        Err(r) => refused(rt, r)?,
     }
     say(rt, b" sum ")?;
     rt.print(checksum(out))?;
@@ -655,7 +655,7 @@ fn ask_convert(rt: &impl Print, which: u8, file: &[u8], out: &mut [u8]) -> io::R
     Ok(len)
 }
 
-fn edited(op: u8, buf: &mut [u8], len: usize, g: usize, v: u32) -> Edited {
+fn edited(op: u8, buf: &mut [u8], len: usize, g: usize, v: u32) -> Result<usize, Refusal> {
     if op == 0x22 {
         return edit::add_mapping(buf, len, g, v);
     }
@@ -694,12 +694,12 @@ fn ask_edit(
     let e = edited(op, buf, len, g, v);
     let mut now = old;
     match e {
-        Edited::Length(n) => {
+        Ok(n) => {
             say(rt, b"length ")?;
             decimal(rt, n)?;
             now = n;
         }
-        Edited::Refused(r) => refused(rt, r)?,
+        Err(r) => refused(rt, r)?,
     }
     say(rt, b" sum ")?;
     rt.print(checksum(buf))?;

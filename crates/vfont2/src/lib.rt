@@ -7,8 +7,8 @@ ghost use Rattle.header.specs.declared.Kind.TheVariants.{Vfont2 as vfont2};
 ghost use Rattle.header.specs.Meaning.{entry_len};
 ghost use Rattle.header.specs.Reading.{head_of, vfont2_shaped, on_fields, header_bytes};
 
-use header::{Checked, Fields, Font, Head, Kind};
-use refusal::Reason;
+use header::{Fields, Font, Kind};
+use refusal::{Reason, Refusal};
 
 #[derive(Clone, Copy)]
 pub struct Vfont2;
@@ -30,18 +30,18 @@ impl Vfont2 {
 
     // The font that these fields describe: refusal 7. Asks for small numbers: `header::head_of` has bounded them.
     #[tactic(auto, using(header::proofs::Cases::broad))]
-    fn shaped(f: Fields) -> Checked
+    fn shaped(f: Fields) -> Result<Font, Refusal>
         requires { (f.header ≤ 4096) × (f.count ≤ 4096) × (f.size < 4294967296) }
         ensures { result ≡ vfont2_shaped f }
     {
         if 255 < f.height {
-            return Checked::Refused(refusal::refuse(Reason::Shape, 24));
+            return Err(refusal::refuse(Reason::Shape, 24));
         }
         if 255 < f.width {
-            return Checked::Refused(refusal::refuse(Reason::Shape, 28));
+            return Err(refusal::refuse(Reason::Shape, 28));
         }
         let bitmaps = Vfont2::first_bitmap(f.header, f.count);
-        Checked::Sound(Font {
+        Ok(Font {
             kind: Kind::Vfont2,
             count: f.count,
             entries: f.header,
@@ -55,14 +55,11 @@ impl Vfont2 {
     }
 
     // What the header of a vfont2 file says: refusals 3 to 7.
-    pub fn says(file: &[u8]) -> Checked
+    pub fn says(file: &[u8]) -> Result<Font, Refusal>
         ensures { result ≡ on_fields vfont2_shaped (head_of file.now) }
     {
-        let h = header::head_of(file, Vfont2::HEADER_LEN);
-        match h {
-            Head::Read(f) => Vfont2::shaped(f),
-            Head::Refused(r) => Checked::Refused(r),
-        }
+        let fields = header::head_of(file, Vfont2::HEADER_LEN)?;
+        Vfont2::shaped(fields)
     }
 
     // The header of a vfont2 file, to the front. Asks as PSF2's.

@@ -2,8 +2,5 @@
 use borrow.Author.Rules.{rules}
 use Rattle.answers.proofs.compared_answer.Goals as goal
 
-pub returns-in-Pairs : goal.returns-in-Pairs
-returns-in-Pairs c = rw (c.in-Pairs.is, c.no_refusal.ensures)
-
-pub returns-in-Refused : goal.returns-in-Refused
-returns-in-Refused c = rw (c.in-Refused.is, c.refusal_told.ensures)
+pub returns-in-Ok : goal.returns-in-Ok
+returns-in-Ok c = rw (c.in-Ok.is, c.no_refusal.ensures)

@@ -3,8 +3,8 @@ use mathlib.Core.Path.{◌∙◌}
 use borrow.Author.Rules.{rules}
 use Rattle.answers.proofs.edited_answer.Goals as goal
 
-pub returns-in-Length : goal.returns-in-Length
-returns-in-Length c = c.number_answer.ensures ∙ rw c.in-Length.is
+pub returns-in-Ok : goal.returns-in-Ok
+returns-in-Ok c = c.number_answer.ensures ∙ rw c.in-Ok.is
 
-pub returns-in-Refused : goal.returns-in-Refused
-returns-in-Refused c = c.refused_number.ensures ∙ rw c.in-Refused.is
+pub returns-in-Err : goal.returns-in-Err
+returns-in-Err c = c.refused_number.ensures ∙ rw c.in-Err.is

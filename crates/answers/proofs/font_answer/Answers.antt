@@ -4,8 +4,8 @@ use Rattle.answers.specs.Meaning.{font_answer}
 use borrow.Author.Rules.{rules}
 use Rattle.answers.proofs.font_answer.Goals as goal
 
-pub returns-in-Sound : goal.returns-in-Sound
-returns-in-Sound c = rw (c.in-Sound.is, c.no_refusal.ensures, c.kind_number.ensures, c.flag_number.ensures)
+pub returns-in-Ok : goal.returns-in-Ok
+returns-in-Ok c = rw (c.in-Ok.is, c.no_refusal.ensures, c.kind_number.ensures, c.flag_number.ensures)
 
-pub returns-in-Refused : goal.returns-in-Refused
-returns-in-Refused c = c.refused_font.ensures ∙ ap font_answer (sym c.in-Refused.is)
+pub returns-in-Err : goal.returns-in-Err
+returns-in-Err c = c.refused_font.ensures ∙ ap font_answer (sym c.in-Err.is)

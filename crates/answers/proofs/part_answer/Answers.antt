@@ -4,8 +4,8 @@ use Rattle.answers.specs.Meaning.{part_answer}
 use borrow.Author.Rules.{rules}
 use Rattle.answers.proofs.part_answer.Goals as goal
 
-pub returns-in-At : goal.returns-in-At
-returns-in-At c = rw (c.in-At.is, c.no_refusal.ensures)
+pub returns-in-Ok : goal.returns-in-Ok
+returns-in-Ok c = rw (c.in-Ok.is, c.no_refusal.ensures)
 
-pub returns-in-Refused : goal.returns-in-Refused
-returns-in-Refused c = c.refused_part.ensures ∙ ap part_answer (sym c.in-Refused.is)
+pub returns-in-Err : goal.returns-in-Err
+returns-in-Err c = c.refused_part.ensures ∙ ap part_answer (sym c.in-Err.is)

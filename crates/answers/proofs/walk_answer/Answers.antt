@@ -4,5 +4,5 @@ use Rattle.answers.specs.Meaning.{walk_answer}
 use borrow.Author.Rules.{rules}
 use Rattle.answers.proofs.walk_answer.Goals as goal
 
-pub returns-in-Refused : goal.returns-in-Refused
-returns-in-Refused c = c.refused_item.ensures ∙ ap walk_answer (sym c.in-Refused.is)
+pub returns-in-Err : goal.returns-in-Err
+returns-in-Err c = c.refused_item.ensures ∙ ap walk_answer (sym c.in-Err.is)

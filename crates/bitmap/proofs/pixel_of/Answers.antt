@@ -1,9 +1,9 @@
 -- `bitmap::pixel_of` meets its contract: the pixel's byte stands in its row. Assumes that the bitmap stands in the file.
 use native.Mathlib.Omega.{arith}
 use mathlib.Core.Path.{◌∙◌, ap}
-use Rattle.bitmap.specs.declared.Pixel.TheVariants.{Refused as NoPixel}
 use Rattle.bitmap.proofs.Places.{row_fits, pixel_inside, pixel_read, pixel_beside, pixel_below}
 use Rattle.bitmap.proofs.pixel_of.Goals as goal
+use Rattle.std.specs.Prelude.{Err}
 
 pub overflow_mul-at : goal.overflow_mul-at
 overflow_mul-at c = omega (arith, c.requires.0, row_fits c.args.file.now c.args.b c.requires.1 c.args.y c.if-y-b.true _ c.row_bytes.ensures.0)
@@ -21,7 +21,7 @@ pub returns-then-x-b : goal.returns-then-x-b
 returns-then-x-b c = pixel_read c.args.file.now c.args.b c.requires.1 c.args.y c.if-y-b.true _ c.row_bytes.ensures.0 c.args.x c.if-x-b.true _ c.bit_of.ensures
 
 pub returns-then-y-b : goal.returns-then-y-b
-returns-then-y-b c = ap NoPixel c.refuse.ensures ∙ pixel_beside c.args.file.now c.args.b c.requires.1 c.args.y c.if-y-b.true c.args.x c.if-x-b.false
+returns-then-y-b c = ap Err c.refuse.ensures ∙ pixel_beside c.args.file.now c.args.b c.requires.1 c.args.y c.if-y-b.true c.args.x c.if-x-b.false
 
 pub returns : goal.returns
-returns c = ap NoPixel c.refuse-2.ensures ∙ pixel_below c.args.file.now c.args.b c.args.y c.args.x c.if-y-b.false
+returns c = ap Err c.refuse-2.ensures ∙ pixel_below c.args.file.now c.args.b c.args.y c.args.x c.if-y-b.false

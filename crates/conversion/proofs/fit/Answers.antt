@@ -2,7 +2,6 @@
 use native.Mathlib.Omega.{arith}
 use mathlib.Core.Path.{◌∙◌, ap}
 use Rattle.conversion.proofs.Cases as cases
-use Rattle.conversion.specs.declared.Prepared.TheVariants.{Refused as Unprepared}
 use borrow.Author.Rules.{rules}
 use Rattle.conversion.proofs.fit.Goals as goal
 

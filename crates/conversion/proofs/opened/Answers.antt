@@ -1,15 +1,15 @@
 -- `conversion::opened` meets its contract: the font's own refusal, then its kind. Assumes nothing.
 use mathlib.Core.Path.{sym, ◌∙◌, ap}
+use Rattle.std.proofs.lemmas.Result.{err_from_is_err_and}
 use Rattle.conversion.proofs.Cases as cases
-use Rattle.header.specs.declared.Checked.TheVariants.{Refused}
-use borrow.Author.Rules.{rules}
 use Rattle.conversion.proofs.opened.Goals as goal
+use Rattle.std.specs.Prelude.{Err}
+
+pub returns-in_err-f-clause-equal : goal.returns-in_err-f-clause-equal
+returns-in_err-f-clause-equal c = let p = err_from_is_err_and c.from_residual.result c.from_residual.ensures.1 in rw (p.1, p.2) (cases.not_opened c.args.k c.args.file.now _ (sym c.check.ensures.equal ∙ c.in_err-f.was))
 
 pub returns-then-same_kind : goal.returns-then-same_kind
-returns-then-same_kind c = let q = sym c.same_kind.ensures ∙ c.if-same_kind.true in let e = sym c.check-a.ensures.equal ∙ c.in-Sound.is in record { equal = cases.right_kind c.args.k c.args.file.now _ e q; bounded = (rw c.in-Sound.is at c.check-a.ensures.bounded, cases.kind_same c.args.k _ q) }
+returns-then-same_kind c = let q = sym c.same_kind.ensures ∙ c.if-same_kind.true in let e = sym c.check.ensures.equal ∙ c.in_ok-f.was in record { equal = cases.right_kind c.args.k c.args.file.now _ e q; bounded = (rw c.in_ok-f.was at c.check.ensures.bounded, cases.kind_same c.args.k _ q) }
 
-pub returns-else-same_kind : goal.returns-else-same_kind
-returns-else-same_kind c = record { equal = ap Refused c.refuse.ensures ∙ cases.wrong_kind c.args.k c.args.file.now _ (sym c.check-a.ensures.equal ∙ c.in-Sound.is) (sym c.same_kind.ensures ∙ c.if-same_kind.false); bounded = tt }
-
-pub returns-in-Refused : goal.returns-in-Refused
-returns-in-Refused c = record { equal = cases.not_opened c.args.k c.args.file.now _ (sym c.check-a.ensures.equal ∙ c.in-Refused.is); bounded = tt }
+pub returns-clause-equal : goal.returns-clause-equal
+returns-clause-equal c = ap Err c.refuse.ensures ∙ cases.wrong_kind c.args.k c.args.file.now _ (sym c.check.ensures.equal ∙ c.in_ok-f.was) (sym c.same_kind.ensures ∙ c.if-same_kind.false)

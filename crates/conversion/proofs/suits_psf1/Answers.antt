@@ -2,12 +2,12 @@
 use borrow.Author.Rules.{rules}
 use mathlib.Core.Path.{sym, ◌∙◌, ap}
 use Rattle.conversion.proofs.Cases as cases
-use Rattle.conversion.specs.declared.Suits.TheVariants.{Refused as Unsuited}
 use borrow.Author.Tests.{not-true, not-false}
 use Rattle.conversion.proofs.suits_psf1.Goals as goal
+use Rattle.std.specs.Prelude.{Err}
 
 pub returns-then-not-is_psf1_count : goal.returns-then-not-is_psf1_count
-returns-then-not-is_psf1_count c = ap Unsuited c.refuse.ensures ∙ cases.count_wrong c.args.f (sym c.is_psf1_count.ensures ∙ c.if-not-is_psf1_count.true)
+returns-then-not-is_psf1_count c = ap Err c.refuse.ensures ∙ cases.count_wrong c.args.f (sym c.is_psf1_count.ensures ∙ c.if-not-is_psf1_count.true)
 
 pub returns : goal.returns
 returns c = cases.width_eight c.args.f (sym c.is_psf1_count.ensures ∙ c.if-not-is_psf1_count.false) c.if-f-ne8.false

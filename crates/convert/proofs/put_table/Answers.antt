@@ -5,17 +5,17 @@ use Prim.Native.Nat.{◌≤◌}
 use Rattle.conversion.specs.declared.Conversion.TheVariants.{Psf1ToPsf2, Psf2ToPsf1}
 use lib.ListN.{length}
 use Rattle.base.specs.Reading.{over}
-use Rattle.transcode.specs.declared.Measured.TheVariants.{Length}
 use Rattle.conversion.specs.declared.Conversion.{Conversion}
 use Rattle.conversion.specs.Reading.{table_in}
 use borrow.Author.Rules.{rules}
 use Rattle.convert.proofs.put_table.Goals as goal
+use Rattle.std.specs.Prelude.{Ok}
 
 pub write_table-requires : goal.write_table-requires
-write_table-requires c = let e = c.in-Psf1ToPsf2.is in (measured_is Psf1ToPsf2 c.args.c c.args.tail.now e ∙ c.requires.0 ∙ ap (λ (x : Conversion). Length (length (table_in x c.args.tail.now))) e, subst (λ (x : Conversion). length (table_in x c.args.tail.now) ≤ length c.args.out.now) e c.requires.1)
+write_table-requires c = let e = c.in-Psf1ToPsf2.is in (measured_is Psf1ToPsf2 c.args.c c.args.tail.now e ∙ c.requires.0 ∙ ap (λ (x : Conversion). Ok (length (table_in x c.args.tail.now))) e, subst (λ (x : Conversion). length (table_in x c.args.tail.now) ≤ length c.args.out.now) e c.requires.1)
 
 pub write_table-requires-in-Psf2ToPsf1 : goal.write_table-requires-in-Psf2ToPsf1
-write_table-requires-in-Psf2ToPsf1 c = let e = c.in-Psf2ToPsf1.is in (measured_is Psf2ToPsf1 c.args.c c.args.tail.now e ∙ c.requires.0 ∙ ap (λ (x : Conversion). Length (length (table_in x c.args.tail.now))) e, subst (λ (x : Conversion). length (table_in x c.args.tail.now) ≤ length c.args.out.now) e c.requires.1)
+write_table-requires-in-Psf2ToPsf1 c = let e = c.in-Psf2ToPsf1.is in (measured_is Psf2ToPsf1 c.args.c c.args.tail.now e ∙ c.requires.0 ∙ ap (λ (x : Conversion). Ok (length (table_in x c.args.tail.now))) e, subst (λ (x : Conversion). length (table_in x c.args.tail.now) ≤ length c.args.out.now) e c.requires.1)
 
 pub copy-requires : goal.copy-requires
 copy-requires c = subst (λ (x : Conversion). length (table_in x c.args.tail.now) ≤ length c.args.out.now) c.in-Psf2ToVfont2.is c.requires.1

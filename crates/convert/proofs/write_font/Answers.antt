@@ -4,7 +4,6 @@ use lib.ListN.{length, length-append}
 use Rattle.base.specs.Reading.{over}
 use Rattle.base.proofs.Over.{over_none, behind}
 use Rattle.base.proofs.Parts.{rest_all}
-use Rattle.transcode.specs.declared.Measured.TheVariants.{Length}
 use Rattle.header.specs.Reading.{header_bytes}
 use Rattle.header.proofs.Written.{header_length}
 use Rattle.layout.specs.Reading.{dispatch_bytes, evenly, glyphs_in}
@@ -18,6 +17,7 @@ use native.Mathlib.Nat.{mul-le-mul}
 use Rattle.conversion.proofs.Cases.{front_is}
 use borrow.Author.Rules.{rules}
 use Rattle.convert.proofs.write_font.Goals as goal
+use Rattle.std.specs.Prelude.{Ok}
 
 pub overflow_mul-bitmaps : goal.overflow_mul-bitmaps
 overflow_mul-bitmaps c = let n : c.args.f.count ≤ 4096 = c.requires.0.2 in let e = c.entry_len.ensures.1 in omega (arith, mul-le-mul n e)
@@ -65,7 +65,7 @@ pub slice_bounds-put_table-start-2 : goal.slice_bounds-put_table-start-2
 slice_bounds-put_table-start-2 c = let fr = front_is c.args.c c.args.f c.target_of-kind.result c.header_len-entries.result c.entry_len.result c.glyph_bytes-size.result c.target_of-kind.ensures c.header_len-entries.ensures.0 c.entry_len.ensures.0 c.glyph_bytes-size.ensures.0 in omega (arith, fr, c.requires.4)
 
 pub put_table-requires : goal.put_table-requires
-put_table-requires c = let fr = front_is c.args.c c.args.f c.target_of-kind.result c.header_len-entries.result c.entry_len.result c.glyph_bytes-size.result c.target_of-kind.ensures c.header_len-entries.ensures.0 c.entry_len.ensures.0 c.glyph_bytes-size.ensures.0 in (subst (λ (t : List ℕ). measured_of c.args.c t ≡ Length (length (table_in c.args.c t))) (sym (rest_all c.args.file.now c.args.f.end)) c.requires.1, let e = ap (λ (t : List ℕ). length (table_in c.args.c t)) (rest_all c.args.file.now c.args.f.end) in omega (arith, fr, e, c.requires.4))
+put_table-requires c = let fr = front_is c.args.c c.args.f c.target_of-kind.result c.header_len-entries.result c.entry_len.result c.glyph_bytes-size.result c.target_of-kind.ensures c.header_len-entries.ensures.0 c.entry_len.ensures.0 c.glyph_bytes-size.ensures.0 in (subst (λ (t : List ℕ). measured_of c.args.c t ≡ Ok (length (table_in c.args.c t))) (sym (rest_all c.args.file.now c.args.f.end)) c.requires.1, let e = ap (λ (t : List ℕ). length (table_in c.args.c t)) (rest_all c.args.file.now c.args.f.end) in omega (arith, fr, e, c.requires.4))
 
 pub shape_of-out : goal.shape_of-out
 shape_of-out c = let fr = front_is c.args.c c.args.f c.target_of-kind.result c.header_len-entries.result c.entry_len.result c.glyph_bytes-size.result c.target_of-kind.ensures c.header_len-entries.ensures.0 c.entry_len.ensures.0 c.glyph_bytes-size.ensures.0 in omega (arith, fr, c.requires.4)

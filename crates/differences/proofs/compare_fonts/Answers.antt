@@ -7,16 +7,16 @@ use lib.ListN.{length}
 use Rattle.refusal.specs.Meaning.{refusal}
 use Rattle.refusal.specs.declared.Reason.TheVariants.{Room}
 use Rattle.differences.specs.Reading.{pairs_of}
-use Rattle.differences.specs.declared.Compared.TheVariants.{Pairs, Refused}
 use Rattle.differences.proofs.Pairs.{numbers_length}
 use Rattle.differences.proofs.Cases.{no_room, has_room, none_over, pairs_most}
 use borrow.Author.Rules.{rules}
 use Rattle.differences.proofs.compare_fonts.Goals as goal
 use Rattle.differences.proofs.compare_fonts.Goals.{then-out-most+else-out-need+else-n-eq0, else-out-most}
+use Rattle.std.specs.Prelude.{Ok, Err}
 
 pub returns-then-n-eq0 : goal.returns-then-n-eq0
 returns-then-n-eq0 c = let e : c.count_pairs-n.result ≡ length (pairs_of c.args.a.now c.args.f c.args.b.now c.args.h) = c.count_pairs-n.ensures.0 in
-    record { answer = ap Pairs (sym c.if-n-eq0.true ∙ e) ∙ has_room (length c.args.out.now) (length (pairs_of c.args.a.now c.args.f c.args.b.now c.args.h)) (omega (arith, e, c.if-out-need.false)); buffer = none_over (pairs_of c.args.a.now c.args.f c.args.b.now c.args.h) c.args.out.now (sym e ∙ c.if-n-eq0.true) }
+    record { answer = ap Ok (sym c.if-n-eq0.true ∙ e) ∙ has_room (length c.args.out.now) (length (pairs_of c.args.a.now c.args.f c.args.b.now c.args.h)) (omega (arith, e, c.if-out-need.false)); buffer = none_over (pairs_of c.args.a.now c.args.f c.args.b.now c.args.h) c.args.out.now (sym e ∙ c.if-n-eq0.true) }
 
 pub put_pairs-used-requires : goal.put_pairs-used-requires
 put_pairs-used-requires c = let l : 2 * length (pairs_of c.args.a.now c.args.f c.args.b.now c.args.h) ≤ length c.args.out.now = elim c.if-out-most.branch [ then-out-most+else-out-need+else-n-eq0 w ↦ omega (arith, w.count_pairs-n.ensures.0, w.if-out-need.false) | else-out-most w ↦ omega (arith, pairs_most c.args.a.now c.args.f c.args.b.now c.args.h c.requires.0.1 c.requires.1.1, w.if-out-most.false) ] in
@@ -25,4 +25,4 @@ put_pairs-used-requires c = let l : 2 * length (pairs_of c.args.a.now c.args.f c
 pub returns : goal.returns
 returns c = let l : 2 * length (pairs_of c.args.a.now c.args.f c.args.b.now c.args.h) ≤ length c.args.out.now = elim c.if-out-most.branch [ then-out-most+else-out-need+else-n-eq0 w ↦ omega (arith, w.count_pairs-n.ensures.0, w.if-out-need.false) | else-out-most w ↦ omega (arith, pairs_most c.args.a.now c.args.f c.args.b.now c.args.h c.requires.0.1 c.requires.1.1, w.if-out-most.false) ] in
     let e : c.put_pairs-used.result / 2 ≡ length (pairs_of c.args.a.now c.args.f c.args.b.now c.args.h) = omega (arith, c.put_pairs-used.ensures.0, numbers_length (pairs_of c.args.a.now c.args.f c.args.b.now c.args.h)) in
-    record { answer = ap Pairs e ∙ has_room (length c.args.out.now) (length (pairs_of c.args.a.now c.args.f c.args.b.now c.args.h)) l; buffer = c.put_pairs-used.ensures.1 }
+    record { answer = ap Ok e ∙ has_room (length c.args.out.now) (length (pairs_of c.args.a.now c.args.f c.args.b.now c.args.h)) l; buffer = c.put_pairs-used.ensures.1 }

@@ -5,10 +5,10 @@ use borrow.Author.Rules.{rules}
 use Rattle.differences.proofs.compare_second.Goals as goal
 
 pub compare_fonts-requires : goal.compare_fonts-requires
-compare_fonts-requires c = (c.requires, rw c.in-Sound.is at c.check-y.ensures.bounded)
+compare_fonts-requires c = (c.requires, rw c.in-Ok.is at c.check-y.ensures.bounded)
 
-pub returns-in-Sound : goal.returns-in-Sound
-returns-in-Sound c = let both = second_sound c.args.a.now c.args.f c.args.b.now c.args.out.now _ _ _ (sym c.check-y.ensures.equal ∙ c.in-Sound.is) (c.compare_fonts.ensures.answer, c.compare_fonts.ensures.buffer) in record { answer = both.0; buffer = both.1 }
+pub returns-in-Ok : goal.returns-in-Ok
+returns-in-Ok c = let both = second_sound c.args.a.now c.args.f c.args.b.now c.args.out.now _ _ _ (sym c.check-y.ensures.equal ∙ c.in-Ok.is) (c.compare_fonts.ensures.answer, c.compare_fonts.ensures.buffer) in record { answer = both.0; buffer = both.1 }
 
-pub returns-in-Refused : goal.returns-in-Refused
-returns-in-Refused c = let both = second_refused c.args.a.now c.args.f c.args.b.now c.args.out.now _ (sym c.check-y.ensures.equal ∙ c.in-Refused.is) in record { answer = both.0; buffer = both.1 }
+pub returns-in-Err : goal.returns-in-Err
+returns-in-Err c = let both = second_refused c.args.a.now c.args.f c.args.b.now c.args.out.now _ (sym c.check-y.ensures.equal ∙ c.in-Err.is) in record { answer = both.0; buffer = both.1 }

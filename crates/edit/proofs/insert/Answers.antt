@@ -5,19 +5,19 @@ use native.Mathlib.Omega.{arith}
 use lib.ListN.{length}
 use Rattle.utf8.specs.Meaning.{utf8_bytes}
 use Rattle.moves.proofs.Moves.{part_laid}
-use Rattle.edit.specs.declared.Edited.TheVariants.{Refused}
 use Rattle.edit.proofs.Cases as cases
 use borrow.Author.Rules.{rules}
 use Rattle.edit.proofs.insert.Goals as goal
+use Rattle.std.specs.Prelude.{Err}
 
 pub returns-then-is_noncharacter : goal.returns-then-is_noncharacter
-returns-then-is_noncharacter c = record { answer = ap Refused c.refuse.ensures ∙ cases.asked (length c.args.buf.now) c.args.len c.args.v (sym c.is_noncharacter.ensures ∙ c.if-is_noncharacter.true); buffer = refl }
+returns-then-is_noncharacter c = record { answer = ap Err c.refuse.ensures ∙ cases.asked (length c.args.buf.now) c.args.len c.args.v (sym c.is_noncharacter.ensures ∙ c.if-is_noncharacter.true); buffer = refl }
 
 pub returns-then-need-gt-LIMIT : goal.returns-then-need-gt-LIMIT
-returns-then-need-gt-LIMIT c = record { answer = ap Refused c.refuse-then-need-gt-LIMIT.ensures ∙ cases.over_limit (length c.args.buf.now) c.args.len c.args.v _ c.len_utf8-n.ensures.0 c.if-need-gt-LIMIT.true ∙ cases.unasked (length c.args.buf.now) c.args.len c.args.v (sym c.is_noncharacter.ensures ∙ c.if-is_noncharacter.false); buffer = refl }
+returns-then-need-gt-LIMIT c = record { answer = ap Err c.refuse-then-need-gt-LIMIT.ensures ∙ cases.over_limit (length c.args.buf.now) c.args.len c.args.v _ c.len_utf8-n.ensures.0 c.if-need-gt-LIMIT.true ∙ cases.unasked (length c.args.buf.now) c.args.len c.args.v (sym c.is_noncharacter.ensures ∙ c.if-is_noncharacter.false); buffer = refl }
 
 pub returns-then-buf-need : goal.returns-then-buf-need
-returns-then-buf-need c = record { answer = ap Refused c.refuse-then-buf-need.ensures ∙ cases.no_room (length c.args.buf.now) c.args.len c.args.v _ c.len_utf8-n.ensures.0 c.if-need-gt-LIMIT.false c.if-buf-need.true ∙ cases.unasked (length c.args.buf.now) c.args.len c.args.v (sym c.is_noncharacter.ensures ∙ c.if-is_noncharacter.false); buffer = refl }
+returns-then-buf-need c = record { answer = ap Err c.refuse-then-buf-need.ensures ∙ cases.no_room (length c.args.buf.now) c.args.len c.args.v _ c.len_utf8-n.ensures.0 c.if-need-gt-LIMIT.false c.if-buf-need.true ∙ cases.unasked (length c.args.buf.now) c.args.len c.args.v (sym c.is_noncharacter.ensures ∙ c.if-is_noncharacter.false); buffer = refl }
 
 pub returns : goal.returns
 returns c = let a = c.args in

@@ -2,13 +2,13 @@
 use mathlib.Core.Path.{sym, ◌∙◌, ap}
 use native.Mathlib.Omega.{arith}
 use lib.Seq.{length-take-le}
-use Rattle.edit.specs.declared.Sought.TheVariants.{Refused}
 use Rattle.edit.proofs.Cases as cases
 use borrow.Author.Rules.{rules}
 use Rattle.edit.proofs.sought_of.Goals as goal
+use Rattle.std.specs.Prelude.{Err}
 
 pub returns-then-room-len : goal.returns-then-room-len
-returns-then-room-len c = record { equal = ap Refused c.refuse.ensures ∙ cases.too_long c.args.buf.now c.args.len c.args.g c.args.v c.if-room-len.true; bounded = tt }
+returns-then-room-len c = record { equal = ap Err c.refuse.ensures ∙ cases.too_long c.args.buf.now c.args.len c.args.g c.args.v c.if-room-len.true; bounded = tt }
 
 pub slice_bounds-sought_in-end : goal.slice_bounds-sought_in-end
 slice_bounds-sought_in-end c = sym (length-take-le c.args.len c.args.buf.now (omega arith))

@@ -6,13 +6,13 @@ use Rattle.entryfeed.proofs.Feeding.{found, taller}
 use Rattle.entryfeed.proofs.more_sums.Goals as goal
 
 pub overflow_mul-result : goal.overflow_mul-result
-overflow_mul-result c = let i = (scan_broken _ _ _ _ _ (sym c.scan_entries-r.ensures ∙ c.in-BrokenAt.is)).within in omega arith
+overflow_mul-result c = let i = (scan_broken _ _ _ _ _ (sym c.scan_entries-r.ensures ∙ c.in-Err.is)).within in omega arith
 
-pub overflow_add-result-in-BrokenAt : goal.overflow_add-result-in-BrokenAt
-overflow_add-result-in-BrokenAt c = let i = (scan_broken _ _ _ _ _ (sym c.scan_entries-r.ensures ∙ c.in-BrokenAt.is)).within in omega arith
+pub overflow_add-result-in-Err : goal.overflow_add-result-in-Err
+overflow_add-result-in-Err c = let i = (scan_broken _ _ _ _ _ (sym c.scan_entries-r.ensures ∙ c.in-Err.is)).within in omega arith
 
-pub returns-in-BrokenAt : goal.returns-in-BrokenAt
-returns-in-BrokenAt c = found _ _ _ c.args.s.now _ _ c.if-x-ne0.false _ _ c.in-BrokenAt.is c.scan_entries-r.ensures
+pub returns-in-Err : goal.returns-in-Err
+returns-in-Err c = found _ _ _ c.args.s.now _ _ c.if-x-ne0.false _ _ c.in-Err.is c.scan_entries-r.ensures
 
-pub returns-in-Greatest : goal.returns-in-Greatest
-returns-in-Greatest c = taller _ _ _ c.args.s.now _ _ c.if-x-ne0.false _ _ _ _ _ c.in-Greatest.is c.scan_entries-r.ensures c.larger_of.ensures c.larger_of-in-Greatest.ensures
+pub returns-in-Ok : goal.returns-in-Ok
+returns-in-Ok c = taller _ _ _ c.args.s.now _ _ c.if-x-ne0.false _ _ _ _ _ c.in-Ok.is c.scan_entries-r.ensures c.larger_of.ensures c.larger_of-in-Ok.ensures

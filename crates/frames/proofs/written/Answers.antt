@@ -2,11 +2,5 @@
 use borrow.Author.Rules.{rules}
 use Rattle.frames.proofs.written.Goals as goal
 
-pub returns-in-Sound : goal.returns-in-Sound
-returns-in-Sound c = rw c.in-Sound.is c.output_of.ensures
-
-pub returns-in-Refused : goal.returns-in-Refused
-returns-in-Refused c = rw c.in-Refused.is c.refused_output.ensures
-
-pub returns-in-TooBig : goal.returns-in-TooBig
-returns-in-TooBig c = rw c.in-TooBig.is c.output_of-in-TooBig.ensures
+pub returns-in-Ok : goal.returns-in-Ok
+returns-in-Ok c = rw c.in-Ok.is c.output_of.ensures

@@ -7,10 +7,10 @@ use borrow.Author.Rules.{rules}
 use Rattle.listing.proofs.list.Goals as goal
 
 pub list_font-requires : goal.list_font-requires
-list_font-requires c = (rw c.in-Sound.is at c.check-a.ensures.bounded, omega arith)
+list_font-requires c = (rw c.in-Ok.is at c.check-a.ensures.bounded, omega arith)
 
-pub returns-in-Sound : goal.returns-in-Sound
-returns-in-Sound c = let e = listing_answer c.args.file.now _ c.if-file-gt65536.false (sym c.in-Sound.is ∙ c.check-a.ensures.equal) in record { equal = same_text _ _ _ _ _ e c.list_font.ensures.equal; bounded = omega (arith, ap length e, c.list_font.ensures.bounded) }
+pub returns-in-Ok : goal.returns-in-Ok
+returns-in-Ok c = let e = listing_answer c.args.file.now _ c.if-file-gt65536.false (sym c.in-Ok.is ∙ c.check-a.ensures.equal) in record { equal = same_text _ _ _ _ _ e c.list_font.ensures.equal; bounded = omega (arith, ap length e, c.list_font.ensures.bounded) }
 
-pub returns-in-Refused : goal.returns-in-Refused
-returns-in-Refused c = let e = listing_answer c.args.file.now _ c.if-file-gt65536.false (sym c.in-Refused.is ∙ c.check-a.ensures.equal) in record { equal = same_text _ _ _ _ _ e c.list_refused.ensures.equal; bounded = omega (arith, ap length e, c.list_refused.ensures.bounded) }
+pub returns-in-Err : goal.returns-in-Err
+returns-in-Err c = let e = listing_answer c.args.file.now _ c.if-file-gt65536.false (sym c.in-Err.is ∙ c.check-a.ensures.equal) in record { equal = same_text _ _ _ _ _ e c.list_refused.ensures.equal; bounded = omega (arith, ap length e, c.list_refused.ensures.bounded) }

@@ -1,13 +1,13 @@
 -- `loader::told_font` meets its contract. Assumes nothing.
+use Rattle.std.proofs.lemmas.Result.{err_from_is_err_and}
 use Rattle.loader.proofs.Cases.{font_cut, entries_refused, to_tail}
-use borrow.Author.Rules.{rules}
 use Rattle.loader.proofs.told_font.Goals as goal
 
-pub returns-in-Sound-e : goal.returns-in-Sound-e
-returns-in-Sound-e c = to_tail c.args.l _ _ _ _ _ _ c.check_length-b.ensures c.in-Sound.is c.told_entries-e.ensures c.in-Sound-e.is c.told_tail.ensures
+pub returns-in_err-g : goal.returns-in_err-g
+returns-in_err-g c = let p = err_from_is_err_and c.from_residual.result c.from_residual.ensures.1 in rw (p.1, p.2) (font_cut c.args.l _ _ _ c.check_length.ensures c.in_err-g.was)
 
-pub returns-in-Refused-e : goal.returns-in-Refused-e
-returns-in-Refused-e c = entries_refused c.args.l _ _ _ _ _ c.check_length-b.ensures c.in-Sound.is c.told_entries-e.ensures c.in-Refused-e.is
+pub returns-in_err-k : goal.returns-in_err-k
+returns-in_err-k c = let p = err_from_is_err_and c.from_residual-in_err-k.result c.from_residual-in_err-k.ensures.1 in rw (p.1, p.2) (entries_refused c.args.l _ _ _ _ _ c.check_length.ensures c.in_ok-g.was c.told_entries.ensures c.in_err-k.was)
 
-pub returns-in-Refused : goal.returns-in-Refused
-returns-in-Refused c = font_cut c.args.l _ _ _ c.check_length-b.ensures c.in-Refused.is
+pub returns : goal.returns
+returns c = to_tail c.args.l _ _ _ _ _ _ c.check_length.ensures c.in_ok-g.was c.told_entries.ensures c.in_ok-k.was c.told_tail.ensures

@@ -2,14 +2,14 @@
 use mathlib.Core.Path.{sym, ◌∙◌, ap}
 use native.Mathlib.Omega.{arith}
 use Rattle.table.proofs.Telling.{told_value, told_start, told_end, told_cut, told_bad, told_past}
-use Rattle.lookup.specs.declared.Walked.TheVariants.{Found}
 use Rattle.lookup.specs.Reading.{item_at}
 use Rattle.lookup.proofs.Turns.{inner_told, item_here, item_next, item_past, no_item, glyph_past, item_none}
 use Rattle.lookup.proofs.item_at.Goals as goal
+use Rattle.std.specs.Prelude.{Some}
 
 pub returns-then-left-eq0 : goal.returns-then-left-eq0
 returns-then-left-eq0 c = let w = rw c.in-Value.is at c.step_at-t.ensures.1 in
-    ap Found c.value_item.ensures
+    ap Some c.value_item.ensures
     ∙ sym (ap (item_at _ _) (told_value _ _ _ _ _ w.2) ∙ item_here _ _ _ _ c.if-glyphs-eq0.true c.if-left-eq0.true)
     ∙ c.loop-at.invariant.1
 

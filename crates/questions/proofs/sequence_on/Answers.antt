@@ -3,7 +3,6 @@ use mathlib.Core.Path.{sym, ◌∙◌, refl, ap}
 use mathlib.Core.Bool.{true, false}
 use native.Mathlib.Omega.{arith}
 use Rattle.base.proofs.Parts.{bytes_of}
-use Rattle.questions.specs.declared.Lookup.TheVariants.{Refused as NoLookup}
 use Rattle.questions.specs.Reading.{sequence_on}
 use Rattle.questions.proofs.Answers.{sequence_told, sequence_ask, sequence_bare, bare_told, place_told, looked_told, ask_one}
 use borrow.Author.Rules.{rules}
@@ -14,6 +13,7 @@ use Rattle.questions.proofs.told.Reads as told-reads
 use Rattle.refusal.proofs.refuse.Reads as refuse-reads
 use Rattle.stages.proofs.coding_of.Reads as coding-of-reads
 use Rattle.questions.proofs.sequence_on.Goals as goal
+use Rattle.std.specs.Prelude.{Err}
 
 pub find_sequence-w-requires : goal.find_sequence-w-requires
 find_sequence-w-requires c = ask_one c.args.vs.now (sym c.may_ask.ensures ∙ c.if-may_ask.true)
@@ -31,4 +31,4 @@ pub returns-then-f : goal.returns-then-f
 returns-then-f c = c.told-then-f.ensures ∙ looked_told c.args.file.now c.args.f _ c.coding_of-c.ensures _ _ c.find_value-w.ensures c.if-f.true false (sequence_on c.args.file.now c.args.vs.now) (sequence_ask c.args.file.now c.args.f c.args.vs.now c.if-f.true _ c.may_ask.ensures c.if-may_ask.false)
 
 pub returns : goal.returns
-returns c = bare_told c.args.file.now c.args.f c.if-f.false _ (sequence_on c.args.file.now c.args.vs.now) (ap NoLookup c.refuse.ensures ∙ sequence_bare c.args.file.now c.args.f c.args.vs.now c.if-f.false)
+returns c = bare_told c.args.file.now c.args.f c.if-f.false _ (sequence_on c.args.file.now c.args.vs.now) (ap Err c.refuse.ensures ∙ sequence_bare c.args.file.now c.args.f c.args.vs.now c.if-f.false)

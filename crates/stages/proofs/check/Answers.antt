@@ -1,20 +1,16 @@
 -- `stages::check` meets its contract: up to the table, then the table. Assumes nothing.
-use native.Mathlib.Omega.{arith}
 use mathlib.Core.Path.{sym, ◌∙◌}
+use Rattle.std.proofs.lemmas.Result.{err_from_is_err_and}
 use Rattle.stages.proofs.Cases as cases
-use borrow.Author.Rules.{rules}
-use Rattle.stages.proofs.check_tail.Reads as check-tail-reads
-use Rattle.stages.proofs.check_to_table.Reads as check-to-table-reads
 use Rattle.stages.proofs.check.Goals as goal
 
-pub check_tail-t-requires : goal.check_tail-t-requires
-check_tail-t-requires c = rw c.in-Sound.is at c.check_to_table-d.ensures.bounded
+pub returns-in_err-table-clause-equal : goal.returns-in_err-table-clause-equal
+returns-in_err-table-clause-equal c = let p = err_from_is_err_and c.from_residual.result c.from_residual.ensures.1 in rw (p.1, p.2) (cases.refused_by c.args.file.now _ (sym c.in_err-table.was ∙ c.check_to_table.ensures.equal))
 
-pub returns-in-Sound-t : goal.returns-in-Sound-t
-returns-in-Sound-t c = let e = cases.checked_by c.args.file.now _ _ (sym c.in-Sound.is ∙ c.check_to_table-d.ensures.equal) _ (sym c.in-Sound-t.is ∙ c.check_tail-t.ensures) in record { equal = e; bounded = cases.checked_placed c.args.file.now (omega (arith, c.type_inv.file 3)) _ e }
+pub returns-in_err-check_tail-clause-equal : goal.returns-in_err-check_tail-clause-equal
+returns-in_err-check_tail-clause-equal c =
+    let p = err_from_is_err_and c.from_residual-in_err-check_tail.result c.from_residual-in_err-check_tail.ensures.1 in
+    rw (p.1, p.2) (cases.checked_by c.args.file.now _ _ (sym c.in_ok-table.was ∙ c.check_to_table.ensures.equal) _ (sym c.in_err-check_tail.was ∙ c.check_tail.ensures))
 
-pub returns-in-Refused-t : goal.returns-in-Refused-t
-returns-in-Refused-t c = let e = cases.checked_by c.args.file.now _ _ (sym c.in-Sound.is ∙ c.check_to_table-d.ensures.equal) _ (sym c.in-Refused-t.is ∙ c.check_tail-t.ensures) in record { equal = e; bounded = tt }
-
-pub returns-in-Refused : goal.returns-in-Refused
-returns-in-Refused c = let e = cases.refused_by c.args.file.now _ (sym c.in-Refused.is ∙ c.check_to_table-d.ensures.equal) in record { equal = e; bounded = tt }
+pub returns-clause-equal : goal.returns-clause-equal
+returns-clause-equal c = cases.checked_by c.args.file.now _ _ (sym c.in_ok-table.was ∙ c.check_to_table.ensures.equal) _ (sym c.in_ok-check_tail.was ∙ c.check_tail.ensures)

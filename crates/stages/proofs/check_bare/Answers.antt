@@ -1,6 +1,5 @@
 -- `stages::check_bare` meets its contract: a table is left, or nothing follows the bitmaps. Assumes nothing.
 use mathlib.Core.Path.{◌∙◌, ap}
-use Rattle.stages.specs.declared.ToTable.TheVariants.{Refused as ToRefused}
 use Rattle.stages.proofs.Cases as cases
 use borrow.Author.Rules.{rules}
 use Rattle.refusal.proofs.refuse.Reads as refuse-reads

@@ -2,16 +2,16 @@
 use native.Mathlib.Omega.{arith}
 use mathlib.Core.Path.{◌∙◌, ap}
 use Rattle.header.proofs.Cases as cases
-use Rattle.header.specs.declared.Checked.TheVariants.{Refused}
 use Prim.Native.Nat.{◌≤◌}
 use native.Mathlib.Nat.{mul-le-mul}
 use Rattle.psf1.proofs.Psf1.says.Goals as goal
+use Rattle.std.specs.Prelude.{Err}
 
 pub returns-then-len-lt-HEADER_LEN : goal.returns-then-len-lt-HEADER_LEN
-returns-then-len-lt-HEADER_LEN c = ap Refused c.refuse.ensures ∙ cases.psf1_cut c.args.file.now (omega arith)
+returns-then-len-lt-HEADER_LEN c = ap Err c.refuse.ensures ∙ cases.psf1_cut c.args.file.now (omega arith)
 
 pub returns-then-size-eq0 : goal.returns-then-size-eq0
-returns-then-size-eq0 c = ap Refused c.refuse-then-size-eq0.ensures ∙ cases.psf1_shape c.args.file.now (omega arith)
+returns-then-size-eq0 c = ap Err c.refuse-then-size-eq0.ensures ∙ cases.psf1_shape c.args.file.now (omega arith)
 
 pub overflow_mul-result : goal.overflow_mul-result
 overflow_mul-result c = let h : c.count_of-count.result ≤ 512 = omega arith in let w : c.size-size.result ≤ 255 = omega arith in omega (arith, mul-le-mul h w)
