@@ -8,3 +8,4 @@ pub mod Over
 pub mod Written
 pub mod Numbers
 pub mod Begins
+pub mod Handed

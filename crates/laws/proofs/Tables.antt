@@ -8,7 +8,6 @@ use mathlib.Core.List.{List, []}
 use Prim.Native.Nat.{ℕ, ◌+◌, ◌≤◌, ◌<◌}
 use lib.ListN.{length}
 use Rattle.base.specs.Meaning.{Begins, Bytes}
-use Rattle.utf8.specs.declared.Read.TheVariants.{Value as ReadValue}
 use Rattle.utf8.specs.Meaning.{Scalar, Utf8Value, utf8_bytes}
 use Rattle.utf8.specs.Reading.{read_value}
 use Rattle.table.specs.declared.Item.{Item}
@@ -25,6 +24,7 @@ use Rattle.laws.proofs.Tails as tail
 use Rattle.laws.proofs.Reading as inner
 use Rattle.laws.proofs.WellFormed.{formed_is, is_formed}
 use Rattle.laws.proofs.WellFormed as reader
+use Rattle.std.specs.Prelude.{Ok}
 
 module _ (s : List ℕ) (y : Bytes s) (f : Font) (passes : RowsTo9 s (gives f)) (marked : f.table ≡ true) where
   -- (a) "its table is accepted exactly when they are n descriptions of the published grammar, end to end, nothing over"
@@ -79,5 +79,5 @@ well_formed_exactly s = (formed_is s, λ (v, h, e). subst WellFormed (sym e) (is
 
 -- the one reader of a value (`utf8::read_value`) gives v, l bytes long, exactly when v is a value (a scalar value and no noncharacter), l its length,
 -- and the bytes begin with its bytes
-pub read_exactly : (s : List ℕ) → Bytes s → (v l : ℕ) → (read_value s ≡ ReadValue v l) ↔ (Utf8Value v × (l ≡ length (utf8_bytes v)) × Begins (utf8_bytes v) s)
+pub read_exactly : (s : List ℕ) → Bytes s → (v l : ℕ) → (read_value s ≡ Ok (v , l)) ↔ (Utf8Value v × (l ≡ length (utf8_bytes v)) × Begins (utf8_bytes v) s)
 read_exactly = reader.value_exactly

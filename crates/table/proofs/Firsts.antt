@@ -8,7 +8,6 @@ use lib.Seq.{drop-cons}
 use Rattle.base.proofs.Parts.{rest_all}
 use Rattle.token.specs.declared.Token.{Token}
 use Rattle.token.specs.declared.Token.TheVariants.{Value as TokenValue, Start as TokenStart, End as TokenEnd}
-use Rattle.utf8.specs.declared.Read.{Read}
 use Rattle.utf8.specs.Reading.{read_value, as_token, read_utf8}
 use Rattle.utf8.proofs.First.{ascii, as_start, as_end, no_mark}
 use Rattle.ucs2.specs.Reading.{read_ucs2}
@@ -20,6 +19,8 @@ use Rattle.table.specs.declared.Step.TheVariants.{Value as StepValue, Start as S
 use Rattle.table.specs.Reading.{step_of, step_at}
 use Rattle.table.specs.Bounds.{StepFits, StepSays}
 use Rattle.table.proofs.Stepping.{token_says}
+use Rattle.std.specs.Prelude.{Result}
+use Rattle.token.specs.declared.Malformed.{Malformed}
 
 -- what a step at a place is to be: the defined one, and what it says
 abbrev pub Stepped : Coding → List ℕ → ℕ → Step → Type 0
@@ -61,7 +62,7 @@ module _ (s : List ℕ) (i : ℕ) (h : i < length s) where
   here t e = token_says Utf8 s i h 1 utf8_mark t (e ∙ ap read_utf8 (sym (drop-cons s i 0 h)) ∙ utf8_token (drop i s))
 
   -- a byte that is no mark begins a value
-  pub value_step : (get_or s i 0 ≡ 254 → ⊥) → (get_or s i 0 ≡ 255 → ⊥) → (r : Read) → r ≡ read_value (take (length s - i) (drop i s)) → Stepped Utf8 s i (step_of 1 i (as_token r))
+  pub value_step : (get_or s i 0 ≡ 254 → ⊥) → (get_or s i 0 ≡ 255 → ⊥) → (r : Result (ℕ × ℕ) Malformed) → r ≡ read_value (take (length s - i) (drop i s)) → Stepped Utf8 s i (step_of 1 i (as_token r))
   value_step a b r e =
       here (as_token r)
       (ap as_token (e ∙ ap read_value (rest_all s i ∙ drop-cons s i 0 h)) ∙ no_mark (get_or s i 0 ∷ drop (suc i) s) (omega arith) a b)

@@ -14,8 +14,6 @@ use Rattle.base.proofs.Parts.{rest_all}
 use Rattle.base.proofs.Tests.{by_test, below, same}
 use Rattle.token.specs.declared.Token.{Token}
 use Rattle.token.specs.declared.Token.TheVariants.{Value as TokenValue, Start as TokenStart, End as TokenEnd, Cut as TokenCut, Bad as TokenBad}
-use Rattle.utf8.specs.declared.Read.{Read}
-use Rattle.utf8.specs.declared.Read.TheVariants.{Value as ReadValue, Cut as ReadCut, Bad as ReadBad}
 use Rattle.utf8.specs.Reading.{read_value, as_token, utf8_key, plain_len}
 use Rattle.utf8.proofs.Plain.{mark_bad, key_itself}
 use Rattle.ucs2.specs.Reading.{is_word, read_ucs2}
@@ -35,6 +33,8 @@ use Rattle.table.proofs.Stepping.{past_end}
 use Rattle.std.specs.Prelude.{Result, Ok, Err}
 use Rattle.table.specs.declared.Fault.{Fault}
 use Rattle.table.specs.declared.Fault.TheVariants.{Cut as TableCut, Bad as TableBad}
+use Rattle.token.specs.declared.Malformed.{Malformed}
+use Rattle.token.specs.declared.Malformed.TheVariants.{Cut as ReadCut, Bad as ReadBad}
 
 -- what plainly stands at a place is to be: the defined one, with what the step there says
 abbrev pub Plained : Coding → ℕ → List ℕ → ℕ → Plain → Type 0
@@ -57,16 +57,16 @@ one_key v h = sym (key_itself v h ∙ utf8_key_lem Utf8 v refl)
 
 -- a longer value of UTF-8, by its plain length
 module _ (s : List ℕ) (i k : ℕ) where
-  by_length : (r : Read) (l : ℕ) → StepSays Utf8 s i (step_of 1 i (as_token r)) → l ≡ plain_len k r →
+  by_length : (r : Result (ℕ × ℕ) Malformed) (l : ℕ) → StepSays Utf8 s i (step_of 1 i (as_token r)) → l ≡ plain_len k r →
       (l ≡ 0 → Other ≡ plain_of Utf8 k (step_of 1 i (as_token r))) × ((l ≡ 0 → ⊥) → PlainValue (i + l) ≡ plain_of Utf8 k (step_of 1 i (as_token r)))
-  by_length (ReadValue v m) l w e = rw (utf8_key_lem Utf8 v refl) at (go (eqb (utf8_key v) k) e)
+  by_length (Ok (v , m)) l w e = rw (utf8_key_lem Utf8 v refl) at (go (eqb (utf8_key v) k) e)
     where
       go : (t : Bool) → l ≡ pick t 0 m →
           (l ≡ 0 → Other ≡ pick t Other (PlainValue (i + m))) × ((l ≡ 0 → ⊥) → PlainValue (i + l) ≡ pick t Other (PlainValue (i + m)))
       go true f = (λ _. refl, λ h. absurd (h f))
       go false f = (λ z. absurd (omega (arith, w.0)), λ _. ap (λ (x : ℕ). PlainValue (i + x)) f)
-  by_length ReadCut l w e = (λ _. refl, λ h. absurd (h e))
-  by_length (ReadBad j) l w e = (λ _. refl, λ h. absurd (h e))
+  by_length (Err ReadCut) l w e = (λ _. refl, λ h. absurd (h e))
+  by_length (Err (ReadBad j)) l w e = (λ _. refl, λ h. absurd (h e))
 
   module _ (h : i < length s) (a : get_or s i 0 ≡ 254 → ⊥) (b : get_or s i 0 ≡ 255 → ⊥) (l : ℕ) (e : l ≡ plain_len k (read_value (drop i s))) where
     stepped_value : Stepped Utf8 s i (step_of 1 i (as_token (read_value (drop i s))))
@@ -79,26 +79,26 @@ module _ (s : List ℕ) (i k : ℕ) where
     length_some z = plained Utf8 k s i _ (PlainValue (i + l)) stepped_value ((by_length (read_value (drop i s)) l stepped_value.1 e).1 z)
 
 -- why a table is refused, by what the reader of a value says
-abbrev pub said : ℕ → ℕ → ℕ → Read → Result (Unit {0}) Fault
-said e g i (ReadValue v l) = Ok tt
-said e g i ReadCut = Err (TableCut e g)
-said e g i (ReadBad k) = Err (TableBad (i + k) g)
+abbrev pub said : ℕ → ℕ → ℕ → Result (ℕ × ℕ) Malformed → Result (Unit {0}) Fault
+said e g i (Ok (v , l)) = Ok tt
+said e g i (Err ReadCut) = Err (TableCut e g)
+said e g i (Err (ReadBad k)) = Err (TableBad (i + k) g)
 
 module _ (e g i : ℕ) where
-  said_so : (r : Read) → NoValue (step_of 1 i (as_token r)) → said e g i r ≡ refused_of e g (step_of 1 i (as_token r))
-  said_so (ReadValue v l) n = absurd n
-  said_so ReadCut n = refl
-  said_so (ReadBad k) n = refl
+  said_so : (r : Result (ℕ × ℕ) Malformed) → NoValue (step_of 1 i (as_token r)) → said e g i r ≡ refused_of e g (step_of 1 i (as_token r))
+  said_so (Ok (v , l)) n = absurd n
+  said_so (Err ReadCut) n = refl
+  said_so (Err (ReadBad k)) n = refl
 
   -- a mark is bad at its only byte
-  mark_said : (r : Read) (x : Step) → r ≡ ReadBad 0 → Err (TableBad (i + 1 - 1) g) ≡ refused_of e g x → said e g i r ≡ refused_of e g x
+  mark_said : (r : Result (ℕ × ℕ) Malformed) (x : Step) → r ≡ Err (ReadBad 0) → Err (TableBad (i + 1 - 1) g) ≡ refused_of e g x → said e g i r ≡ refused_of e g x
   mark_said r x q f = let z : i + 0 ≡ i + 1 - 1 = omega arith in rw q (ap (λ (j : ℕ). Err (TableBad j g)) z ∙ f)
 
 module _ (s : List ℕ) (g i : ℕ) (n : NoValue (step_at Utf8 s i)) where
   utf8_within : i < length s → said (length s) g i (read_value (drop i s)) ≡ refused_of (length s) g (step_at Utf8 s i)
   utf8_within h = by_mark (same (get_or s i 0) 254) (same (get_or s i 0) 255)
     where
-      mark : (get_or s i 0 ≡ 254) ⊎ (get_or s i 0 ≡ 255) → read_value (drop i s) ≡ ReadBad 0
+      mark : (get_or s i 0 ≡ 254) ⊎ (get_or s i 0 ≡ 255) → read_value (drop i s) ≡ Err (ReadBad 0)
       mark (inl q) = rw (drop-cons s i 0 h) (mark_bad (get_or s i 0 ∷ drop (suc i) s) (omega arith) 254 q (omega arith) (omega arith))
       mark (inr q) = rw (drop-cons s i 0 h) (mark_bad (get_or s i 0 ∷ drop (suc i) s) (omega arith) 255 q (omega arith) (omega arith))
 

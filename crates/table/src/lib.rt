@@ -11,8 +11,7 @@ ghost use Rattle.table.specs.Bounds.{StepFits, StepSays};
 ghost use Rattle.table.specs.Skipping.{plain_of, cursor_of, Stands, front_at, skipped, ended_of, NoValue, refused_of, answer_at, check_at};
 
 use coding::Coding;
-use token::Token;
-use utf8::Read;
+use token::{Malformed, Token};
 
 // What stands in a description, one after the other: a single value, a start mark, a value in a sequence, the end mark.
 #[derive(Clone, Copy)]
@@ -67,9 +66,11 @@ fn utf8_step(s: &[u8], at: usize) -> Step
     }
     let r = utf8::read_value(&s[at..]);
     match r {
-        Read::Value(v, l) => Step::Value(v, at + l),
-        Read::Cut => Step::Cut,
-        Read::Bad(k) => Step::Bad(at + k),
+        Ok((v, l)) => Step::Value(v, at + l),
+        Err(t) => match t {
+            Malformed::Cut => Step::Cut,
+            Malformed::Bad(k) => Step::Bad(at + k),
+        },
     }
 }
 
@@ -266,9 +267,11 @@ fn utf8_refused(s: &[u8], at: usize, g: usize) -> Result<(), Fault>
 {
     let r = utf8::read_value(&s[at..]);
     match r {
-        Read::Value(_, _) => Ok(()),
-        Read::Cut => Err(Fault::Cut(s.len(), g)),
-        Read::Bad(k) => Err(Fault::Bad(at + k, g)),
+        Ok(_) => Ok(()),
+        Err(t) => match t {
+            Malformed::Cut => Err(Fault::Cut(s.len(), g)),
+            Malformed::Bad(k) => Err(Fault::Bad(at + k, g)),
+        },
     }
 }
 

@@ -16,6 +16,13 @@ pub enum Token {
     Bad(usize),
 }
 
+// Why no value stands at the front of some bytes: they end too soon, or the place of the first byte that no value has there.
+#[derive(Clone, Copy)]
+pub enum Malformed {
+    Cut,
+    Bad(usize),
+}
+
 // Whether a number is a noncharacter: FDD0 to FDEF, or one of the last two of a plane.
 #[tactic(auto, using(crate::proofs::Noncharacters::under, crate::proofs::Noncharacters::among))]
 pub fn is_noncharacter(v: u32) -> bool

@@ -12,12 +12,13 @@ use Rattle.base.proofs.Tests.{by_test}
 use Rattle.token.specs.declared.Token.{Token}
 use Rattle.token.specs.declared.Token.TheVariants.{Value, Start, End, Cut, Bad}
 use Rattle.token.proofs.Coded.{Coded}
-use Rattle.utf8.specs.declared.Read.{Read}
-use Rattle.utf8.specs.declared.Read.TheVariants.{Value as ReadValue, Cut as ReadCut, Bad as ReadBad}
 use Rattle.utf8.specs.Reading.{read_value, as_token, read_utf8}
 use Rattle.utf8.specs.Meaning.{utf8_bytes, Scalar, Utf8Value}
 use Rattle.utf8.proofs.Writing.{value_read}
 use Rattle.utf8.proofs.Reading.{Written, value_of}
+use Rattle.std.specs.Prelude.{Result, Ok, Err}
+use Rattle.token.specs.declared.Malformed.{Malformed}
+use Rattle.token.specs.declared.Malformed.TheVariants.{Cut as ReadCut, Bad as ReadBad}
 
 -- what a token says of its first byte: marks are one byte
 abbrev pub First : ℕ → Token → Type 0
@@ -27,10 +28,10 @@ First b End = b ≡ 255
 First b Cut = Unit {0}
 First b (Bad k) = Unit {0}
 
-of_value : (b : ℕ) (x : Read) → b < 254 → First b (as_token x)
-of_value b (ReadValue v l) h = h
-of_value b ReadCut h = tt
-of_value b (ReadBad k) h = tt
+of_value : (b : ℕ) (x : Result (ℕ × ℕ) Malformed) → b < 254 → First b (as_token x)
+of_value b (Ok (v , l)) h = h
+of_value b (Err ReadCut) h = tt
+of_value b (Err (ReadBad k)) h = tt
 
 pub first_byte : (b : ℕ) (s : List ℕ) → b < 256 → First b (read_utf8 (b ∷ s))
 unfolding read_utf8

@@ -10,37 +10,37 @@ use lib.Dec.{leb}
 use borrow.Author.Tests.{le-leb, lt-leb, leb-true}
 use Rattle.base.specs.Meaning.{pick}
 use Rattle.base.specs.Reading.{within}
-use Rattle.utf8.specs.declared.Read.{Read}
-use Rattle.utf8.specs.declared.Read.TheVariants.{Value, Cut, Bad}
 use Rattle.utf8.specs.Reading.{conts}
 use Rattle.utf8.specs.Bounds.{Reached}
+use Rattle.std.specs.Prelude.{Result, Ok, Err}
+use Rattle.token.specs.declared.Malformed.{Malformed}
+use Rattle.token.specs.declared.Malformed.TheVariants.{Cut, Bad}
 
 -- one byte
 module _ (s : List ℕ) (k lo hi v : ℕ) where
-  pub cut : length s ≤ k → Cut ≡ conts 1 lo hi v k (drop k s)
+  pub cut : length s ≤ k → Err Cut ≡ conts 1 lo hi v k (drop k s)
   unfolding conts
   cut l = rw (drop_of_length-le s l)
 
-  turn : k < length s → conts 1 lo hi v k (drop k s) ≡ pick (within lo hi (get_or s k 0)) (Value (v * 64 + (get_or s k 0 - 0x80)) (k + 1)) (Bad k)
+  turn : k < length s → conts 1 lo hi v k (drop k s) ≡ pick (within lo hi (get_or s k 0)) (Ok ((v * 64 + (get_or s k 0 - 0x80)) , (k + 1))) (Err (Bad k))
   unfolding conts
   turn l = rw (drop-cons s k 0 l)
 
-  pub outside : k < length s → within lo hi (get_or s k 0) ≡ false → Bad k ≡ conts 1 lo hi v k (drop k s)
+  pub outside : k < length s → within lo hi (get_or s k 0) ≡ false → Err (Bad k) ≡ conts 1 lo hi v k (drop k s)
   outside l w = sym (turn l ∙ rw w)
 
-  pub inside : k < length s → within lo hi (get_or s k 0) ≡ true → (u : ℕ) → u ≡ v * 64 + (get_or s k 0 - 0x80) → Value u (k + 1) ≡ conts 1 lo hi v k (drop k s)
+  pub inside : k < length s → within lo hi (get_or s k 0) ≡ true → (u : ℕ) → u ≡ v * 64 + (get_or s k 0 - 0x80) → Ok (u , (k + 1)) ≡ conts 1 lo hi v k (drop k s)
   inside l w u e = sym (turn l ∙ rw (w, e))
 
 -- no byte
-pub reached : (lo hi v k : ℕ) (s : List ℕ) → conts 0 lo hi v k s ≡ Value v k
+pub reached : (lo hi v k : ℕ) (s : List ℕ) → conts 0 lo hi v k s ≡ Ok (v , k)
 unfolding conts
 reached lo hi v k s = refl
 
 -- what follows a value
-abbrev next : Read → (ℕ → ℕ → Read) → Read
-next (Value w l) f = f w l
-next Cut f = Cut
-next (Bad k) f = Bad k
+abbrev next : Result (ℕ × ℕ) Malformed → (ℕ → ℕ → Result (ℕ × ℕ) Malformed) → Result (ℕ × ℕ) Malformed
+next (Ok (w , l)) f = f w l
+next (Err t) f = Err t
 
 -- m + 2 bytes are m + 1, and one more
 split : (m lo hi v k : ℕ) (t : List ℕ) → conts (suc (suc m)) lo hi v k t ≡ next (conts (suc m) lo hi v k t) (λ w l. conts 1 0x80 0xBF w l (drop (suc m) t))
@@ -49,8 +49,8 @@ split m lo hi v k [] = refl
 split zero lo hi v k (b ∷ t) = go (within lo hi b)
   where
     go : (x : Bool) →
-        pick x (conts 1 0x80 0xBF (v * 64 + (b - 0x80)) (k + 1) t) (Bad k)
-        ≡ next (pick x (Value (v * 64 + (b - 0x80)) (k + 1)) (Bad k)) (λ w l. conts 1 0x80 0xBF w l t)
+        pick x (conts 1 0x80 0xBF (v * 64 + (b - 0x80)) (k + 1) t) (Err (Bad k))
+        ≡ next (pick x (Ok ((v * 64 + (b - 0x80)) , (k + 1))) (Err (Bad k))) (λ w l. conts 1 0x80 0xBF w l t)
     go true = refl
     go false = refl
 split (suc m) lo hi v k (b ∷ t) = go (within lo hi b) (split m 0x80 0xBF (v * 64 + (b - 0x80)) (k + 1) t)
@@ -58,30 +58,26 @@ split (suc m) lo hi v k (b ∷ t) = go (within lo hi b) (split m 0x80 0xBF (v * 
     go : (x : Bool) →
         conts (suc (suc m)) 0x80 0xBF (v * 64 + (b - 0x80)) (k + 1) t
         ≡ next (conts (suc m) 0x80 0xBF (v * 64 + (b - 0x80)) (k + 1) t) (λ w l. conts 1 0x80 0xBF w l (drop (suc m) t)) →
-        pick x (conts (suc (suc m)) 0x80 0xBF (v * 64 + (b - 0x80)) (k + 1) t) (Bad k)
-        ≡ next (pick x (conts (suc m) 0x80 0xBF (v * 64 + (b - 0x80)) (k + 1) t) (Bad k)) (λ w l. conts 1 0x80 0xBF w l (drop (suc m) t))
+        pick x (conts (suc (suc m)) 0x80 0xBF (v * 64 + (b - 0x80)) (k + 1) t) (Err (Bad k))
+        ≡ next (pick x (conts (suc m) 0x80 0xBF (v * 64 + (b - 0x80)) (k + 1) t) (Err (Bad k))) (λ w l. conts 1 0x80 0xBF w l (drop (suc m) t))
     go true e = e
     go false e = refl
 
 -- the same by what the bytes before gave, at a place of the whole list
 module _ (s : List ℕ) (m k lo hi v : ℕ) where
-  pub then_value : (w l : ℕ) → Value w l ≡ conts (suc m) lo hi v k (drop k s) → l ≡ k + suc m →
-      (r : Read) → r ≡ conts 1 0x80 0xBF w (k + suc m) (drop (k + suc m) s) → r ≡ conts (suc (suc m)) lo hi v k (drop k s)
+  pub then_value : (w l : ℕ) → Ok (w , l) ≡ conts (suc m) lo hi v k (drop k s) → l ≡ k + suc m →
+      (r : Result (ℕ × ℕ) Malformed) → r ≡ conts 1 0x80 0xBF w (k + suc m) (drop (k + suc m) s) → r ≡ conts (suc (suc m)) lo hi v k (drop k s)
   then_value w l e q r p =
       let d : drop (suc m) (drop k s) ≡ drop (k + suc m) s = drop-drop (suc m) k s in
       p ∙ sym (split m lo hi v k (drop k s) ∙ rw (← e, q, d))
 
-  pub then_cut : Cut ≡ conts (suc m) lo hi v k (drop k s) → Cut ≡ conts (suc (suc m)) lo hi v k (drop k s)
-  then_cut e = sym (split m lo hi v k (drop k s) ∙ rw (← e))
-
-  pub then_bad : (j : ℕ) → Bad j ≡ conts (suc m) lo hi v k (drop k s) → Bad j ≡ conts (suc (suc m)) lo hi v k (drop k s)
-  then_bad j e = sym (split m lo hi v k (drop k s) ∙ rw (← e))
+  pub then_none : (t : Malformed) → Err t ≡ conts (suc m) lo hi v k (drop k s) → Err t ≡ conts (suc (suc m)) lo hi v k (drop k s)
+  then_none t e = sym (split m lo hi v k (drop k s) ∙ rw (← e))
 
 -- a greater bound
-pub reached_low : (a b k : ℕ) (r : Read) → a ≤ b → Reached a k r → Reached b k r
-reached_low a b k (Value v l) h p = (omega (arith, p.0), p.1)
-reached_low a b k Cut h p = tt
-reached_low a b k (Bad j) h p = tt
+pub reached_low : (a b k : ℕ) (r : Result (ℕ × ℕ) Malformed) → a ≤ b → Reached a k r → Reached b k r
+reached_low a b k (Ok (v , l)) h p = (omega (arith, p.0), p.1)
+reached_low a b k (Err t) h p = tt
 
 -- what the test of bounds says
 pub bounds : (lo hi b : ℕ) → within lo hi b ≡ true → (lo ≤ b) × (b ≤ hi)

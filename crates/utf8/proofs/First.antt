@@ -10,20 +10,21 @@ use Rattle.base.specs.Meaning.{pick}
 use Rattle.token.proofs.Noncharacters.{low}
 use Rattle.token.specs.declared.Token.TheVariants.{Value as TokenValue, Start, End, Cut as TokenCut, Bad as TokenBad}
 use Rattle.utf8.specs.declared.Lead.{Lead}
-use Rattle.utf8.specs.declared.Read.{Read}
-use Rattle.utf8.specs.declared.Read.TheVariants.{Value, Cut, Bad}
 use Rattle.utf8.proofs.Rows.{row_1}
 use Rattle.utf8.proofs.Permitted.{permitted_value}
 use Rattle.utf8.specs.Reading.{conts, lead_of, permitted_at, read_value, as_token, read_utf8}
+use Rattle.std.specs.Prelude.{Result, Ok, Err}
+use Rattle.token.specs.declared.Malformed.{Malformed}
+use Rattle.token.specs.declared.Malformed.TheVariants.{Cut, Bad}
 
-pub no_bytes : (s : List ℕ) → length s ≡ 0 → Cut ≡ read_value s
+pub no_bytes : (s : List ℕ) → length s ≡ 0 → Err Cut ≡ read_value s
 unfolding read_value
 no_bytes [] h = refl
 no_bytes (b ∷ s) h = absurd (omega arith)
 
 first_value : (s : List ℕ) → 0 < length s →
     read_value s ≡
-    pick (eqb (lead_of (get_or s 0 0)).len 0) (Bad 0)
+    pick (eqb (lead_of (get_or s 0 0)).len 0) (Err (Bad 0))
     (permitted_at ((lead_of (get_or s 0 0)).len - 1) (conts ((lead_of (get_or s 0 0)).len - 1) (lead_of (get_or s 0 0)).lo (lead_of (get_or s 0 0)).hi (get_or s 0 0 % (lead_of (get_or s 0 0)).modulus) 1 (drop 1 s)))
 unfolding read_value
 first_value [] h = absurd (omega arith)
@@ -31,7 +32,7 @@ first_value (b ∷ s) h = refl
 
 -- by the first byte's row
 module _ (s : List ℕ) (h : 0 < length s) (l : Lead) (e : l ≡ lead_of (get_or s 0 0)) where
-  pub no_value : l.len ≡ 0 → Bad 0 ≡ read_value s
+  pub no_value : l.len ≡ 0 → Err (Bad 0) ≡ read_value s
   no_value z = rw (first_value s h, ← e, eq-eqb l.len 0 z)
 
   pub some_value : (l.len ≡ 0 → ⊥) → permitted_at (l.len - 1) (conts (l.len - 1) l.lo l.hi (get_or s 0 0 % l.modulus) 1 (drop 1 s)) ≡ read_value s
@@ -78,21 +79,21 @@ pub ascii : (s : List ℕ) → 0 < length s → get_or s 0 0 < 128 → TokenValu
 unfolding conts
 ascii s h k =
     let m : get_or s 0 0 ≡ get_or s 0 0 % 128 = omega arith in
-    let r : Value (get_or s 0 0) 1 ≡ read_value s = permitted_value 0 (get_or s 0 0) 1 (low (get_or s 0 0) (omega arith)) ∙ long_value s h _ (row_1 (get_or s 0 0) (omega arith) k) 0 refl (get_or s 0 0) m in
+    let r : Ok ((get_or s 0 0) , 1) ≡ read_value s = permitted_value 0 (get_or s 0 0) 1 (low (get_or s 0 0) (omega arith)) ∙ long_value s h _ (row_1 (get_or s 0 0) (omega arith) k) 0 refl (get_or s 0 0) m in
     ap as_token r ∙ no_mark s h (λ z. absurd (omega arith)) (λ z. absurd (omega arith))
 
 -- a token that is no mark was read as a value
-pub back_value : (x : Read) (v l : ℕ) → as_token x ≡ TokenValue v l → x ≡ Value v l
-back_value (Value w k) v l e = let p : w ≡ v = cc in let q : k ≡ l = cc in rw (p, q)
-back_value Cut v l e = let z : ◌≡◌ {A = ℕ} 0 1 = cc in absurd (omega arith)
-back_value (Bad j) v l e = let z : ◌≡◌ {A = ℕ} 0 1 = cc in absurd (omega arith)
+pub back_value : (x : Result (ℕ × ℕ) Malformed) (v l : ℕ) → as_token x ≡ TokenValue v l → x ≡ Ok (v , l)
+back_value (Ok (w , k)) v l e = let p : w ≡ v = cc in let q : k ≡ l = cc in rw (p, q)
+back_value (Err Cut) v l e = let z : ◌≡◌ {A = ℕ} 0 1 = cc in absurd (omega arith)
+back_value (Err (Bad j)) v l e = let z : ◌≡◌ {A = ℕ} 0 1 = cc in absurd (omega arith)
 
-pub back_cut : (x : Read) → as_token x ≡ TokenCut → x ≡ Cut
-back_cut (Value w k) e = let z : ◌≡◌ {A = ℕ} 0 1 = cc in absurd (omega arith)
-back_cut Cut e = refl
-back_cut (Bad j) e = let z : ◌≡◌ {A = ℕ} 0 1 = cc in absurd (omega arith)
+pub back_cut : (x : Result (ℕ × ℕ) Malformed) → as_token x ≡ TokenCut → x ≡ Err Cut
+back_cut (Ok (w , k)) e = let z : ◌≡◌ {A = ℕ} 0 1 = cc in absurd (omega arith)
+back_cut (Err Cut) e = refl
+back_cut (Err (Bad j)) e = let z : ◌≡◌ {A = ℕ} 0 1 = cc in absurd (omega arith)
 
-pub back_bad : (x : Read) (k : ℕ) → as_token x ≡ TokenBad k → x ≡ Bad k
-back_bad (Value w j) k e = let z : ◌≡◌ {A = ℕ} 0 1 = cc in absurd (omega arith)
-back_bad Cut k e = let z : ◌≡◌ {A = ℕ} 0 1 = cc in absurd (omega arith)
-back_bad (Bad j) k e = let p : j ≡ k = cc in rw p
+pub back_bad : (x : Result (ℕ × ℕ) Malformed) (k : ℕ) → as_token x ≡ TokenBad k → x ≡ Err (Bad k)
+back_bad (Ok (w , j)) k e = let z : ◌≡◌ {A = ℕ} 0 1 = cc in absurd (omega arith)
+back_bad (Err Cut) k e = let z : ◌≡◌ {A = ℕ} 0 1 = cc in absurd (omega arith)
+back_bad (Err (Bad j)) k e = let p : j ≡ k = cc in rw p

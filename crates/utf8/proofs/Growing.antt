@@ -13,33 +13,34 @@ use Rattle.token.specs.declared.Token.{Token}
 use Rattle.token.specs.declared.Token.TheVariants.{Start, End, Cut as TokenCut}
 use Rattle.token.proofs.Growing.{Growing}
 use Rattle.utf8.specs.declared.Lead.{Lead}
-use Rattle.utf8.specs.declared.Read.{Read}
-use Rattle.utf8.specs.declared.Read.TheVariants.{Cut, Bad}
 use Rattle.utf8.specs.Reading.{lead_row, lead_of, conts, permitted_at, read_value, as_token, read_utf8}
 use Rattle.utf8.proofs.First.{back_cut}
 use Rattle.utf8.proofs.Permitted.{cut_permitted}
+use Rattle.std.specs.Prelude.{Result, Err}
+use Rattle.token.specs.declared.Malformed.{Malformed}
+use Rattle.token.specs.declared.Malformed.TheVariants.{Cut, Bad}
 
 -- the bytes after the first
-conts_kept : (n lo hi v k : ℕ) (p s : List ℕ) → (conts n lo hi v k p ≡ Cut) ⊎ (conts n lo hi v k (p ++ s) ≡ conts n lo hi v k p)
+conts_kept : (n lo hi v k : ℕ) (p s : List ℕ) → (conts n lo hi v k p ≡ Err Cut) ⊎ (conts n lo hi v k (p ++ s) ≡ conts n lo hi v k p)
 unfolding conts
 conts_kept zero lo hi v k p s = inr refl
 conts_kept (suc n) lo hi v k [] s = inl refl
 conts_kept (suc n) lo hi v k (b ∷ p) s = go (within lo hi b) (conts_kept n 0x80 0xBF (v * 64 + (b - 0x80)) (k + 1) p s)
   where
     go : (x : Bool) →
-        (conts n 0x80 0xBF (v * 64 + (b - 0x80)) (k + 1) p ≡ Cut) ⊎ (conts n 0x80 0xBF (v * 64 + (b - 0x80)) (k + 1) (p ++ s) ≡ conts n 0x80 0xBF (v * 64 + (b - 0x80)) (k + 1) p) →
-        (pick x (conts n 0x80 0xBF (v * 64 + (b - 0x80)) (k + 1) p) (Bad k) ≡ Cut)
-        ⊎ (pick x (conts n 0x80 0xBF (v * 64 + (b - 0x80)) (k + 1) (p ++ s)) (Bad k) ≡ pick x (conts n 0x80 0xBF (v * 64 + (b - 0x80)) (k + 1) p) (Bad k))
+        (conts n 0x80 0xBF (v * 64 + (b - 0x80)) (k + 1) p ≡ Err Cut) ⊎ (conts n 0x80 0xBF (v * 64 + (b - 0x80)) (k + 1) (p ++ s) ≡ conts n 0x80 0xBF (v * 64 + (b - 0x80)) (k + 1) p) →
+        (pick x (conts n 0x80 0xBF (v * 64 + (b - 0x80)) (k + 1) p) (Err (Bad k)) ≡ Err Cut)
+        ⊎ (pick x (conts n 0x80 0xBF (v * 64 + (b - 0x80)) (k + 1) (p ++ s)) (Err (Bad k)) ≡ pick x (conts n 0x80 0xBF (v * 64 + (b - 0x80)) (k + 1) p) (Err (Bad k)))
     go true ih = ih
     go false ih = inr refl
 
-pub conts_short : (n lo hi v k : ℕ) (p : List ℕ) → conts n lo hi v k p ≡ Cut → length p < n
+pub conts_short : (n lo hi v k : ℕ) (p : List ℕ) → conts n lo hi v k p ≡ Err Cut → length p < n
 unfolding conts
 conts_short zero lo hi v k p e = let z : ◌≡◌ {A = ℕ} 0 1 = cc in absurd (omega arith)
 conts_short (suc n) lo hi v k [] e = omega arith
 conts_short (suc n) lo hi v k (b ∷ p) e = go (within lo hi b) e (conts_short n 0x80 0xBF (v * 64 + (b - 0x80)) (k + 1) p)
   where
-    go : (x : Bool) → pick x (conts n 0x80 0xBF (v * 64 + (b - 0x80)) (k + 1) p) (Bad k) ≡ Cut → (conts n 0x80 0xBF (v * 64 + (b - 0x80)) (k + 1) p ≡ Cut → length p < n) → length (b ∷ p) < suc n
+    go : (x : Bool) → pick x (conts n 0x80 0xBF (v * 64 + (b - 0x80)) (k + 1) p) (Err (Bad k)) ≡ Err Cut → (conts n 0x80 0xBF (v * 64 + (b - 0x80)) (k + 1) p ≡ Err Cut → length p < n) → length (b ∷ p) < suc n
     go true f ih = let h = ih f in omega arith
     go false f ih = let z : ◌≡◌ {A = ℕ} 0 1 = cc in absurd (omega arith)
 
@@ -62,10 +63,10 @@ short_rows b =
     (row_short (within 0xF4 0xF4 b) 4 8 0x80 0x8F (lead_row 0 1 0x80 0xBF) (omega arith) (omega arith)))))))))
 
 -- a token
-abbrev inner : ℕ → List ℕ → Read
+abbrev inner : ℕ → List ℕ → Result (ℕ × ℕ) Malformed
 inner b t = conts ((lead_of b).len - 1) (lead_of b).lo (lead_of b).hi (b % (lead_of b).modulus) 1 t
 
-abbrev token : ℕ → Read → Token
+abbrev token : ℕ → Result (ℕ × ℕ) Malformed → Token
 token b r = as_token (permitted_at ((lead_of b).len - 1) r)
 
 token_kept : (p s : List ℕ) → (read_utf8 p ≡ TokenCut) ⊎ (read_utf8 (p ++ s) ≡ read_utf8 p)
@@ -73,9 +74,9 @@ unfolding read_utf8 read_value permitted_at
 token_kept [] s = inl refl
 token_kept (b ∷ p) s = go (eqb b 0xFE) (eqb b 0xFF) (eqb (lead_of b).len 0) (conts_kept ((lead_of b).len - 1) (lead_of b).lo (lead_of b).hi (b % (lead_of b).modulus) 1 p s)
   where
-    go : (x y z : Bool) → (inner b p ≡ Cut) ⊎ (inner b (p ++ s) ≡ inner b p) →
-        (pick x Start (pick y End (as_token (pick z (Bad 0) (permitted_at ((lead_of b).len - 1) (inner b p))))) ≡ TokenCut)
-        ⊎ (pick x Start (pick y End (as_token (pick z (Bad 0) (permitted_at ((lead_of b).len - 1) (inner b (p ++ s)))))) ≡ pick x Start (pick y End (as_token (pick z (Bad 0) (permitted_at ((lead_of b).len - 1) (inner b p))))))
+    go : (x y z : Bool) → (inner b p ≡ Err Cut) ⊎ (inner b (p ++ s) ≡ inner b p) →
+        (pick x Start (pick y End (as_token (pick z (Err (Bad 0)) (permitted_at ((lead_of b).len - 1) (inner b p))))) ≡ TokenCut)
+        ⊎ (pick x Start (pick y End (as_token (pick z (Err (Bad 0)) (permitted_at ((lead_of b).len - 1) (inner b (p ++ s)))))) ≡ pick x Start (pick y End (as_token (pick z (Err (Bad 0)) (permitted_at ((lead_of b).len - 1) (inner b p))))))
     go true y z h = inr refl
     go false true z h = inr refl
     go false false true h = inr refl
@@ -87,7 +88,7 @@ unfolding read_utf8 read_value
 token_short [] e = omega arith
 token_short (b ∷ p) e = go (eqb b 0xFE) (eqb b 0xFF) (eqb (lead_of b).len 0) e (conts_short ((lead_of b).len - 1) (lead_of b).lo (lead_of b).hi (b % (lead_of b).modulus) 1 p)
   where
-    go : (x y z : Bool) → pick x Start (pick y End (as_token (pick z (Bad 0) (permitted_at ((lead_of b).len - 1) (inner b p))))) ≡ TokenCut → (inner b p ≡ Cut → length p < (lead_of b).len - 1) → length (b ∷ p) < 4
+    go : (x y z : Bool) → pick x Start (pick y End (as_token (pick z (Err (Bad 0)) (permitted_at ((lead_of b).len - 1) (inner b p))))) ≡ TokenCut → (inner b p ≡ Err Cut → length p < (lead_of b).len - 1) → length (b ∷ p) < 4
     go true y z f ih = let z : ◌≡◌ {A = ℕ} 0 1 = cc in absurd (omega arith)
     go false true z f ih = let z : ◌≡◌ {A = ℕ} 0 1 = cc in absurd (omega arith)
     go false false true f ih = let z : ◌≡◌ {A = ℕ} 0 1 = cc in absurd (omega arith)

@@ -14,14 +14,15 @@ use Rattle.base.specs.Reading.{within}
 use Rattle.base.proofs.Tests.{and_left, and_right, by_test}
 use Rattle.base.proofs.Ranged.{every, ranged}
 use Rattle.token.specs.Reading.{is_noncharacter}
-use Rattle.utf8.specs.declared.Read.{Read}
-use Rattle.utf8.specs.declared.Read.TheVariants.{Value, Bad}
 use Rattle.utf8.specs.Reading.{lead_of, conts, permitted_at, read_value, utf8_key, plain_len}
 use Rattle.utf8.proofs.Rows.{all_fine, longer}
 use Rattle.utf8.proofs.First.{no_value, long_value}
 use Rattle.utf8.proofs.Conts.{reached}
 use Rattle.utf8.proofs.Writing.{further}
 use Rattle.utf8.proofs.Plain.{allowed, key_last, key_met, key_other, free_under}
+use Rattle.std.specs.Prelude.{Result, Ok, Err}
+use Rattle.token.specs.declared.Malformed.{Malformed}
+use Rattle.token.specs.declared.Malformed.TheVariants.{Bad}
 
 -- what a row of n bytes has: its first bytes, their modulus, bounds, and the least that the first two bytes give
 pub record Row (b first last m least : ℕ) : Type 0 where
@@ -83,7 +84,7 @@ unfolding conts permitted_at
 too_short key j zero lo hi v k t h = absurd (omega arith)
 too_short key j (suc n) lo hi v k [] h = refl
 too_short key j (suc n) lo hi v k (b ∷ t) h =
-    by_test (λ (r : Read). 0 ≡ plain_len key (permitted_at j r)) (within lo hi b) _ _
+    by_test (λ (r : Result (ℕ × ℕ) Malformed). 0 ≡ plain_len key (permitted_at j r)) (within lo hi b) _ _
     (λ _. too_short key j n 0x80 0xBF (v * 64 + (b - 0x80)) (k + 1) t (omega arith))
     (λ _. refl)
 
@@ -92,12 +93,12 @@ module _ (s : List ℕ) (at : ℕ) (h : at < length s) (m lo hi v k : ℕ) where
   goes : lo ≤ get_or s at 0 → get_or s at 0 ≤ hi → (n : ℕ) → n ≡ suc at → conts (suc m) lo hi v k (drop at s) ≡ conts m 0x80 0xBF (v * 64 + (get_or s at 0 - 0x80)) (k + 1) (drop n s)
   goes p q n e = rw (e, drop-cons s at 0 h) (further m lo hi v k (get_or s at 0) (drop (suc at) s) p q)
 
-  out : (get_or s at 0 < lo) ⊎ (hi < get_or s at 0) → conts (suc m) lo hi v k (drop at s) ≡ Bad k
+  out : (get_or s at 0 < lo) ⊎ (hi < get_or s at 0) → conts (suc m) lo hi v k (drop at s) ≡ Err (Bad k)
   unfolding conts
   out w = rw (drop-cons s at 0 h) (go (leb lo (get_or s at 0)) (leb (get_or s at 0) hi) (λ q. lt-leb lo (get_or s at 0) q) (λ q. lt-leb (get_or s at 0) hi q) w)
     where
       go : (x y : Bool) → (get_or s at 0 < lo → x ≡ false) → (hi < get_or s at 0 → y ≡ false) → (get_or s at 0 < lo) ⊎ (hi < get_or s at 0) →
-          pick (x && y) (conts m 0x80 0xBF (v * 64 + (get_or s at 0 - 0x80)) (k + 1) (drop (suc at) s)) (Bad k) ≡ Bad k
+          pick (x && y) (conts m 0x80 0xBF (v * 64 + (get_or s at 0 - 0x80)) (k + 1) (drop (suc at) s)) (Err (Bad k)) ≡ Err (Bad k)
       go false y f g w = refl
       go true false f g w = refl
       go true true f g (inl p) = let e = f p in let z : ◌≡◌ {A = ℕ} 0 1 = cc in absurd (omega arith)
@@ -126,7 +127,7 @@ module _ (key : ℕ) (s : List ℕ) (at b lo hi : ℕ) where
     pub second_out : (get_or s (at + 1) 0 < lo) ⊎ (hi < get_or s (at + 1) 0) → Told key s at 0
     unfolding permitted_at
     second_out w =
-        (sym (ap (λ (r : Read). plain_len key (permitted_at (suc m) r)) (out s (at + 1) i m lo hi (b % (lead_of b).modulus) 1 w)) ∙ ap (plain_len key) (first (suc m) p), omega arith)
+        (sym (ap (λ (r : Result (ℕ × ℕ) Malformed). plain_len key (permitted_at (suc m) r)) (out s (at + 1) i m lo hi (b % (lead_of b).modulus) 1 w)) ∙ ap (plain_len key) (first (suc m) p), omega arith)
 
     second : lo ≤ get_or s (at + 1) 0 → get_or s (at + 1) 0 ≤ hi →
         permitted_at (suc m) (conts m 0x80 0xBF (b % (lead_of b).modulus * 64 + (get_or s (at + 1) 0 - 0x80)) 2 (drop (at + 2) s)) ≡ read_value (drop at s)
@@ -137,7 +138,7 @@ module _ (key : ℕ) (s : List ℕ) (at b lo hi : ℕ) where
     pub third_out : (get_or s (at + 2) 0 < 128) ⊎ (191 < get_or s (at + 2) 0) → Told key s at 0
     unfolding permitted_at
     third_out o =
-        (sym (ap (λ (r : Read). plain_len key (permitted_at (suc (suc m)) r)) (out s (at + 2) i m 128 191 (b % (lead_of b).modulus * 64 + (get_or s (at + 1) 0 - 0x80)) 2 o)) ∙ ap (plain_len key) (second (suc m) p (omega arith) w.0 w.1), omega arith)
+        (sym (ap (λ (r : Result (ℕ × ℕ) Malformed). plain_len key (permitted_at (suc (suc m)) r)) (out s (at + 2) i m 128 191 (b % (lead_of b).modulus * 64 + (get_or s (at + 1) 0 - 0x80)) 2 o)) ∙ ap (plain_len key) (second (suc m) p (omega arith) w.0 w.1), omega arith)
 
     third : 128 ≤ get_or s (at + 2) 0 → get_or s (at + 2) 0 ≤ 191 →
         permitted_at (suc (suc m)) (conts m 0x80 0xBF ((b % (lead_of b).modulus * 64 + (get_or s (at + 1) 0 - 0x80)) * 64 + (get_or s (at + 2) 0 - 0x80)) 3 (drop (at + 3) s)) ≡ read_value (drop at s)
@@ -148,14 +149,14 @@ module _ (key : ℕ) (s : List ℕ) (at b lo hi : ℕ) where
     pub fourth_out : (get_or s (at + 3) 0 < 128) ⊎ (191 < get_or s (at + 3) 0) → Told key s at 0
     unfolding permitted_at
     fourth_out o =
-        (sym (ap (λ (r : Read). plain_len key (permitted_at 3 r)) (out s (at + 3) i 0 128 191 ((b % (lead_of b).modulus * 64 + (get_or s (at + 1) 0 - 0x80)) * 64 + (get_or s (at + 2) 0 - 0x80)) 3 o)) ∙ ap (plain_len key) (third 1 p (omega arith) (w.0, w.1) w.2 w.3), omega arith)
+        (sym (ap (λ (r : Result (ℕ × ℕ) Malformed). plain_len key (permitted_at 3 r)) (out s (at + 3) i 0 128 191 ((b % (lead_of b).modulus * 64 + (get_or s (at + 1) 0 - 0x80)) * 64 + (get_or s (at + 2) 0 - 0x80)) 3 o)) ∙ ap (plain_len key) (third 1 p (omega arith) (w.0, w.1) w.2 w.3), omega arith)
 
     fourth : 128 ≤ get_or s (at + 3) 0 → get_or s (at + 3) 0 ≤ 191 →
         permitted_at 3 (conts 0 0x80 0xBF (((b % (lead_of b).modulus * 64 + (get_or s (at + 1) 0 - 0x80)) * 64 + (get_or s (at + 2) 0 - 0x80)) * 64 + (get_or s (at + 3) 0 - 0x80)) 4 (drop (at + 4) s)) ≡ read_value (drop at s)
     fourth g h = ap (permitted_at 3) (sym (goes s (at + 3) i 0 128 191 ((b % (lead_of b).modulus * 64 + (get_or s (at + 1) 0 - 0x80)) * 64 + (get_or s (at + 2) 0 - 0x80)) 3 g h (at + 4) (omega arith))) ∙ third 1 p (omega arith) (w.0, w.1) w.2 w.3
 
   -- the whole value, with z its last byte, of l bytes
-  module _ (j v l u z : ℕ) (q : v ≡ u * 64 + (z - 128)) (g : 2 ≤ u) (w : (128 ≤ z) × (z ≤ 191)) (e : permitted_at j (Value v l) ≡ read_value (drop at s)) (h : at + l ≤ length s) where
+  module _ (j v l u z : ℕ) (q : v ≡ u * 64 + (z - 128)) (g : 2 ≤ u) (w : (128 ≤ z) × (z ≤ 191)) (e : permitted_at j (Ok (v , l)) ≡ read_value (drop at s)) (h : at + l ≤ length s) where
     whole_met : z ≡ key → Told key s at 0
     whole_met k = (key_met key j v l z (ap utf8_key q ∙ key_last u z g w.0 (omega (arith, w.1))) k ∙ ap (plain_len key) e, omega arith)
 
@@ -171,9 +172,9 @@ module _ (key : ℕ) (s : List ℕ) (at b lo hi : ℕ) where
     two_asks : (194 ≤ b) × (b < 224) × (128 ≤ get_or s (at + 1) 0) × (get_or s (at + 1) 0 ≤ 191)
     two_asks = let k = row_two b h p.2 in omega (arith, k.from, k.to, k.low, k.high, p.3, p.4, w.0, w.1)
 
-    two_read : permitted_at 1 (Value (b % 32 * 64 + (get_or s (at + 1) 0 - 128)) 2) ≡ read_value (drop at s)
+    two_read : permitted_at 1 (Ok ((b % 32 * 64 + (get_or s (at + 1) 0 - 128)) , 2)) ≡ read_value (drop at s)
     two_read =
-        subst (λ (m : ℕ). permitted_at 1 (Value (b % m * 64 + (get_or s (at + 1) 0 - 128)) 2) ≡ read_value (drop at s)) (row_two b h p.2).by
+        subst (λ (m : ℕ). permitted_at 1 (Ok ((b % m * 64 + (get_or s (at + 1) 0 - 128)) , 2)) ≡ read_value (drop at s)) (row_two b h p.2).by
         (ap (permitted_at 1) (sym (reached 128 191 (b % (lead_of b).modulus * 64 + (get_or s (at + 1) 0 - 128)) 2 (drop (at + 2) s))) ∙ second 0 p i w.0 w.1)
 
     pub two_met : get_or s (at + 1) 0 ≡ key → Told key s at 0
@@ -193,9 +194,9 @@ module _ (key : ℕ) (s : List ℕ) (at b lo hi : ℕ) where
     three_some : 2 ≤ b % 16 * 64 + (get_or s (at + 1) 0 - 128)
     three_some = let k = row_three b h p.2 in omega (arith, k.some, p.3, w.0)
 
-    three_read : permitted_at 2 (Value ((b % 16 * 64 + (get_or s (at + 1) 0 - 128)) * 64 + (get_or s (at + 2) 0 - 128)) 3) ≡ read_value (drop at s)
+    three_read : permitted_at 2 (Ok (((b % 16 * 64 + (get_or s (at + 1) 0 - 128)) * 64 + (get_or s (at + 2) 0 - 128)) , 3)) ≡ read_value (drop at s)
     three_read =
-        subst (λ (m : ℕ). permitted_at 2 (Value ((b % m * 64 + (get_or s (at + 1) 0 - 128)) * 64 + (get_or s (at + 2) 0 - 128)) 3) ≡ read_value (drop at s)) (row_three b h p.2).by
+        subst (λ (m : ℕ). permitted_at 2 (Ok (((b % m * 64 + (get_or s (at + 1) 0 - 128)) * 64 + (get_or s (at + 2) 0 - 128)) , 3)) ≡ read_value (drop at s)) (row_three b h p.2).by
         (ap (permitted_at 2) (sym (reached 128 191 ((b % (lead_of b).modulus * 64 + (get_or s (at + 1) 0 - 128)) * 64 + (get_or s (at + 2) 0 - 128)) 3 (drop (at + 3) s))) ∙ third 0 p i (w.0, w.1) w.2 w.3)
 
     pub three_met : get_or s (at + 2) 0 ≡ key → Told key s at 0
@@ -211,9 +212,9 @@ module _ (key : ℕ) (s : List ℕ) (at b lo hi : ℕ) where
         × (16 ≤ b % 8 * 64 + (get_or s (at + 1) 0 - 128))
     four_asks = let k = row_four b h p.2 in omega (arith, k.from, k.to, k.low, k.high, k.some, p.3, p.4, w.0, w.1, w.2, w.3, w.4, w.5)
 
-    four_read : permitted_at 3 (Value (((b % 8 * 64 + (get_or s (at + 1) 0 - 128)) * 64 + (get_or s (at + 2) 0 - 128)) * 64 + (get_or s (at + 3) 0 - 128)) 4) ≡ read_value (drop at s)
+    four_read : permitted_at 3 (Ok ((((b % 8 * 64 + (get_or s (at + 1) 0 - 128)) * 64 + (get_or s (at + 2) 0 - 128)) * 64 + (get_or s (at + 3) 0 - 128)) , 4)) ≡ read_value (drop at s)
     four_read =
-        subst (λ (m : ℕ). permitted_at 3 (Value (((b % m * 64 + (get_or s (at + 1) 0 - 128)) * 64 + (get_or s (at + 2) 0 - 128)) * 64 + (get_or s (at + 3) 0 - 128)) 4) ≡ read_value (drop at s)) (row_four b h p.2).by
+        subst (λ (m : ℕ). permitted_at 3 (Ok ((((b % m * 64 + (get_or s (at + 1) 0 - 128)) * 64 + (get_or s (at + 2) 0 - 128)) * 64 + (get_or s (at + 3) 0 - 128)) , 4)) ≡ read_value (drop at s)) (row_four b h p.2).by
         (ap (permitted_at 3) (sym (reached 128 191 (((b % (lead_of b).modulus * 64 + (get_or s (at + 1) 0 - 128)) * 64 + (get_or s (at + 2) 0 - 128)) * 64 + (get_or s (at + 3) 0 - 128)) 4 (drop (at + 4) s))) ∙ fourth p i (w.0, w.1, w.2, w.3) w.4 w.5)
 
     pub four_met : get_or s (at + 3) 0 ≡ key → Told key s at 0
@@ -228,5 +229,5 @@ none_begun key s at b (h, e, g) k n2 n3 n4 =
     let f = all_fine b k in
     let n1 = longer b g k in
     let z : (lead_of b).len ≡ 0 = omega (arith, f.few) in
-    let q : Bad 0 ≡ read_value (drop at s) = rw (drop-cons s at 0 h, ← e) (no_value (b ∷ drop (suc at) s) (omega arith) (lead_of b) refl z) in
+    let q : Err (Bad 0) ≡ read_value (drop at s) = rw (drop-cons s at 0 h, ← e) (no_value (b ∷ drop (suc at) s) (omega arith) (lead_of b) refl z) in
     (ap (plain_len key) q, omega arith)

@@ -11,10 +11,11 @@ use Rattle.base.specs.Meaning.{pick}
 use Rattle.base.proofs.Tests.{below}
 use Rattle.token.specs.Reading.{is_noncharacter}
 use Rattle.token.proofs.Noncharacters.{under, among, in_plane}
-use Rattle.utf8.specs.declared.Read.TheVariants.{Value, Bad}
 use Rattle.utf8.specs.Reading.{lead_row, permitted_at, read_value, utf8_key, plain_len}
 use Rattle.utf8.proofs.Rows.{row_y}
 use Rattle.utf8.proofs.First.{no_value}
+use Rattle.std.specs.Prelude.{Ok, Err}
+use Rattle.token.specs.declared.Malformed.TheVariants.{Bad}
 
 -- the key by the value
 pub key_itself : (v : ℕ) → v < 0x80 → v ≡ utf8_key v
@@ -38,24 +39,24 @@ pub key_last : (u z : ℕ) → 2 ≤ u → 0x80 ≤ z → z < 0xC0 → utf8_key 
 key_last u z g h k = sym (key_above (u * 64 + (z - 0x80)) (omega arith)) ∙ omega arith
 
 -- FE and FF begin no value
-pub mark_bad : (s : List ℕ) → 0 < length s → (b : ℕ) → get_or s 0 0 ≡ b → 254 ≤ b → b < 256 → read_value s ≡ Bad 0
+pub mark_bad : (s : List ℕ) → 0 < length s → (b : ℕ) → get_or s 0 0 ≡ b → 254 ≤ b → b < 256 → read_value s ≡ Err (Bad 0)
 mark_bad s h b e g k = sym (no_value s h (lead_row 0 1 128 191) (row_y (get_or s 0 0) (omega arith) (omega arith)) refl)
 
 -- the length of what was read, by its last byte z
 module _ (key j v l z : ℕ) (e : utf8_key v ≡ z) where
-  pub key_met : z ≡ key → 0 ≡ plain_len key (permitted_at j (Value v l))
+  pub key_met : z ≡ key → 0 ≡ plain_len key (permitted_at j (Ok (v , l)))
   unfolding permitted_at
   key_met q = go (is_noncharacter v)
     where
-      go : (t : Bool) → 0 ≡ plain_len key (pick t (Bad j) (Value v l))
+      go : (t : Bool) → 0 ≡ plain_len key (pick t (Err (Bad j)) (Ok (v , l)))
       go true = refl
       go false = rw (eq-eqb (utf8_key v) key (e ∙ q))
 
-  pub key_other : (z ≡ key → ⊥) → pick (is_noncharacter v) 0 l ≡ plain_len key (permitted_at j (Value v l))
+  pub key_other : (z ≡ key → ⊥) → pick (is_noncharacter v) 0 l ≡ plain_len key (permitted_at j (Ok (v , l)))
   unfolding permitted_at
   key_other n = go (is_noncharacter v)
     where
-      go : (t : Bool) → pick t 0 l ≡ plain_len key (pick t (Bad j) (Value v l))
+      go : (t : Bool) → pick t 0 l ≡ plain_len key (pick t (Err (Bad j)) (Ok (v , l)))
       go true = refl
       go false = rw (ne_eqb (utf8_key v) key (λ q. n (sym e ∙ q)))
 

@@ -17,8 +17,6 @@ use Rattle.token.specs.declared.Token.TheVariants.{Value as TokenValue, Start, E
 use Rattle.token.specs.Meaning.{Noncharacter}
 use Rattle.token.proofs.Noncharacters.{low, round}
 use Rattle.token.proofs.Stopping.{Begun, Stopping}
-use Rattle.utf8.specs.declared.Read.{Read}
-use Rattle.utf8.specs.declared.Read.TheVariants.{Value, Cut, Bad}
 use Rattle.utf8.specs.Reading.{lead_of, conts, permitted_at, read_value, as_token, read_utf8}
 use Rattle.utf8.specs.Meaning.{utf8_bytes, Utf8Value}
 use Rattle.utf8.proofs.First.{as_value, back_cut, back_bad}
@@ -28,6 +26,9 @@ use Rattle.utf8.proofs.Growing.{conts_short}
 use Rattle.utf8.proofs.Writing.{further}
 use Rattle.utf8.proofs.Reading.{value_of}
 use Rattle.utf8.proofs.Coding.{read_nil}
+use Rattle.std.specs.Prelude.{Result, Ok, Err}
+use Rattle.token.specs.declared.Malformed.{Malformed}
+use Rattle.token.specs.declared.Malformed.TheVariants.{Cut, Bad}
 
 -- the bounds of every row are some
 some_bounds : (b : ℕ) → b < 256 → (lead_of b).lo ≤ (lead_of b).hi
@@ -43,7 +44,7 @@ two_low b h e = rw (eq-eqb (lead_of b).len 2 e) at (eqb→eq (pick (eqb (lead_of
 record Grown (n lo hi v k : ℕ) (s : List ℕ) : Type 0 where
   more : List ℕ
   value : ℕ
-  reads : conts n lo hi v k (s ++ more) ≡ Value value (k + length (s ++ more))
+  reads : conts n lo hi v k (s ++ more) ≡ Ok (value , (k + length (s ++ more)))
   -- the last byte's bits are 0, so the value is no noncharacter
   round : 1 ≤ n → (n ≡ 1 → lo ≡ 0x80) → value % 64 ≡ 0
 
@@ -62,18 +63,18 @@ fill (suc (suc n)) lo hi v k h =
     record {
       more = lo ∷ r.more;
       value = r.value;
-      reads = further (suc n) lo hi v k lo r.more (omega arith) h ∙ r.reads ∙ ap (Value r.value) (sym e);
+      reads = further (suc n) lo hi v k lo r.more (omega arith) h ∙ r.reads ∙ ap (λ (m : ℕ). Ok (r.value , m)) (sym e);
       round = λ p q. r.round (omega arith) (λ _. refl);
     }
 
-grow : (n lo hi v k : ℕ) (s : List ℕ) → lo ≤ hi → conts n lo hi v k s ≡ Cut → Grown n lo hi v k s
+grow : (n lo hi v k : ℕ) (s : List ℕ) → lo ≤ hi → conts n lo hi v k s ≡ Err Cut → Grown n lo hi v k s
 unfolding conts
 grow zero lo hi v k s h e = let z : ◌≡◌ {A = ℕ} 0 1 = cc in absurd (omega arith)
 grow (suc n) lo hi v k [] h e = fill (suc n) lo hi v k h
 grow (suc n) lo hi v k (b ∷ s) h e = go (leb lo b) refl (leb b hi) refl e (grow n 0x80 0xBF (v * 64 + (b - 0x80)) (k + 1) s (omega arith))
   where
-    go : (x : Bool) → leb lo b ≡ x → (y : Bool) → leb b hi ≡ y → pick (x && y) (conts n 0x80 0xBF (v * 64 + (b - 0x80)) (k + 1) s) (Bad k) ≡ Cut →
-        (conts n 0x80 0xBF (v * 64 + (b - 0x80)) (k + 1) s ≡ Cut → Grown n 0x80 0xBF (v * 64 + (b - 0x80)) (k + 1) s) → Grown (suc n) lo hi v k (b ∷ s)
+    go : (x : Bool) → leb lo b ≡ x → (y : Bool) → leb b hi ≡ y → pick (x && y) (conts n 0x80 0xBF (v * 64 + (b - 0x80)) (k + 1) s) (Err (Bad k)) ≡ Err Cut →
+        (conts n 0x80 0xBF (v * 64 + (b - 0x80)) (k + 1) s ≡ Err Cut → Grown n 0x80 0xBF (v * 64 + (b - 0x80)) (k + 1) s) → Grown (suc n) lo hi v k (b ∷ s)
     go true p true q f ih =
         let r = ih f in
         let e : k + suc (length (s ++ r.more)) ≡ k + 1 + length (s ++ r.more) = omega arith in
@@ -81,7 +82,7 @@ grow (suc n) lo hi v k (b ∷ s) h e = go (leb lo b) refl (leb b hi) refl e (gro
         record {
           more = r.more;
           value = r.value;
-          reads = further n lo hi v k b (s ++ r.more) (leb-true lo b p) (leb-true b hi q) ∙ r.reads ∙ ap (Value r.value) (sym e);
+          reads = further n lo hi v k b (s ++ r.more) (leb-true lo b p) (leb-true b hi q) ∙ r.reads ∙ ap (λ (m : ℕ). Ok (r.value , m)) (sym e);
           round = λ _ _. r.round (omega arith) (λ _. refl);
         }
     go true p false q f ih = let z : ◌≡◌ {A = ℕ} 0 1 = cc in absurd (omega arith)
@@ -92,20 +93,20 @@ record Stopped (n lo hi v k : ℕ) (s : List ℕ) (j : ℕ) : Type 0 where
   good : ℕ
   place : j ≡ k + good
   within_list : good < length s
-  cut : conts n lo hi v k (take good s) ≡ Cut
-  never : (x : List ℕ) → conts n lo hi v k (take (suc good) s ++ x) ≡ Bad j
+  cut : conts n lo hi v k (take good s) ≡ Err Cut
+  never : (x : List ℕ) → conts n lo hi v k (take (suc good) s ++ x) ≡ Err (Bad j)
 
 no_bad : {A : Type 0} (x : Token) (j : ℕ) → x ≡ TokenBad j → x ≡ TokenCut → A
 no_bad x j e f = let z : ◌≡◌ {A = ℕ} 0 1 = cc in absurd (omega arith)
 
-stopped : (n lo hi v k : ℕ) (s : List ℕ) (j : ℕ) → conts n lo hi v k s ≡ Bad j → Stopped n lo hi v k s j
+stopped : (n lo hi v k : ℕ) (s : List ℕ) (j : ℕ) → conts n lo hi v k s ≡ Err (Bad j) → Stopped n lo hi v k s j
 unfolding conts
 stopped zero lo hi v k s j e = let z : ◌≡◌ {A = ℕ} 0 1 = cc in absurd (omega arith)
 stopped (suc n) lo hi v k [] j e = let z : ◌≡◌ {A = ℕ} 0 1 = cc in absurd (omega arith)
 stopped (suc n) lo hi v k (b ∷ s) j e = go (within lo hi b) refl e (stopped n 0x80 0xBF (v * 64 + (b - 0x80)) (k + 1) s j)
   where
-    go : (x : Bool) → within lo hi b ≡ x → pick x (conts n 0x80 0xBF (v * 64 + (b - 0x80)) (k + 1) s) (Bad k) ≡ Bad j →
-        (conts n 0x80 0xBF (v * 64 + (b - 0x80)) (k + 1) s ≡ Bad j → Stopped n 0x80 0xBF (v * 64 + (b - 0x80)) (k + 1) s j) → Stopped (suc n) lo hi v k (b ∷ s) j
+    go : (x : Bool) → within lo hi b ≡ x → pick x (conts n 0x80 0xBF (v * 64 + (b - 0x80)) (k + 1) s) (Err (Bad k)) ≡ Err (Bad j) →
+        (conts n 0x80 0xBF (v * 64 + (b - 0x80)) (k + 1) s ≡ Err (Bad j) → Stopped n 0x80 0xBF (v * 64 + (b - 0x80)) (k + 1) s j) → Stopped (suc n) lo hi v k (b ∷ s) j
     go true p f ih =
         let r = ih f in
         record { good = suc r.good; place = omega (arith, r.place); within_list = omega (arith, r.within_list); cut = rw p r.cut; never = λ x. rw p (r.never x) }
@@ -116,29 +117,29 @@ stopped (suc n) lo hi v k (b ∷ s) j e = go (within lo hi b) refl e (stopped n 
 -- a value that is all there: it stays whatever follows, and without its last byte it is cut
 record Whole (n lo hi v k : ℕ) (s : List ℕ) (w l : ℕ) : Type 0 where
   within_list : n ≤ length s
-  kept : (x : List ℕ) → conts n lo hi v k (take n s ++ x) ≡ Value w l
-  cut : (m : ℕ) → n ≡ suc m → conts n lo hi v k (take m s) ≡ Cut
+  kept : (x : List ℕ) → conts n lo hi v k (take n s ++ x) ≡ Ok (w , l)
+  cut : (m : ℕ) → n ≡ suc m → conts n lo hi v k (take m s) ≡ Err Cut
 
-whole : (n lo hi v k : ℕ) (s : List ℕ) (w l : ℕ) → conts n lo hi v k s ≡ Value w l → Whole n lo hi v k s w l
+whole : (n lo hi v k : ℕ) (s : List ℕ) (w l : ℕ) → conts n lo hi v k s ≡ Ok (w , l) → Whole n lo hi v k s w l
 unfolding conts
 whole zero lo hi v k s w l e = record { within_list = omega arith; kept = λ x. e; cut = λ m q. absurd (omega arith) }
 whole (suc n) lo hi v k [] w l e = let z : ◌≡◌ {A = ℕ} 0 1 = cc in absurd (omega arith)
 whole (suc n) lo hi v k (b ∷ s) w l e = go (within lo hi b) refl e (whole n 0x80 0xBF (v * 64 + (b - 0x80)) (k + 1) s w l)
   where
-    go : (x : Bool) → within lo hi b ≡ x → pick x (conts n 0x80 0xBF (v * 64 + (b - 0x80)) (k + 1) s) (Bad k) ≡ Value w l →
-        (conts n 0x80 0xBF (v * 64 + (b - 0x80)) (k + 1) s ≡ Value w l → Whole n 0x80 0xBF (v * 64 + (b - 0x80)) (k + 1) s w l) → Whole (suc n) lo hi v k (b ∷ s) w l
+    go : (x : Bool) → within lo hi b ≡ x → pick x (conts n 0x80 0xBF (v * 64 + (b - 0x80)) (k + 1) s) (Err (Bad k)) ≡ Ok (w , l) →
+        (conts n 0x80 0xBF (v * 64 + (b - 0x80)) (k + 1) s ≡ Ok (w , l) → Whole n 0x80 0xBF (v * 64 + (b - 0x80)) (k + 1) s w l) → Whole (suc n) lo hi v k (b ∷ s) w l
     go true p f ih = let r = ih f in record { within_list = omega (arith, r.within_list); kept = λ x. rw p (r.kept x); cut = cut_at r }
       where
-        cut_at : Whole n 0x80 0xBF (v * 64 + (b - 0x80)) (k + 1) s w l → (m : ℕ) → suc n ≡ suc m → conts (suc n) lo hi v k (take m (b ∷ s)) ≡ Cut
+        cut_at : Whole n 0x80 0xBF (v * 64 + (b - 0x80)) (k + 1) s w l → (m : ℕ) → suc n ≡ suc m → conts (suc n) lo hi v k (take m (b ∷ s)) ≡ Err Cut
         cut_at r zero q = refl
         cut_at r (suc m) q = rw p (r.cut m (omega arith))
     go false p f ih = let z : ◌≡◌ {A = ℕ} 0 1 = cc in absurd (omega arith)
 
 -- a first byte with a row, and the rest
-abbrev inner : ℕ → List ℕ → Read
+abbrev inner : ℕ → List ℕ → Result (ℕ × ℕ) Malformed
 inner b t = conts ((lead_of b).len - 1) (lead_of b).lo (lead_of b).hi (b % (lead_of b).modulus) 1 t
 
-abbrev token : ℕ → Read → Token
+abbrev token : ℕ → Result (ℕ × ℕ) Malformed → Token
 token b r = as_token (permitted_at ((lead_of b).len - 1) r)
 
 record Inner (b : ℕ) : Type 0 where
@@ -155,7 +156,7 @@ unfolding read_utf8 read_value
 cut_inner b t e = go (eqb b 0xFE) refl (eqb b 0xFF) refl (eqb (lead_of b).len 0) refl e
   where
     go : (x : Bool) → eqb b 0xFE ≡ x → (y : Bool) → eqb b 0xFF ≡ y → (z : Bool) → eqb (lead_of b).len 0 ≡ z →
-        pick x Start (pick y End (as_token (pick z (Bad 0) (permitted_at ((lead_of b).len - 1) (inner b t))))) ≡ TokenCut → Inner b
+        pick x Start (pick y End (as_token (pick z (Err (Bad 0)) (permitted_at ((lead_of b).len - 1) (inner b t))))) ≡ TokenCut → Inner b
     go true p y q z r f = let z : ◌≡◌ {A = ℕ} 0 1 = cc in absurd (omega arith)
     go false p true q z r f = let z : ◌≡◌ {A = ℕ} 0 1 = cc in absurd (omega arith)
     go false p false q true r f = let z : ◌≡◌ {A = ℕ} 0 1 = cc in absurd (omega arith)
@@ -169,7 +170,7 @@ unfolding read_utf8 read_value permitted_at
 bad_at b t k e = go (eqb b 0xFE) refl (eqb b 0xFF) refl (eqb (lead_of b).len 0) refl e
   where
     go : (x : Bool) → eqb b 0xFE ≡ x → (y : Bool) → eqb b 0xFF ≡ y → (z : Bool) → eqb (lead_of b).len 0 ≡ z →
-        pick x Start (pick y End (as_token (pick z (Bad 0) (permitted_at ((lead_of b).len - 1) (inner b t))))) ≡ TokenBad k → BadAt b t k
+        pick x Start (pick y End (as_token (pick z (Err (Bad 0)) (permitted_at ((lead_of b).len - 1) (inner b t))))) ≡ TokenBad k → BadAt b t k
     go true p y q z r f = let z : ◌≡◌ {A = ℕ} 0 1 = cc in absurd (omega arith)
     go false p true q z r f = let z : ◌≡◌ {A = ℕ} 0 1 = cc in absurd (omega arith)
     go false p false q true r f =
@@ -177,7 +178,7 @@ bad_at b t k e = go (eqb b 0xFE) refl (eqb b 0xFF) refl (eqb (lead_of b).len 0) 
         (0, sym w, omega arith, refl, λ x. rw (p, q, r, w))
     go false p false q false r f = by (bad_permitted ((lead_of b).len - 1) (inner b t) k (back_bad _ k f))
       where
-        by : (inner b t ≡ Bad k) ⊎ ((v l : ℕ) × (inner b t ≡ Value v l) × Noncharacter v × (k ≡ (lead_of b).len - 1)) → BadAt b t k
+        by : (inner b t ≡ Err (Bad k)) ⊎ ((v l : ℕ) × (inner b t ≡ Ok (v , l)) × Noncharacter v × (k ≡ (lead_of b).len - 1)) → BadAt b t k
         by (inl g) =
             let u = stopped ((lead_of b).len - 1) (lead_of b).lo (lead_of b).hi (b % (lead_of b).modulus) 1 t k g in
             (suc u.good, omega (arith, u.place), omega (arith, u.within_list), rw (p, q, r) (ap (token b) u.cut), λ x. rw (p, q, r) (ap (token b) (u.never x)))
@@ -199,7 +200,7 @@ unfolding utf8_bytes
 cut_begun [] y e = record { value = 0x41; more = 0x41 ∷ []; of = (inl (omega arith), low 0x41 (omega arith)); same = refl }
 cut_begun (b ∷ t) y e =
     let i = cut_inner b t e in
-    let u : inner b t ≡ Cut = cut_permitted ((lead_of b).len - 1) (inner b t) (back_cut _ (sym (read_inner b t i) ∙ e)) in
+    let u : inner b t ≡ Err Cut = cut_permitted ((lead_of b).len - 1) (inner b t) (back_cut _ (sym (read_inner b t i) ∙ e)) in
     let g = grow ((lead_of b).len - 1) (lead_of b).lo (lead_of b).hi (b % (lead_of b).modulus) 1 t (some_bounds b y.0) u in
     let c = conts_short ((lead_of b).len - 1) (lead_of b).lo (lead_of b).hi (b % (lead_of b).modulus) 1 t u in
     let o = round g.value (g.round (omega arith) (λ q. two_low b y.0 (omega arith))) in

@@ -1,14 +1,14 @@
 -- One value at the front of a list of bytes: well-formed UTF-8 (Unicode, Table 3-7), and no noncharacter. And one token: FE starts a sequence, FF ends
 -- a description, and anything else is a value.
-use Rattle.std.specs.Prelude.{List, [], ◌∷◌, ℕ, ◌+◌, ◌%◌, zero, suc, ◌-◌, ◌*◌, Bool, true, false, ltb, eqb}
+use Rattle.std.specs.Prelude.{List, [], ◌∷◌, ℕ, ◌+◌, ◌%◌, zero, suc, ◌-◌, ◌*◌, Bool, true, false, ltb, eqb, Result, Ok, Err}
 use Rattle.base.specs.Meaning.{pick}
 use Rattle.base.specs.Reading.{when, within}
 use Rattle.token.specs.Reading.{is_noncharacter}
 use Rattle.token.specs.declared.Token.{Token}
 use Rattle.token.specs.declared.Token.TheVariants.{Value as TokenValue, Start, End, Cut as TokenCut, Bad as TokenBad}
 use Rattle.utf8.specs.declared.Lead.{Lead}
-use Rattle.utf8.specs.declared.Read.{Read}
-use Rattle.utf8.specs.declared.Read.TheVariants.{Value, Cut, Bad}
+use Rattle.token.specs.declared.Malformed.{Malformed}
+use Rattle.token.specs.declared.Malformed.TheVariants.{Cut, Bad}
 
 -- the same as tests
 unfoldable pub is_scalar : ℕ → Bool
@@ -36,22 +36,21 @@ lead_of b =
     (lead_row 0 1 0x80 0xBF)))))))))
 
 -- the bytes after the first: n more, the next within lo and hi; v so far, k bytes taken
-unfoldable pub conts : ℕ → ℕ → ℕ → ℕ → ℕ → List ℕ → Read
-conts zero lo hi v k s = Value v k
-conts (suc n) lo hi v k [] = Cut
-conts (suc n) lo hi v k (b ∷ s) = pick (within lo hi b) (conts n 0x80 0xBF (v * 64 + (b - 0x80)) (k + 1) s) (Bad k)
+unfoldable pub conts : ℕ → ℕ → ℕ → ℕ → ℕ → List ℕ → Result (ℕ × ℕ) Malformed
+conts zero lo hi v k s = Ok (v , k)
+conts (suc n) lo hi v k [] = Err Cut
+conts (suc n) lo hi v k (b ∷ s) = pick (within lo hi b) (conts n 0x80 0xBF (v * 64 + (b - 0x80)) (k + 1) s) (Err (Bad k))
 
 -- a noncharacter is no value: it is bad at k
-unfoldable pub permitted_at : ℕ → Read → Read
-permitted_at k (Value v l) = pick (is_noncharacter v) (Bad k) (Value v l)
-permitted_at k Cut = Cut
-permitted_at k (Bad j) = Bad j
+unfoldable pub permitted_at : ℕ → Result (ℕ × ℕ) Malformed → Result (ℕ × ℕ) Malformed
+permitted_at k (Ok (v , l)) = pick (is_noncharacter v) (Err (Bad k)) (Ok (v , l))
+permitted_at k (Err t) = Err t
 
 -- the value in front; a noncharacter is bad at its last byte
-unfoldable pub read_value : List ℕ → Read
-read_value [] = Cut
+unfoldable pub read_value : List ℕ → Result (ℕ × ℕ) Malformed
+read_value [] = Err Cut
 read_value (b ∷ s) =
-    pick (eqb (lead_of b).len 0) (Bad 0)
+    pick (eqb (lead_of b).len 0) (Err (Bad 0))
     (permitted_at ((lead_of b).len - 1) (conts ((lead_of b).len - 1) (lead_of b).lo (lead_of b).hi (b % (lead_of b).modulus) 1 s))
 
 -- a value's key: its last byte
@@ -59,16 +58,16 @@ unfoldable pub utf8_key : ℕ → ℕ
 utf8_key v = pick (ltb v 0x80) v (0x80 + v % 64)
 
 -- how many bytes a value has that was read; 0 where there is none, or its key is k
-abbrev pub plain_len : ℕ → Read → ℕ
-plain_len k (Value v l) = pick (eqb (utf8_key v) k) 0 l
-plain_len k Cut = 0
-plain_len k (Bad j) = 0
+abbrev pub plain_len : ℕ → Result (ℕ × ℕ) Malformed → ℕ
+plain_len k (Ok (v , l)) = pick (eqb (utf8_key v) k) 0 l
+plain_len k (Err Cut) = 0
+plain_len k (Err (Bad j)) = 0
 
 -- what was read, as a token
-abbrev pub as_token : Read → Token
-as_token (Value v l) = TokenValue v l
-as_token Cut = TokenCut
-as_token (Bad k) = TokenBad k
+abbrev pub as_token : Result (ℕ × ℕ) Malformed → Token
+as_token (Ok (v , l)) = TokenValue v l
+as_token (Err Cut) = TokenCut
+as_token (Err (Bad k)) = TokenBad k
 
 -- the token in front
 unfoldable pub read_utf8 : List ℕ → Token

@@ -11,6 +11,7 @@ ghost use Rattle.utf8.specs.Bounds.{Reached};
 ghost use Rattle.utf8.specs.Meaning.{Scalar, utf8_bytes};
 
 use base::wide;
+use token::Malformed;
 
 // What the first byte of a value says: the value's length (0: no value begins so), the modulus that
 // leaves the first byte's bits, and the bounds of the second byte.
@@ -118,15 +119,6 @@ fn four_lead(b: u8) -> Lead
     }
 }
 
-// What stands at the front of some bytes: a value and how many bytes it has, the beginning of one whose end is missing, or bytes that
-// begin none, the place of the first wrong byte with it.
-#[derive(Clone, Copy)]
-pub enum Read {
-    Value(u32, usize),
-    Cut,
-    Bad(usize),
-}
-
 // Whether a byte is within bounds.
 fn is_within(x: u8, lo: u8, hi: u8) -> bool
     ensures { result ≡ within lo hi x }
@@ -147,82 +139,69 @@ fn six_more(v: u32, x: u8) -> u32
 
 // A value's byte k, within its bounds, where those before it gave v: the value if it ends here. Asks for what the bytes before can give,
 // and for bounds from 80 on, as Table 3-7's rows have them.
-fn further(s: &[u8], k: usize, v: u32, lo: u8, hi: u8) -> Read
+fn further(s: &[u8], k: usize, v: u32, lo: u8, hi: u8) -> Result<(u32, usize), Malformed>
     requires { (v < 1048576) × (128 ≤ lo) }
     ensures { (result ≡ conts 1 lo hi v k (drop k s.now)) × Reached (v * 64 + 128) (k + 1) result }
 {
     if s.len() <= k {
-        return Read::Cut;
+        return Err(Malformed::Cut);
     }
     let x = s[k];
     let inside = is_within(x, lo, hi);
     if !inside {
-        return Read::Bad(k);
+        return Err(Malformed::Bad(k));
     }
-    Read::Value(six_more(v, x), k + 1)
+    Ok((six_more(v, x), k + 1))
 }
 
 // A value of three bytes whose first gave v: the second has its bounds, the third is 80 to BF. Asks for what the rows have.
-fn three(s: &[u8], v: u32, lo: u8, hi: u8) -> Read
+fn three(s: &[u8], v: u32, lo: u8, hi: u8) -> Result<(u32, usize), Malformed>
     requires { (v < 128) × (128 ≤ lo) }
     ensures { (result ≡ conts 2 lo hi v 1 (drop 1 s.now)) × Reached 532544 3 result }
 {
-    let r = further(s, 1, v, lo, hi);
-    match r {
-        Read::Value(w, _) => further(s, 2, w, 0x80, 0xBF),
-        Read::Cut => Read::Cut,
-        Read::Bad(k) => Read::Bad(k),
-    }
+    let (w, _) = further(s, 1, v, lo, hi)?;
+    further(s, 2, w, 0x80, 0xBF)
 }
 
 // A value of four bytes: three, and the fourth is 80 to BF too. Asks for what the rows have.
-fn four(s: &[u8], v: u32, lo: u8, hi: u8) -> Read
+fn four(s: &[u8], v: u32, lo: u8, hi: u8) -> Result<(u32, usize), Malformed>
     requires { (v < 128) × (128 ≤ lo) }
     ensures { result ≡ conts 3 lo hi v 1 (drop 1 s.now) }
 {
-    let r = three(s, v, lo, hi);
-    match r {
-        Read::Value(w, _) => further(s, 3, w, 0x80, 0xBF),
-        Read::Cut => Read::Cut,
-        Read::Bad(k) => Read::Bad(k),
-    }
+    let (w, _) = three(s, v, lo, hi)?;
+    further(s, 3, w, 0x80, 0xBF)
 }
 
 // What was read, but a noncharacter is no value: it is bad at k, the place of its last byte, since the bytes before that begin other values.
-fn permitted_at(k: usize, r: Read) -> Read
+fn permitted_at(k: usize, r: Result<(u32, usize), Malformed>) -> Result<(u32, usize), Malformed>
     ensures { result ≡ permitted_at k r }
 {
-    match r {
-        Read::Value(v, l) => {
-            if token::is_noncharacter(v) {
-                return Read::Bad(k);
-            }
-            Read::Value(v, l)
-        }
-        Read::Cut => Read::Cut,
-        Read::Bad(j) => Read::Bad(j),
+    let (v, l) = r?;
+    if token::is_noncharacter(v) {
+        return Err(Malformed::Bad(k));
     }
+    Ok((v, l))
 }
 
 // The value at the front of some bytes, and its length; Cut where the bytes end too soon, Bad with the place of the first byte that no
 // value has there: a value is well-formed, and no noncharacter. Noncharacters have three bytes or four.
 #[tactic(auto, using(crate::proofs::Itself::itself))]
-pub fn read_value(s: &[u8]) -> Read
+pub fn read_value(s: &[u8]) -> Result<(u32, usize), Malformed>
     ensures { result ≡ read_value s.now }
 {
     if s.len() == 0 {
-        return Read::Cut;
+        return Err(Malformed::Cut);
     }
     let b = s[0];
     if b < 0x80 {
-        return Read::Value(wide(b), 1);
+        return Ok((wide(b), 1));
     }
     let l = lead_of(b);
     let m = l.modulus;
     let v = wide(b % m);
     let n = l.len;
     match n {
-        0 => return Read::Bad(0),
+        0 => return Err(Malformed::Bad(0)),
         2 => return further(s, 1, v, l.lo, l.hi),
         3 => {
             let r = three(s, v, l.lo, l.hi);

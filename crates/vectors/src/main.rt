@@ -953,7 +953,7 @@ fn run(
 
 // Reads until buf is full or the input ends, and returns how many bytes it put at the start of buf. A read that a signal interrupts counts
 // as one that failed.
-fn read_full(reader: &mut impl Read, buf: &mut [u8]) -> io::Result<usize>
+fn read_full(reader: &mut impl Result<(u32, usize), Malformed>, buf: &mut [u8]) -> io::Result<usize>
     ensures { IfOk result (λ n. n ≤ length buf.new) }
 {
     let mut done = 0;

@@ -1,18 +1,13 @@
 -- `utf8::three` meets its contract: the second byte, and then the third. Assumes nothing but what it asks.
 use native.Mathlib.Omega.{arith}
 use Prim.Native.Nat.{◌+◌, ◌*◌}
-use mathlib.Core.Path.{sym, ◌∙◌}
-use Rattle.utf8.proofs.Conts.{then_value, then_cut, then_bad, reached_low}
+use mathlib.Core.Path.{refl, sym, ◌∙◌}
+use Rattle.base.proofs.Handed.{handed_on}
+use Rattle.utf8.proofs.Conts.{then_value, then_none, reached_low}
 use Rattle.utf8.proofs.three.Goals as goal
 
-pub further-requires : goal.further-requires
-further-requires c = let p = rw c.in-Value.is at c.further-r.ensures.1 in (omega (arith, p.0), omega arith)
+pub returns-in_err-w : goal.returns-in_err-w
+returns-in_err-w c = (handed_on c.from_residual.result _ _ c.from_residual.ensures.1 (then_none c.args.s.now 0 1 c.args.lo c.args.hi c.args.v _ (sym c.in_err-w.was ∙ c.further.ensures.0)), rw (handed_on c.from_residual.result _ _ c.from_residual.ensures.1 refl) tt)
 
-pub returns-in-Value : goal.returns-in-Value
-returns-in-Value c = let p = rw c.in-Value.is at c.further-r.ensures.1 in (then_value c.args.s.now 0 1 c.args.lo c.args.hi c.args.v _ _ (sym c.in-Value.is ∙ c.further-r.ensures.0) p.1 _ c.further.ensures.0, reached_low (c.in-Value.w * 64 + 128) 532544 3 c.further.result (omega (arith, p.0)) c.further.ensures.1)
-
-pub returns-in-Cut : goal.returns-in-Cut
-returns-in-Cut c = (then_cut c.args.s.now 0 1 c.args.lo c.args.hi c.args.v (sym c.in-Cut.is ∙ c.further-r.ensures.0), tt)
-
-pub returns-in-Bad : goal.returns-in-Bad
-returns-in-Bad c = (then_bad c.args.s.now 0 1 c.args.lo c.args.hi c.args.v _ (sym c.in-Bad.is ∙ c.further-r.ensures.0), tt)
+pub returns : goal.returns
+returns c = let p = rw c.in_ok-w.was at c.further.ensures.1 in (then_value c.args.s.now 0 1 c.args.lo c.args.hi c.args.v _ _ (sym c.in_ok-w.was ∙ c.further.ensures.0) p.1 _ c.further-2.ensures.0, reached_low (c.in_ok-w.w * 64 + 128) 532544 3 c.further-2.result (omega (arith, p.0)) c.further-2.ensures.1)
