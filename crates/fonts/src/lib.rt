@@ -62,8 +62,8 @@ pub fn row<'a>(file: &'a [u8], g: usize, y: usize) -> &'a [u8]
     let Ok(p) = row_part(file, g, y) else {
         return &file[..0];
     };
-    let end = p.start + p.len;
-    &file[p.start..end]
+    let to = p.start + p.len;
+    &file[p.start..to]
 }
 
 // The pixel of row y and column x of glyph g: 1 is drawn.

@@ -237,10 +237,10 @@ pub fn fed(l: Loader, piece: &[u8]) -> Loader
 pub fn fed_answer(l: Loader) -> Result<(), Refusal>
     ensures { result ≡ feed_answer l }
 {
-    if is_open(l) {
-        return Ok(());
+    if !is_open(l) {
+        return Err(refusal::refuse(Reason::Late, 0));
     }
-    Err(refusal::refuse(Reason::Late, 0))
+    Ok(())
 }
 
 // The number of the entry that stands at a place of the dispatch table.

@@ -20,13 +20,13 @@ pub fn item_on(file: &[u8], f: Font, g: usize, k: usize) -> Result<Item, Refusal
     requires { Placed file.now f }
     ensures { result ≡ item_on file.now g k f }
 {
-    if f.table {
-        let end = f.end;
-        let kind = f.kind;
-        let item = lookup::item_at(stages::coding_of(kind), &file[end..], g, k);
-        return item.ok_or(refusal::refuse(Reason::Ask, 0));
+    if !f.table {
+        return Err(refusal::refuse(Reason::NoTable, 0));
     }
-    Err(refusal::refuse(Reason::NoTable, 0))
+    let end = f.end;
+    let kind = f.kind;
+    let item = lookup::item_at(stages::coding_of(kind), &file[end..], g, k);
+    item.ok_or(refusal::refuse(Reason::Ask, 0))
 }
 
 // ASK for a question that may not be asked, else its answer.

@@ -387,10 +387,7 @@ pub fn is_scalar(v: u32) -> bool
 pub fn is_utf8_value(v: u32) -> bool
     ensures { result ≡ is_utf8_value v }
 {
-    if token::is_noncharacter(v) {
-        return false;
-    }
-    is_scalar(v)
+    !token::is_noncharacter(v) && is_scalar(v)
 }
 
 // How many bytes a value has.

@@ -1,12 +1,12 @@
 -- `conversion::opened` meets its contract: the font's own refusal, then its kind. Assumes nothing.
 use mathlib.Core.Path.{sym, ◌∙◌, ap}
-use Rattle.std.proofs.lemmas.Result.{err_from_is_err_and}
+use Rattle.base.proofs.Handed.{handed_on}
 use Rattle.conversion.proofs.Cases as cases
 use Rattle.conversion.proofs.opened.Goals as goal
 use Rattle.std.specs.Prelude.{Err}
 
 pub returns-in_err-f-clause-equal : goal.returns-in_err-f-clause-equal
-returns-in_err-f-clause-equal c = let p = err_from_is_err_and c.from_residual.result c.from_residual.ensures.1 in rw (p.1, p.2) (cases.not_opened c.args.k c.args.file.now _ (sym c.check.ensures.equal ∙ c.in_err-f.was))
+returns-in_err-f-clause-equal c = handed_on c.from_residual.result _ _ c.from_residual.ensures.1 (cases.not_opened c.args.k c.args.file.now _ (sym c.check.ensures.equal ∙ c.in_err-f.was))
 
 pub returns-then-same_kind : goal.returns-then-same_kind
 returns-then-same_kind c = let q = sym c.same_kind.ensures ∙ c.if-same_kind.true in let e = sym c.check.ensures.equal ∙ c.in_ok-f.was in record { equal = cases.right_kind c.args.k c.args.file.now _ e q; bounded = (rw c.in_ok-f.was at c.check.ensures.bounded, cases.kind_same c.args.k _ q) }

@@ -4,7 +4,7 @@ use Rattle.convert.proofs.Asks.{ready_placed, ready_table, ready_length, ready_s
 use native.Mathlib.Omega.{arith}
 use mathlib.Core.Path.{sym, ◌∙◌, ap}
 use Rattle.convert.proofs.Cases as cases
-use Rattle.std.proofs.lemmas.Result.{err_from_is_err_and}
+use Rattle.base.proofs.Handed.{handed_on}
 use borrow.Author.Rules.{rules}
 use Rattle.convert.proofs.convert.Goals as goal
 use Rattle.std.specs.Prelude.{Err}
@@ -19,4 +19,4 @@ pub returns : goal.returns
 returns c = let w = cases.wrote c.args.c c.args.file.now c.args.out.now _ _ (sym c.prepare.ensures ∙ c.in_ok-f.was) (omega arith) in record { answer = w.0; buffer = c.write_font.ensures ∙ w.1 }
 
 pub returns-in_err-f : goal.returns-in_err-f
-returns-in_err-f c = let p = err_from_is_err_and c.from_residual.result c.from_residual.ensures.1 in let both = cases.unprepared c.args.c c.args.file.now c.args.out.now _ (sym c.prepare.ensures ∙ c.in_err-f.was) in record { answer = rw (p.1, p.2) both.0; buffer = both.1 }
+returns-in_err-f c = let both = cases.unprepared c.args.c c.args.file.now c.args.out.now _ (sym c.prepare.ensures ∙ c.in_err-f.was) in record { answer = handed_on c.from_residual.result _ _ c.from_residual.ensures.1 both.0; buffer = both.1 }

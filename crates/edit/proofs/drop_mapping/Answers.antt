@@ -2,7 +2,7 @@
 use mathlib.Core.Path.{sym, ◌∙◌, ap}
 use native.Mathlib.Omega.{arith}
 use Rattle.edit.proofs.Cases as cases
-use Rattle.std.proofs.lemmas.Result.{err_from_is_err_and}
+use Rattle.base.proofs.Handed.{handed_on}
 use Rattle.mapping.specs.declared.Mapping.{Mapping}
 use borrow.Author.Rules.{rules}
 use Rattle.edit.proofs.drop_mapping.Goals as goal
@@ -27,4 +27,4 @@ pub returns-in-Unlisted : goal.returns-in-Unlisted
 returns-in-Unlisted c = let w = cases.drop_none c.args.buf.now c.args.len c.args.g c.args.v _ (sym (c.in_ok-m.was ∙ ap (λ (m : Mapping). Ok m) c.in-Unlisted.is) ∙ c.sought_of.ensures.equal) in record { answer = ap Err c.refuse.ensures ∙ w.0; buffer = w.1 }
 
 pub returns-in_err-m : goal.returns-in_err-m
-returns-in_err-m c = let p = err_from_is_err_and c.from_residual.result c.from_residual.ensures.1 in let both = cases.drop_refused c.args.buf.now c.args.len c.args.g c.args.v _ (sym c.in_err-m.was ∙ c.sought_of.ensures.equal) in record { answer = rw (p.1, p.2) both.0; buffer = both.1 }
+returns-in_err-m c = let both = cases.drop_refused c.args.buf.now c.args.len c.args.g c.args.v _ (sym c.in_err-m.was ∙ c.sought_of.ensures.equal) in record { answer = handed_on c.from_residual.result _ _ c.from_residual.ensures.1 both.0; buffer = both.1 }

@@ -8,8 +8,8 @@ use Rattle.fonts.proofs.row.Goals as goal
 pub returns-in_default : goal.returns-in_default
 returns-in_default c = view_none _ _ _ (sym c.row_part.ensures.equal ∙ c.in_default.is)
 
-pub overflow_add-end : goal.overflow_add-end
-overflow_add-end c = omega (arith, rw c.in-Ok.is at c.row_part.ensures.bounded)
+pub overflow_add-to : goal.overflow_add-to
+overflow_add-to c = omega (arith, rw c.in-Ok.is at c.row_part.ensures.bounded)
 
 pub slice_bounds-result-end-2 : goal.slice_bounds-result-end-2
 slice_bounds-result-end-2 c = omega (arith, rw c.in-Ok.is at c.row_part.ensures.bounded)

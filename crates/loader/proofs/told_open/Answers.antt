@@ -7,7 +7,7 @@ use lib.Seq.{length-take-le}
 use Rattle.loader.specs.Reading.{font_told}
 use Rattle.loader.proofs.Opening.{opened}
 use Rattle.loader.proofs.Cases.{answer_long, answer_short, answer_whole}
-use Rattle.std.proofs.lemmas.Result.{err_from_is_err_and}
+use Rattle.base.proofs.Handed.{handed_on}
 use borrow.Author.Rules.{rules}
 use Rattle.loader.proofs.told_open.Goals as goal
 use Rattle.std.specs.Prelude.{Result, Err}
@@ -27,7 +27,7 @@ pub returns-then-l-lt32 : goal.returns-then-l-lt32
 returns-then-l-lt32 c = c.check.ensures.equal ∙ answer_short c.args.l (omega arith, omega arith)
 
 pub returns-in_err-f : goal.returns-in_err-f
-returns-in_err-f c = let p = err_from_is_err_and c.from_residual.result c.from_residual.ensures.1 in rw (p.1, p.2) (ap (λ (x : Result Font Refusal). and_then x (λ f. font_told f c.args.l)) (sym c.in_err-f.was ∙ c.describes.ensures) ∙ answer_whole c.args.l (omega arith, omega arith))
+returns-in_err-f c = handed_on c.from_residual.result _ _ c.from_residual.ensures.1 (ap (λ (x : Result Font Refusal). and_then x (λ f. font_told f c.args.l)) (sym c.in_err-f.was ∙ c.describes.ensures) ∙ answer_whole c.args.l (omega arith, omega arith))
 
 pub returns : goal.returns
 returns c = c.told_font.ensures ∙ ap (λ (x : Result Font Refusal). and_then x (λ f. font_told f c.args.l)) (sym c.in_ok-f.was ∙ c.describes.ensures) ∙ answer_whole c.args.l (omega arith, omega arith)

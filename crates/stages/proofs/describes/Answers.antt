@@ -1,7 +1,7 @@
 -- `stages::describes` meets its contract: by the kind that is named. Assumes nothing.
 use Rattle.header.specs.declared.Kind.{Kind}
 use Rattle.header.specs.declared.Kind.TheVariants.{Psf1, Psf2, Vfont2}
-use Rattle.std.proofs.lemmas.Result.{err_from_is_err_and}
+use Rattle.base.proofs.Handed.{handed_on}
 use Rattle.std.specs.Prelude.{Err, Some, None}
 use mathlib.Core.Path.{sym, ◌∙◌, ap}
 use Rattle.header.proofs.Cases as cases
@@ -10,9 +10,8 @@ use Rattle.stages.proofs.describes.Goals as goal
 
 pub returns-in_err-kind : goal.returns-in_err-kind
 returns-in_err-kind c =
-    let p = err_from_is_err_and c.from_residual.result c.from_residual.ensures.1 in
     let q = named_none _ _ _ (sym c.ok_or.ensures.value ∙ c.in_err-kind.was) in
-    rw (p.1, p.2, q.1, c.refuse.ensures) (cases.named_as c.args.file.now None (sym c.kind_of.ensures ∙ q.0))
+    handed_on c.from_residual.result _ _ c.from_residual.ensures.1 (rw (q.1, c.refuse.ensures) (cases.named_as c.args.file.now None (sym c.kind_of.ensures ∙ q.0)))
 
 pub returns-in-Psf1 : goal.returns-in-Psf1
 returns-in-Psf1 c = c.says.ensures ∙ cases.named_as c.args.file.now (Some Psf1) (sym c.kind_of.ensures ∙ c.in_ok-kind.ensures.ok_part ∙ ap (λ (k : Kind). Some k) c.in-Psf1.is)
