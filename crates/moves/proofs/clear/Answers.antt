@@ -1,9 +1,8 @@
 -- `moves::clear` meets its contract: at each turn the bytes before the place are 0. Assumes that they stand in the buffer, at places of 32 bits.
 use native.Mathlib.Omega.{arith}
 use mathlib.Core.Path.{◌≡◌, ◌∙◌, ap}
-use Prim.Native.Nat.{ℕ, ◌-◌, ◌%◌}
-use lib.ListN.{set, replicate}
-use Rattle.moves.specs.Reading.{laid}
+use Prim.Native.Nat.{ℕ, ◌%◌}
+use lib.ListN.{set}
 use Rattle.moves.proofs.Moves.{clear_start, clear_turn}
 use Rattle.moves.proofs.clear.Goals as goal
 
@@ -15,9 +14,3 @@ loop-k-preserved c = let l = c.loop-k in
     let a = c.args in
     let e : l.k % 4294967296 ≡ l.k = omega arith in
     ap (λ (j : ℕ). set l.buf j 0) e ∙ clear_turn a.buf.now l.buf a.from l.k (omega arith) (omega arith) l.invariant
-
-pub returns : goal.returns
-returns c = let l = c.loop-k in
-    let a = c.args in
-    let e : l.k ≡ a.end = omega arith in
-    l.invariant ∙ ap (λ (n : ℕ). laid a.from (replicate (n - a.from) 0) a.buf.now) e

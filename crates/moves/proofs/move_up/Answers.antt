@@ -1,9 +1,5 @@
 -- `moves::move_up` meets its contract: at each turn the bytes from the place on stand where they go. Assumes room.
 use native.Mathlib.Omega.{arith}
-use mathlib.Core.Path.{◌≡◌, ◌∙◌, ap}
-use Prim.Native.Nat.{ℕ, ◌+◌}
-use lib.Seq.{slice}
-use Rattle.moves.specs.Reading.{laid}
 use Rattle.moves.proofs.Moves.{up_start, up_turn}
 use Rattle.moves.proofs.move_up.Goals as goal
 
@@ -14,9 +10,3 @@ pub loop-i-preserved : goal.loop-i-preserved
 loop-i-preserved c = let l = c.loop-i in
     let a = c.args in
     (omega arith, up_turn a.buf.now l.buf l.i a.end a.by (omega arith) (omega arith) (omega arith) l.invariant.1)
-
-pub returns : goal.returns
-returns c = let l = c.loop-i in
-    let a = c.args in
-    let e : l.i ≡ a.from = omega arith in
-    l.invariant.1 ∙ ap (λ (n : ℕ). laid (n + a.by) (slice n a.end a.buf.now) a.buf.now) e
