@@ -1,14 +1,10 @@
 -- `entries::scan_entries` meets its contract: the entries from the i-th on, with the greatest so far, scan as all of them do. Assumes nothing.
 use Rattle.entries.proofs.Cases as cases
-use native.Mathlib.Nat.{sub-zero}
 use Prim.Native.Nat.{◌+◌, ◌-◌}
 use mathlib.Core.Path.{◌≡◌, refl, sym, ◌∙◌}
 use native.Mathlib.Omega.{arith}
 use Rattle.entries.proofs.scan_entries.Goals as goal
 use Rattle.entries.proofs.scan_entries.Goals.{in-Empty, in-Glyph}
-
-pub loop-i-init : goal.loop-i-init
-loop-i-init c = rw sub-zero
 
 pub loop-i-preserved : goal.loop-i-preserved
 loop-i-preserved c = let e : c.args.n - (c.loop-i.i + 1) ≡ c.args.n - c.loop-i.i - 1 = omega arith in
