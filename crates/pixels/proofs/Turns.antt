@@ -5,7 +5,7 @@ use mathlib.Core.List.{List}
 use Prim.Native.Nat.{ℕ, zero, suc, ◌+◌, ◌-◌, ◌*◌, ◌/◌, ◌%◌, ◌^◌, ◌≤◌, ◌<◌}
 use native.Mathlib.Omega.{arith}
 use native.Mathlib.Numerals.{add-one}
-use native.Mathlib.Nat.{suc-mul, mul-le-mul_right}
+use native.Mathlib.Nat.{suc-mul}
 use lib.Dec.{eqb}
 use lib.ListN.{length, get_or, take, drop}
 use lib.Pointwise.{pointwise}
@@ -62,20 +62,9 @@ module _ (p q : List ℕ) (k fillers at h y : ℕ) where
       unfolding same_rows when
       rows_next t e = let w : same_bytes p q at k ≡ true = whole_of ∙ t in rw (rows_left, w, eq-eqb _ _ e)
 
--- before the first row, all rows decide
-pub rows_start : (p q : List ℕ) (k fillers h : ℕ) → same_rows p q k fillers (0 * (k + 1)) (h - 0) ≡ same_rows p q k fillers 0 h
-rows_start p q k fillers h =
-    let z : 0 * (k + 1) ≡ 0 = omega arith in
-    let e : h - 0 ≡ h = omega arith in
-    rw (z, e)
-
 -- the row after row y begins behind it
 pub row_next : (k y : ℕ) → (y + 1) * (k + 1) ≡ y * (k + 1) + k + 1
 row_next k y = rw (add-one y, suc-mul y (k + 1)) (omega arith)
-
--- and each of h rows stands in them
-pub row_stands : (k h y : ℕ) → y < h → y * (k + 1) + k + 1 ≤ h * (k + 1)
-row_stands k h y l = omega (arith, row_next k y, mul-le-mul_right {m = y + 1} {n = h} (k + 1) (omega arith))
 
 -- a row with fillers has its whole bytes and one more
 pub row_length : (w : ℕ) → (w % 8 ≡ 0 → ⊥) → row_bytes w ≡ w / 8 + 1

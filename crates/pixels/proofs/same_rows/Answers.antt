@@ -1,29 +1,11 @@
 -- `pixels::same_rows` meets its contract: the rows passed are the same. Assumes that the rows stand in both slices.
 use native.Mathlib.Omega.{arith}
 use mathlib.Core.Path.{◌∙◌}
-use Rattle.pixels.proofs.Turns.{rows_start, row_next, row_stands, rows_done, rows_whole, rows_last, rows_next}
+use Rattle.pixels.proofs.Turns.{row_next, rows_done, rows_whole, rows_last, rows_next}
 use Rattle.pixels.proofs.same_rows.Goals as goal
-
-pub loop-y-init : goal.loop-y-init
-loop-y-init c = rows_start c.args.p.now c.args.q.now c.args.whole c.args.fillers c.args.height
-
-pub overflow_mul-at : goal.overflow_mul-at
-overflow_mul-at c = omega (arith, row_stands c.args.whole c.args.height c.loop-y.y (omega arith))
-
-pub overflow_add-last : goal.overflow_add-last
-overflow_add-last c = omega (arith, row_stands c.args.whole c.args.height c.loop-y.y (omega arith))
-
-pub same_bytes-requires : goal.same_bytes-requires
-same_bytes-requires c = omega (arith, row_stands c.args.whole c.args.height c.loop-y.y (omega arith))
 
 pub returns-then-not-same_bytes : goal.returns-then-not-same_bytes
 returns-then-not-same_bytes c = rows_whole c.args.p.now c.args.q.now c.args.whole c.args.fillers _ c.args.height c.loop-y.y (omega arith) _ c.same_bytes.ensures c.if-not-same_bytes.true ∙ c.loop-y.invariant
-
-pub bounds-p-last : goal.bounds-p-last
-bounds-p-last c = omega (arith, row_stands c.args.whole c.args.height c.loop-y.y (omega arith))
-
-pub bounds-q-last : goal.bounds-q-last
-bounds-q-last c = omega (arith, row_stands c.args.whole c.args.height c.loop-y.y (omega arith))
 
 pub returns-then-p-last : goal.returns-then-p-last
 returns-then-p-last c = rows_last c.args.p.now c.args.q.now c.args.whole c.args.fillers _ c.args.height c.loop-y.y (omega arith) _ c.same_bytes.ensures c.if-not-same_bytes.false c.if-p-last.true ∙ c.loop-y.invariant
