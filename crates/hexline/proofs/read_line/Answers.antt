@@ -28,6 +28,3 @@ returns-clause-equal c = let h = c.in-None.ensures.steps in
     let l = c.loop-k in
     let k : length c.args.line.now / 2 ≡ l.k-iterator.count = omega (arith, h.0.1.0, l.invariant.1, l.invariant.2, c.if-line-ne0.false) in
     rw k (sym (ended l.k-iterator.count l.bytes (chunks_exact_rest l.k-iterator.iter) (omega (arith, h.0.1.0, l.invariant.1, l.invariant.2, c.if-line-ne0.false))) ∙ l.invariant.3)
-
-pub returns-clause-bounded : goal.returns-clause-bounded
-returns-clause-bounded c = (omega arith, c.loop-k.invariant.0)
