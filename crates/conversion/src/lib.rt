@@ -162,13 +162,8 @@ fn first_uneven(file: &[u8], height: usize, width: usize, n: usize, start: usize
     requires { entry_at start n ≤ length file.now }
     ensures { result ≡ evenness file.now height width start n 0 }
 {
-    let mut i: usize = 0;
-    let mut at = start;
-    while i < n {
-        if is_even(file, height, width, at) {
-            at += Vfont2::ENTRY_LEN;
-            i += 1;
-        } else {
+    for i in 0..n {
+        if !is_even(file, height, width, start + i * Vfont2::ENTRY_LEN) {
             return Some(i);
         }
     }

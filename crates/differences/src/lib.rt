@@ -122,16 +122,14 @@ fn count_common(a: &[u8], f: Font, s: &[u8], b: &[u8], h: Font, t: &[u8], n: usi
     let c = stages::coding_of(k);
     let d = stages::coding_of(l);
     let mut total: usize = 0;
-    let mut g: usize = 0;
     let mut x: usize = 0;
     let mut y: usize = 0;
-    while g < n {
+    for g in 0..n {
         total += pair_count(glyphs::compare(a, f, b, h, g));
         let e = descriptions::compare(c, s, x, d, t, y);
         total += pair_count(item_kind(e.same));
         x = e.first;
         y = e.second;
-        g += 1;
     }
     total
 }
@@ -158,16 +156,14 @@ fn put_common(
     let c = stages::coding_of(k);
     let d = stages::coding_of(l);
     let mut at: usize = 0;
-    let mut g: usize = 0;
     let mut x: usize = 0;
     let mut y: usize = 0;
-    while g < n {
+    for g in 0..n {
         let kind = glyphs::compare(a, f, b, h, g);
         let e = descriptions::compare(c, s, x, d, t, y);
         at += put_glyph(kind, item_kind(e.same), g, &mut out[at..]);
         x = e.first;
         y = e.second;
-        g += 1;
     }
     at
 }
@@ -179,10 +175,8 @@ fn put_rest(r: u32, count: usize, from: usize, out: &mut [u32]) -> usize
     ensures { (result ≡ length (numbers (rest_from r count from))) × (result ≤ 8192) × (out.new ≡ over (numbers (rest_from r count from)) out.old) }
 {
     let mut at: usize = 0;
-    let mut i: usize = 0;
-    while i < count {
+    for i in 0..count {
         at += put_pair(r, from + i, &mut out[at..]);
-        i += 1;
     }
     at
 }

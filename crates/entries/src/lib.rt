@@ -138,22 +138,16 @@ pub fn scan_entries(file: &[u8], total: usize, n: usize, start: usize) -> Result
     requires { entry_at start n ≤ length file.now }
     ensures { result ≡ scan_of file.now total start n 0 0 0 }
 {
-    let mut i = 0;
-    let mut at = start;
     let mut height = 0;
     let mut width = 0;
-    while i < n {
-        let e = entry_at(file, total, at);
-        let here = i;
-        at += Vfont2::ENTRY_LEN;
-        i += 1;
-        match e {
+    for i in 0..n {
+        match entry_at(file, total, start + i * Vfont2::ENTRY_LEN) {
             Entry::Empty => {}
             Entry::Glyph(rows, cols) => {
                 height = larger_of(height, rows);
                 width = larger_of(width, cols);
             }
-            Entry::Broken => return Err(here),
+            Entry::Broken => return Err(i),
         }
     }
     Ok((height, width))

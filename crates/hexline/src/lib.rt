@@ -61,7 +61,7 @@ fn pair_value(a: u8, b: u8) -> u32
 }
 
 // A line, of any length, as a frame.
-#[tactic(auto, using(crate::proofs::Steps::too_long, crate::proofs::Steps::bad_bounded, crate::proofs::Steps::no_byte))]
+#[tactic(auto, using(crate::proofs::Steps::too_long, crate::proofs::Steps::bad_bounded, crate::proofs::Steps::no_byte, crate::proofs::Steps::odd))]
 pub fn read_line(line: &[u8]) -> Frame
     ensures equal { result ≡ frame_of line.now }
     ensures bounded { (result.len ≤ 64) × (length result.bytes ≡ 64) }
@@ -69,24 +69,20 @@ pub fn read_line(line: &[u8]) -> Frame
     if 128 < line.len() {
         return bad();
     }
+    if line.len() % 2 != 0 {
+        return bad();
+    }
     let mut bytes = [0u8; 64];
-    let mut k = 0;
-    let mut at = 0;
-    while at < line.len() {
-        if line.len() <= at + 1 {
-            return bad();
-        }
-        let v = pair_value(line[at], line[at + 1]);
+    for (k, pair) in line.chunks_exact(2).enumerate() {
+        let v = pair_value(pair[0], pair[1]);
         if 255 < v {
             return bad();
         }
         bytes[k] = v as u8;
-        k += 1;
-        at += 2;
     }
     Frame {
         good: true,
-        len: k,
+        len: line.len() / 2,
         bytes: bytes,
     }
 }

@@ -1,5 +1,5 @@
 -- The written parts one by one: their lengths, and one more entry or glyph of those that are left.
-use mathlib.Core.Path.{◌≡◌, refl}
+use mathlib.Core.Path.{◌≡◌, refl, subst}
 use mathlib.Core.List.{List, [], ◌∷◌, ◌++◌}
 use mathlib.Core.Bool.{Bool}
 use Prim.Native.Nat.{ℕ, zero, suc, ◌+◌, ◌-◌, ◌*◌, ◌≤◌, ◌<◌}
@@ -8,7 +8,9 @@ use native.Mathlib.Numerals.{add-one}
 use native.Mathlib.Nat.{add-sub_cancel_left, suc-mul}
 use lib.ListN.{length, take, drop, length-append, length-drop}
 use lib.Seq.{length-take-le}
-use Rattle.base.specs.Reading.{bytes16, bytes32}
+use borrow.Rule.Slice.PartMut.{mid_of, put_mid}
+use Rattle.base.specs.Reading.{bytes16, bytes32, over}
+use Rattle.base.proofs.Written.{Written, goes_on}
 use Rattle.header.specs.declared.Kind.{Kind}
 use Rattle.header.specs.declared.Kind.TheVariants.{Psf1, Psf2, Vfont2}
 use Rattle.header.specs.declared.Font.{Font}
@@ -54,6 +56,10 @@ module _ (c h w n i : ℕ) where
   pub entries_done : n ≤ i → entries_at c h w (evenly c i (n - i)) ≡ []
   unfolding entries_at evenly
   entries_done g = rw (none_left n i g)
+
+-- one more part of l bytes, where the next one is known to begin at m
+pub goes_to : (w x y xs v ys z : List ℕ) (n l m : ℕ) → n + l ≡ m → z ≡ x → l ≡ length z → ys ≡ over z (mid_of n (length v - n) v) → Written w xs n v (x ++ y) → Written w xs m (put_mid n (length v - n) v ys) y
+goes_to w x y xs v ys z n l m e q k o h = subst (λ (j : ℕ). Written w xs j (put_mid n (length v - n) v ys) y) e (goes_on w x y xs v ys z n l q k o h)
 
 -- one more address
 pub next_multiple : (a i c : ℕ) → a ≡ i * c → a + c ≡ (i + 1) * c

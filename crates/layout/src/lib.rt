@@ -63,14 +63,9 @@ fn put_entries(n: usize, size: usize, height: usize, width: usize, out: &mut [u8
     requires { (n ≤ 4096) × (size ≤ 8160) × (height ≤ 255) × (width ≤ 255) × (n * 18 ≤ length out.old) }
     ensures { out.new ≡ over (entries_at size height width (evenly size 0 n)) out.old }
 {
-    let mut i: usize = 0;
-    let mut at: usize = 0;
-    let mut address: usize = 0;
-    while i < n {
-        put_entry(address, size, height, width, &mut out[at..]);
-        address += size;
-        at += Vfont2::ENTRY_LEN;
-        i += 1;
+    for i in 0..n {
+        let at = i * Vfont2::ENTRY_LEN;
+        put_entry(i * size, size, height, width, &mut out[at..]);
     }
 }
 
@@ -92,16 +87,11 @@ fn put_gathered(file: &[u8], f: Font, size: usize, out: &mut [u8])
         × ((i : ℕ) → i < f.count → f.bitmaps + address_at file.now (entry_at f.entries i) + size ≤ length file.now) }
     ensures { out.new ≡ over (gathered file.now f size 0 f.count) out.old }
 {
-    let mut i: usize = 0;
-    let mut at: usize = 0;
-    let mut entry: usize = f.entries;
-    while i < f.count {
+    for i in 0..f.count {
+        let entry = f.entries + i * Vfont2::ENTRY_LEN;
         let start = f.bitmaps + base::size(base::get32(file, entry));
-        let end = start + size;
-        base::copy(&file[start..end], &mut out[at..]);
-        at += size;
-        entry += Vfont2::ENTRY_LEN;
-        i += 1;
+        let at = i * size;
+        base::copy(&file[start..start + size], &mut out[at..]);
     }
 }
 

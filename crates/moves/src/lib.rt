@@ -11,9 +11,7 @@ pub fn move_up(buf: &mut [u8], from: usize, end: usize, by: usize)
     requires { (from ≤ end) × (end + by ≤ length buf.old) }
     ensures { buf.new ≡ laid (from + by) (slice from end buf.old) buf.old }
 {
-    let mut i = end;
-    while from < i {
-        i -= 1;
+    for i in (from..end).rev() {
         buf[i + by] = buf[i];
     }
 }
@@ -23,10 +21,8 @@ fn move_down(buf: &mut [u8], from: usize, end: usize, by: usize)
     requires { (by ≤ from) × (from ≤ end) × (end ≤ length buf.old) }
     ensures { buf.new ≡ laid (from - by) (slice from end buf.old) buf.old }
 {
-    let mut i = from;
-    while i < end {
+    for i in from..end {
         buf[i - by] = buf[i];
-        i += 1;
     }
 }
 
@@ -36,10 +32,8 @@ fn clear(buf: &mut [u8], from: usize, end: usize)
     requires { (from ≤ end) × (end ≤ length buf.old) × (end < 4294967296) }
     ensures { buf.new ≡ laid from (replicate (end - from) 0) buf.old }
 {
-    let mut k = from;
-    while k < end {
+    for k in from..end {
         buf[k % 4294967296] = 0;
-        k += 1;
     }
 }
 

@@ -1,38 +1,32 @@
--- One turn of each loop that compares: bytes one by one, and row by row; and which of the two compares whole bitmaps.
-use mathlib.Core.Path.{◌≡◌, sym, ◌∙◌, ap}
-use mathlib.Core.Bool.{Bool, true, false}
+-- Bytes that the library compares, one turn of the loop that compares row by row, and which of the two compares whole bitmaps.
+use mathlib.Core.Path.{◌≡◌, refl, sym, ◌∙◌, ap}
+use mathlib.Core.Bool.{Bool, true, false, ◌&&◌}
 use mathlib.Core.List.{List}
-use Prim.Native.Nat.{ℕ, suc, ◌+◌, ◌-◌, ◌*◌, ◌/◌, ◌%◌, ◌^◌, ◌≤◌, ◌<◌}
+use Prim.Native.Nat.{ℕ, zero, suc, ◌+◌, ◌-◌, ◌*◌, ◌/◌, ◌%◌, ◌^◌, ◌≤◌, ◌<◌}
 use native.Mathlib.Omega.{arith}
 use native.Mathlib.Numerals.{add-one}
 use native.Mathlib.Nat.{suc-mul}
-use lib.ListN.{get_or}
+use lib.Dec.{eqb}
+use lib.ListN.{length, get_or, take, drop}
+use lib.Pointwise.{pointwise}
+use lib.Seq.{drop-cons}
 use borrow.Author.Tests.{eq-eqb, ne_eqb}
 use Rattle.base.specs.Reading.{when}
 use Rattle.header.specs.Meaning.{row_bytes, glyph_bytes}
 use Rattle.pixels.specs.Reading.{same_bytes, same_rows, same_pixels}
 
--- the bytes from i to an end
-module _ (p q : List ℕ) (i to : ℕ) where
-  -- none is left
-  pub bytes_done : to ≤ i → true ≡ same_bytes p q i (to - i)
-  unfolding same_bytes
-  bytes_done h = let e : to - i ≡ 0 = omega arith in rw e
-
-  module _ (l : i < to) where
-    -- this byte, and those after it
-    left : to - i ≡ suc (to - (i + 1))
-    left = omega arith
-
-    -- one byte differs
-    pub bytes_differ : (get_or p i 0 ≡ get_or q i 0 → ⊥) → false ≡ same_bytes p q i (to - i)
-    unfolding same_bytes when
-    bytes_differ n = rw (left, ne_eqb _ _ n)
-
-    -- one byte is the same, and the rest decides
-    pub bytes_next : get_or p i 0 ≡ get_or q i 0 → same_bytes p q (i + 1) (to - (i + 1)) ≡ same_bytes p q i (to - i)
-    unfolding same_bytes when
-    bytes_next e = rw (left, eq-eqb _ _ e, add-one i)
+-- the library's answer for two parts of n bytes
+pub same_parts : (p q : List ℕ) (n at : ℕ) → at + n ≤ length p → at + n ≤ length q → pointwise eqb (take n (drop at p)) (take n (drop at q)) ≡ same_bytes p q at n
+unfolding same_bytes when
+same_parts p q zero at h g = refl
+same_parts p q (suc n) at h g =
+    rw (drop-cons p at 0 (omega arith), drop-cons q at 0 (omega arith))
+    (go (eqb (get_or p at 0) (get_or q at 0)) (same_parts p q n (suc at) (omega arith) (omega arith)))
+  where
+    go : (t : Bool) → pointwise eqb (take n (drop (suc at) p)) (take n (drop (suc at) q)) ≡ same_bytes p q (suc at) n →
+        (t && pointwise eqb (take n (drop (suc at) p)) (take n (drop (suc at) q))) ≡ when t (same_bytes p q (suc at) n) false
+    go true e = e
+    go false e = refl
 
 -- the rows from y to h, at an offset
 module _ (p q : List ℕ) (k fillers at h y : ℕ) where
@@ -45,10 +39,6 @@ module _ (p q : List ℕ) (k fillers at h y : ℕ) where
     -- this row, and those after it
     rows_left : h - y ≡ suc (h - (y + 1))
     rows_left = omega arith
-
-    -- the bytes of the rows that are left are those of one row and of those after it
-    pub rows_bytes : (h - y) * (k + 1) ≡ (h - (y + 1)) * (k + 1) + (k + 1)
-    rows_bytes = ap (λ (n : ℕ). n * (k + 1)) rows_left ∙ suc-mul (h - (y + 1)) (k + 1)
 
     -- the answer for the whole bytes of row y
     module _ (b : Bool) (eb : b ≡ same_bytes p q at (at + k - at)) where
@@ -72,13 +62,9 @@ module _ (p q : List ℕ) (k fillers at h y : ℕ) where
       unfolding same_rows when
       rows_next t e = let w : same_bytes p q at k ≡ true = whole_of ∙ t in rw (rows_left, w, eq-eqb _ _ e)
 
--- before the first row, all rows decide
-pub rows_start : (p q : List ℕ) (k fillers h : ℕ) → same_rows p q k fillers 0 (h - 0) ≡ same_rows p q k fillers 0 h
-rows_start p q k fillers h = let e : h - 0 ≡ h = omega arith in ap (same_rows p q k fillers 0) e
-
--- and all rows stand in the list
-pub rows_stand : (k h n : ℕ) → h * (k + 1) ≤ n → 0 + (h - 0) * (k + 1) ≤ n
-rows_stand k h n l = let e : h - 0 ≡ h = omega arith in rw e (omega (arith, l))
+-- the row after row y begins behind it
+pub row_next : (k y : ℕ) → (y + 1) * (k + 1) ≡ y * (k + 1) + k + 1
+row_next k y = rw (add-one y, suc-mul y (k + 1)) (omega arith)
 
 -- a row with fillers has its whole bytes and one more
 pub row_length : (w : ℕ) → (w % 8 ≡ 0 → ⊥) → row_bytes w ≡ w / 8 + 1

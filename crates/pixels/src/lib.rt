@@ -10,14 +10,7 @@ fn same_bytes(p: &[u8], q: &[u8], from: usize, to: usize) -> bool
     requires { (from ≤ to) × (to ≤ length p.now) × (to ≤ length q.now) }
     ensures { result ≡ same_bytes p.now q.now from (to - from) }
 {
-    let mut i = from;
-    while i < to {
-        if p[i] != q[i] {
-            return false;
-        }
-        i += 1;
-    }
-    true
+    p[from..to] == q[from..to]
 }
 
 // Whether so many rows are the same, each of `whole` bytes and a last byte without its filler bits. Asks that the rows stand in both, and that
@@ -26,9 +19,8 @@ fn same_rows(p: &[u8], q: &[u8], height: usize, whole: usize, fillers: usize) ->
     requires { (height * (whole + 1) ≤ length p.now) × (height * (whole + 1) ≤ length q.now) × (fillers < 8) }
     ensures { result ≡ same_rows p.now q.now whole fillers 0 height }
 {
-    let mut at = 0;
-    let mut y = 0;
-    while y < height {
+    for y in 0..height {
+        let at = y * (whole + 1);
         let last = at + whole;
         if !same_bytes(p, q, at, last) {
             return false;
@@ -36,8 +28,6 @@ fn same_rows(p: &[u8], q: &[u8], height: usize, whole: usize, fillers: usize) ->
         if p[last] >> fillers != q[last] >> fillers {
             return false;
         }
-        at = last + 1;
-        y += 1;
     }
     true
 }

@@ -1,14 +1,14 @@
 -- The cases of the walk and the lookups on a font whose header passed; of the lookups, those where the table is refused too.
-use mathlib.Core.Path.{◌≡◌, refl, sym, ◌∙◌, ap, subst}
-use mathlib.Core.Bool.{Bool, true, false, not}
+use mathlib.Core.Path.{◌≡◌, refl, sym, ◌∙◌, ap}
+use mathlib.Core.Bool.{Bool, true, false, not, ◌||◌}
 use mathlib.Core.Logic.{◌⊎◌, inl, inr}
 use mathlib.Core.List.{List, [], ◌∷◌}
 use Prim.Native.Nat.{ℕ, ◌+◌, ◌-◌, ◌≤◌, ◌<◌}
 use native.Mathlib.Omega.{arith}
-use native.Mathlib.Numerals.{add-one}
-use lib.ListN.{length, get_or, take, drop, drop_of_length-le}
+use lib.ListN.{length, get_or, take, drop}
 use lib.Seq.{drop-cons}
 use lib.Dec.{leb, ltb}
+use Rattle.std.specs.List.{list_any}
 use borrow.Author.Tests.{lt-ltb, le-ltb, lt-leb, le-leb}
 use Rattle.base.specs.Meaning.{pick, Bytes}
 use Rattle.base.specs.Reading.{when}
@@ -118,19 +118,20 @@ pub ask_one : (vs : List ℕ) → askable vs ≡ true → 1 ≤ length vs
 ask_one [] e = let z : ◌≡◌ {A = ℕ} 0 1 = cc in absurd (omega arith)
 ask_one (v ∷ vs) e = omega arith
 
--- the values of a sequence, one after the other
-module _ (vs : List ℕ) (i : ℕ) where
-  pub high_here : i < length vs → 0x10FFFF < get_or vs i 0 → any_high (drop i vs) ≡ true
-  unfolding any_high when
-  high_here l h = rw (drop-cons vs i 0 l, lt-ltb 0x10FFFF (get_or vs i 0) h)
+-- a value above 10FFFF in a sequence
+pub high_here : (vs : List ℕ) (i : ℕ) → i < length vs → 0x10FFFF < get_or vs i 0 → any_high (drop i vs) ≡ true
+unfolding any_high when
+high_here vs i l h = rw (drop-cons vs i 0 l, lt-ltb 0x10FFFF (get_or vs i 0) h)
 
-  pub high_later : i < length vs → get_or vs i 0 ≤ 0x10FFFF → any_high (drop i vs) ≡ any_high (drop (i + 1) vs)
-  unfolding any_high when
-  high_later l h = rw (add-one, drop-cons vs i 0 l, le-ltb 0x10FFFF (get_or vs i 0) h)
-
-  pub high_none : length vs ≤ i → any_high (drop i vs) ≡ false
-  unfolding any_high
-  high_none l = rw (drop_of_length-le vs l)
+-- the library's test of all values is this one
+pub high_listed : (vs : List ℕ) → list_any (ltb 0x10FFFF) vs ≡ any_high vs
+unfolding any_high when
+high_listed [] = refl
+high_listed (v ∷ vs) = go (ltb 0x10FFFF v) (high_listed vs)
+  where
+    go : (t : Bool) → list_any (ltb 0x10FFFF) vs ≡ any_high vs → (t || list_any (ltb 0x10FFFF) vs) ≡ when t true (any_high vs)
+    go true e = refl
+    go false e = e
 
 pub ask_empty : (vs : List ℕ) → length vs ≡ 0 → false ≡ askable vs
 ask_empty [] h = refl

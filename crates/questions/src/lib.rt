@@ -68,18 +68,10 @@ pub fn value_on(file: &[u8], f: Font, v: u32) -> Result<usize, Refusal>
 }
 
 // Whether some value is above 10FFFF.
-#[tactic(auto, using(crate::proofs::Answers::high_here))]
 fn any_high(vs: &[u32]) -> bool
     ensures { result ≡ any_high vs.now }
 {
-    let mut i = 0;
-    while i < vs.len() {
-        if 0x10FFFF < vs[i] {
-            return true;
-        }
-        i += 1;
-    }
-    false
+    vs.iter().any(|v| 0x10FFFF < *v)
 }
 
 // Whether a sequence may be asked.

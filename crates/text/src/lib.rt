@@ -25,6 +25,7 @@ pub fn numeral_len(radix: usize, n: usize) -> usize
 {
     let mut k: usize = 1;
     let mut m = n;
+    // A `while`, since no index is counted: the number is divided until one digit is left, and a `for` with a bound and a `return` is no plainer.
     while radix <= m {
         m = m / radix;
         k += 1;

@@ -31,11 +31,9 @@ pub fn put(h: Held, s: &[u8]) -> Held
 {
     let start = h.len;
     let mut bytes = h.bytes;
-    let mut i: usize = 0;
-    while i < s.len() {
+    for (i, b) in s.iter().enumerate() {
         let at = (start + i) % 32;
-        bytes[at] = s[i];
-        i += 1;
+        bytes[at] = *b;
     }
     Held {
         len: start + s.len(),

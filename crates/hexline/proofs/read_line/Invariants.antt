@@ -1,11 +1,9 @@
 use mathlib.Core.Path.{◌≡◌}
-use Prim.Native.Nat.{◌≤◌, ◌-◌, ◌+◌}
-use lib.ListN.{length, drop}
+use Prim.Native.Nat.{◌+◌, ◌*◌}
+use lib.ListN.{length}
+use Rattle.std.specs.Slice.Iter.{chunks_exact_rest, chunks_exact_size}
 use Rattle.hexline.specs.Reading.{bytes_from, frame_of}
 use Rattle.hexline.proofs.read_line.Given as goal
 
-abbrev pub invariant-loop-at : goal.invariant-loop-at
-invariant-loop-at l = (l.at ≡ l.k + l.k) × (l.at ≤ length l.line) × (length l.line ≤ 128) × (length l.bytes ≡ 64) × (bytes_from l.k l.bytes (drop l.at l.line) ≡ frame_of l.line)
-
-abbrev pub decreases-loop-at : goal.decreases-loop-at
-decreases-loop-at l = length l.line - l.at
+abbrev pub invariant-loop-k : goal.invariant-loop-k
+invariant-loop-k l = (length l.bytes ≡ 64) × (chunks_exact_size l.k-iterator.iter ≡ 2) × (2 * l.k-iterator.count + length (chunks_exact_rest l.k-iterator.iter) ≡ length l.line) × (bytes_from l.k-iterator.count l.bytes (chunks_exact_rest l.k-iterator.iter) ≡ frame_of l.line)

@@ -1,23 +1,12 @@
 -- `moves::move_down` meets its contract: at each turn the bytes before the place stand where they go. Assumes that they stand in the buffer.
 use native.Mathlib.Omega.{arith}
-use mathlib.Core.Path.{◌≡◌, ◌∙◌, ap}
-use Prim.Native.Nat.{ℕ, ◌-◌}
-use lib.ListN.{length-set}
-use lib.Seq.{slice}
-use Rattle.moves.specs.Reading.{laid}
 use Rattle.moves.proofs.Moves.{down_start, down_turn}
 use Rattle.moves.proofs.move_down.Goals as goal
 
 pub loop-i-init : goal.loop-i-init
-loop-i-init c = (omega arith, omega arith, omega arith, omega arith, omega arith, down_start c.args.buf.now c.args.from c.args.by (omega arith))
+loop-i-init c = down_start c.args.buf.now c.args.from c.args.by (omega arith)
 
 pub loop-i-preserved : goal.loop-i-preserved
 loop-i-preserved c = let l = c.loop-i in
     let a = c.args in
-    (omega arith, omega arith, omega arith, omega arith, simp length-set l.invariant.4, down_turn a.buf.now l.buf a.from l.i a.by (omega arith) (omega arith) (omega arith) l.invariant.5)
-
-pub returns : goal.returns
-returns c = let l = c.loop-i in
-    let a = c.args in
-    let e : l.i ≡ a.end = omega arith in
-    l.invariant.5 ∙ ap (λ (n : ℕ). laid (a.from - a.by) (slice a.from n a.buf.now) a.buf.now) e
+    down_turn a.buf.now l.buf a.from l.i a.by (omega arith) (omega arith) (omega arith) l.invariant

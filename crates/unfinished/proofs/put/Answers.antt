@@ -13,24 +13,20 @@ use Rattle.unfinished.proofs.put.Goals as goal
 pub loop-i-init : goal.loop-i-init
 loop-i-init c = let a = c.args in
     let w : length a.h.bytes ≡ 32 = c.well_formed.0.1.1.1.0.1.0.1 in
-    (omega arith, omega arith, w, no_more a.h.bytes a.s.now a.h.len (omega arith))
+    no_more a.h.bytes a.s.now a.h.len (omega arith)
 
 pub loop-i-preserved : goal.loop-i-preserved
 loop-i-preserved c = let l = c.loop-i in
     let a = c.args in
-    let e : l.bytes ≡ over (take a.h.len a.h.bytes ++ take l.i a.s.now) a.h.bytes = l.invariant.3 in
-    let w : length a.h.bytes ≡ 32 = l.invariant.2 in
-    let m : (a.h.len + l.i) % 32 ≡ a.h.len + l.i = omega arith in (
-      omega arith,
-      omega arith,
-      l.invariant.2,
-      rw e (rw m (one_more a.h.bytes a.s.now a.h.len l.i (omega arith) (omega arith))),
-    )
+    let e : l.bytes ≡ over (take a.h.len a.h.bytes ++ take l.i a.s.now) a.h.bytes = l.invariant in
+    let w : length a.h.bytes ≡ 32 = c.well_formed.0.1.1.1.0.1.0.1 in
+    let m : (a.h.len + l.i) % 32 ≡ a.h.len + l.i = omega arith in
+    rw e (rw m (one_more a.h.bytes a.s.now a.h.len l.i (omega arith) (omega arith)))
 
 pub returns : goal.returns
 unfolding put_of
 returns c = let a = c.args in
-    let w : length a.h.bytes ≡ 32 = c.loop-i.invariant.2 in
+    let w : length a.h.bytes ≡ 32 = c.well_formed.0.1.1.1.0.1.0.1 in
     let e : c.loop-i.bytes ≡ over (take a.h.len a.h.bytes ++ a.s.now) a.h.bytes =
-    c.loop-i.invariant.3 ∙ ap (λ (p : List ℕ). over (take a.h.len a.h.bytes ++ p) a.h.bytes) (take_all c.loop-i.i a.s.now (omega arith)) in
+    c.loop-i.invariant ∙ ap (λ (p : List ℕ). over (take a.h.len a.h.bytes ++ p) a.h.bytes) (take_all c.loop-i.i a.s.now (omega arith)) in
     record { equal = λ i. record { len = a.h.len + length a.s.now; bytes = e i }; held = put_held a.h a.s.now _ e (omega arith) w }
