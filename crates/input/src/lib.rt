@@ -13,6 +13,8 @@ pub fn read_full<R: Read>(reader: &mut R, buf: &mut [u8]) -> io::Result<usize>
     ensures bytes { IfOk result (λ n. Consumes (R.remaining reader.old) (R.remaining reader.new) (take n buf.new)) }
     ensures end { IfOk result (λ n. n < length buf.new → IsAtEnd (R.remaining reader.new)) }
 {
+    // Std has no call for this: `read_exact` fails where the input is shorter, `read_to_end` needs a `Vec`, and `io::copy` into a slice says
+    // nothing of its count and reads again after a signal.
     let mut done = 0;
     while done < buf.len() {
         let n = reader.read(&mut buf[done..])?;
