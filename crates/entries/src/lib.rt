@@ -17,7 +17,7 @@ pub enum Entry {
 }
 
 // A glyph's metrics: how far it reaches up, down, left and right of its origin, and its logical width.
-#[derive(Clone, Copy)]
+#[derive(Clone, Copy, Debug, PartialEq, Eq)]
 pub struct Metrics {
     pub up: i32,
     pub down: i32,

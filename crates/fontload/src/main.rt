@@ -3,47 +3,27 @@
 // is more: nothing behind it changes the answer. A bad line ends the reading.
 #![tactic(auto)]
 
-ghost use Rattle.std.specs.Prelude.{◌≤◌, length, IfOk};
-
 use frames::Frames;
 use std::io::{self, Read};
 
-// Reads until buf is full or the input ends, and returns how many bytes it put at the start of buf. A read that a signal interrupts counts
-// as one that failed.
-fn read_full(reader: &mut impl Result<(u32, usize), Malformed>, buf: &mut [u8]) -> io::Result<usize>
-    ensures { IfOk result (λ n. n ≤ length buf.new) }
-{
-    let mut done = 0;
-    while done < buf.len() {
-        let n = reader.read(&mut buf[done..])?;
-        if n == 0 {
-            break;
-        }
-        done += n;
-    }
-    Ok(done)
-}
+const CHUNK: usize = 4096;
 
 // The input, fed chunk by chunk.
-fn input(reader: &mut impl Result<(u32, usize), Malformed>) -> io::Result<Frames> {
-    let mut buf = [0u8; 4096];
+fn frames_of(reader: &mut impl Read) -> io::Result<Frames> {
+    let mut buf = [0; CHUNK];
     let mut state = frames::fresh();
     for _ in 0..1025 {
-        let n = read_full(reader, &mut buf)?;
+        let n = input::read_full(reader, &mut buf)?;
         state = frames::fed(state, &buf[..n]);
-        if n < 4096 {
-            return Ok(state);
-        }
-        if 0 < state.bad {
-            return Ok(state);
+        if n < CHUNK || 0 < state.bad {
+            break;
         }
     }
     Ok(state)
 }
 
 fn main(rt: HostRuntime) -> io::Result<()> {
-    let answer = frames::written(frames::close(input(&mut rt.stdin())?));
-    let n = answer.len;
-    let bytes = answer.bytes;
-    rt.write_all(&bytes[..n])
+    let state = frames_of(&mut rt.stdin())?;
+    let answer = frames::written(frames::close(state));
+    rt.write_all(&answer.bytes[..answer.len])
 }
