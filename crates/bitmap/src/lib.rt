@@ -12,7 +12,7 @@ ghost use Rattle.bitmap.specs.Bounds.{Inside, LocatedInside, PartInside};
 ghost use Rattle.bitmap.specs.declared.Located.TheVariants.{Found};
 
 use entries::{Entry, Metrics};
-use header::{Font, Kind};
+use header::{Font, Format, Kind};
 use refusal::{Reason, Refusal};
 use vfont2::Vfont2;
 

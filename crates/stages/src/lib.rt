@@ -16,14 +16,14 @@ ghost use Rattle.stages.specs.Bounds.{CheckedPlaced, ToTablePlaced};
 
 use coding::Coding;
 use entries::Scan;
-use header::{Checked, Font, Kind, Named};
+use header::{Checked, Font, Format, Kind, LongHeader, Named};
 use psf1::Psf1;
 use psf2::Psf2;
 use refusal::{Reason, Refusal};
 use table::TableAnswer;
 use vfont2::Vfont2;
 
-// How a kind of file writes its table's values.
+// How a kind of file writes its table's values. No `From`: this crate has neither type, and the crates that have them do not know each other.
 pub fn coding_of(kind: Kind) -> Coding
     ensures { result ≡ coding_of kind }
 {
@@ -54,6 +54,7 @@ fn kind_of(file: &[u8]) -> Named
 }
 
 // What a file's header says: refusals 2 to 7 in their order, or the font that it describes.
+#[inline(always)]
 pub fn says(file: &[u8]) -> Checked
     ensures { result ≡ says_of file.now }
 {
@@ -68,20 +69,11 @@ pub fn says(file: &[u8]) -> Checked
     }
 }
 
-// The same for the loader, which asks it at every piece: a function of its own, since the compiler puts `says` into the check only while nothing
-// else calls it.
+// The same for the loader, which asks it at every piece: one function for its calls, where `says` goes into each caller.
 pub fn describes(file: &[u8]) -> Checked
     ensures { result ≡ says_of file.now }
 {
-    let named = kind_of(file);
-    match named {
-        Named::Is(kind) => match kind {
-            Kind::Psf1 => Psf1::says(file),
-            Kind::Psf2 => Psf2::says(file),
-            Kind::Vfont2 => Vfont2::says(file),
-        },
-        Named::Unknown => Checked::Refused(refusal::refuse(Reason::Kind, 0)),
-    }
+    says(file)
 }
 
 // Refusal 8 for a file of so many bytes.

@@ -15,7 +15,7 @@ use token::Token;
 use utf8::Read;
 
 // What stands in a description, one after the other: a single value, a start mark, a value in a sequence, the end mark.
-#[derive(Clone, Copy)]
+#[derive(Clone, Copy, Debug, PartialEq, Eq)]
 pub enum Item {
     Single(u32),
     Start,
@@ -24,7 +24,7 @@ pub enum Item {
 }
 
 // What stands at a place of a tail, and the place after it; Cut where it is not all there, Bad with the first wrong place.
-#[derive(Clone, Copy)]
+#[derive(Clone, Copy, Debug, PartialEq, Eq)]
 pub enum Step {
     Value(u32, usize),
     Start(usize),
@@ -108,7 +108,7 @@ pub fn value_item(inside: bool, v: u32) -> Item
 
 // What the check of a table says. Places are counted from the table's first byte; Cut and Bad also tell how many descriptions are
 // complete before the place, which is the glyph whose description is being read there.
-#[derive(Clone, Copy)]
+#[derive(Clone, Copy, Debug, PartialEq, Eq)]
 pub enum TableAnswer {
     Complete,
     Cut(usize, usize),

@@ -264,33 +264,6 @@ fn ask_pixel(rt: &impl Print, file: &[u8], g: usize, y: usize, x: usize) -> io::
     }
 }
 
-// A number of two bytes as a signed one.
-fn signed(v: u32) -> i32
-    requires { v < 65536 }
-{
-    if v < 32768 {
-        v as i32
-    } else {
-        v as i32 - 65536
-    }
-}
-
-fn is_same(m: Metrics, up: i32, down: i32, left: i32, right: i32, logical: i32) -> bool {
-    if m.up != up {
-        return false;
-    }
-    if m.down != down {
-        return false;
-    }
-    if m.left != left {
-        return false;
-    }
-    if m.right != right {
-        return false;
-    }
-    m.logical == logical
-}
-
 fn told(rt: &impl Print, is: bool) -> io::Result<()> {
     if is {
         say(rt, b"is")
@@ -323,14 +296,13 @@ fn ask_metrics(rt: &impl Print, file: &[u8], g: usize, a: &[u8]) -> io::Result<(
     match r {
         GlyphMetrics::Is(m) => told(
             rt,
-            is_same(
-                m,
-                signed(up),
-                signed(down),
-                signed(left),
-                signed(right),
-                signed(logical),
-            ),
+            m == Metrics {
+                up: entries::signed(up),
+                down: entries::signed(down),
+                left: entries::signed(left),
+                right: entries::signed(right),
+                logical: entries::signed(logical),
+            },
         ),
         GlyphMetrics::Refused(r) => refused(rt, r),
     }

@@ -1,7 +1,7 @@
 -- `entryfeed::more_sums` meets its contract. Assumes that the entries stand in the slice, and the slice within the file limit.
 use native.Mathlib.Omega.{arith}
 use mathlib.Core.Path.{sym, ◌∙◌}
-use Rattle.entries.proofs.Meaning.{scan_broken}
+use Rattle.entries.proofs.Meaning.{scan_broken, larger_max}
 use Rattle.entryfeed.proofs.Feeding.{found, taller}
 use Rattle.entryfeed.proofs.more_sums.Goals as goal
 
@@ -15,4 +15,4 @@ pub returns-in-BrokenAt : goal.returns-in-BrokenAt
 returns-in-BrokenAt c = found _ _ _ c.args.s.now _ _ c.if-x-ne0.false _ _ c.in-BrokenAt.is c.scan_entries-r.ensures
 
 pub returns-in-Greatest : goal.returns-in-Greatest
-returns-in-Greatest c = taller _ _ _ c.args.s.now _ _ c.if-x-ne0.false _ _ _ _ _ c.in-Greatest.is c.scan_entries-r.ensures c.larger_of.ensures c.larger_of-in-Greatest.ensures
+returns-in-Greatest c = taller _ _ _ c.args.s.now _ _ c.if-x-ne0.false _ _ _ _ _ c.in-Greatest.is c.scan_entries-r.ensures (c.max.ensures ∙ larger_max _ _) (c.max-in-Greatest.ensures ∙ larger_max _ _)

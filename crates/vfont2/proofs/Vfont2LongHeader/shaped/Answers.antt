@@ -3,7 +3,7 @@ use native.Mathlib.Omega.{arith}
 use mathlib.Core.Path.{◌∙◌, ap}
 use Rattle.header.proofs.Cases as cases
 use Rattle.header.specs.declared.Checked.TheVariants.{Refused}
-use Rattle.vfont2.proofs.Vfont2.shaped.Goals as goal
+use Rattle.vfont2.proofs.Vfont2LongHeader.shaped.Goals as goal
 
 pub returns-then-f-gt255 : goal.returns-then-f-gt255
 returns-then-f-gt255 c = ap Refused c.refuse.ensures ∙ cases.tall c.args.f (omega arith)
