@@ -11,7 +11,7 @@ ghost use Rattle.bitmap.specs.Reading.{entry_located, bitmap_of, whole_of, row_o
 ghost use Rattle.bitmap.specs.Bounds.{Inside, LocatedInside, PartInside};
 
 use entries::{Entry, Metrics};
-use header::{Font, Kind};
+use header::{Font, Format, Kind};
 use refusal::{Reason, Refusal};
 use vfont2::Vfont2;
 

@@ -7,7 +7,7 @@ ghost use Rattle.coding.specs.Reading.{mark_len, carries_of, key_of};
 ghost use Rattle.coding.specs.Meaning.{ValueOf, value_bytes, start_bytes, end_bytes};
 
 // PSF2 and vfont2 write values in UTF-8, PSF1 in two bytes.
-#[derive(Clone, Copy)]
+#[derive(Clone, Copy, Debug, PartialEq, Eq)]
 pub enum Coding {
     Utf8,
     Ucs2,

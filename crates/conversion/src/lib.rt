@@ -9,12 +9,12 @@ ghost use Rattle.header.specs.declared.Kind.TheVariants.{Vfont2 as vfont2};
 ghost use Rattle.transcode.specs.Bounds.{MeasuredWithin};
 ghost use Rattle.entries.specs.Meaning.{entry_at};
 ghost use Rattle.conversion.specs.Meaning.{source_kind, target_kind, front_len};
-ghost use Rattle.conversion.specs.Reading.{same_kind, opened_of, is_psf1_count, suits_psf1, is_even, evenness, even_suits, suits_of, measured_of, fitting, glyph_told, glyph_at, measured_then, prepared_on, prepared_of};
+ghost use Rattle.conversion.specs.Reading.{opened_of, is_psf1_count, suits_psf1, is_even, evenness, even_suits, suits_of, measured_of, fitting, glyph_told, glyph_at, measured_then, prepared_on, prepared_of};
 ghost use Rattle.stages.specs.Meaning.{tail_of};
 ghost use Rattle.conversion.specs.Bounds.{OpenedPlaced};
 
 use coding::Coding;
-use header::{Font, Kind};
+use header::{Font, Format, Kind};
 use psf1::Psf1;
 use psf2::Psf2;
 use refusal::{Reason, Refusal};
@@ -75,28 +75,6 @@ pub fn entry_len(kind: Kind) -> usize
     }
 }
 
-fn same_kind(a: Kind, b: Kind) -> bool
-    ensures { result ≡ same_kind a b }
-{
-    match a {
-        Kind::Psf1 => match b {
-            Kind::Psf1 => true,
-            Kind::Psf2 => false,
-            Kind::Vfont2 => false,
-        },
-        Kind::Psf2 => match b {
-            Kind::Psf1 => false,
-            Kind::Psf2 => true,
-            Kind::Vfont2 => false,
-        },
-        Kind::Vfont2 => match b {
-            Kind::Psf1 => false,
-            Kind::Psf2 => false,
-            Kind::Vfont2 => true,
-        },
-    }
-}
-
 // A sound font of a kind, or the refusal; and that its parts stand in the file.
 pub fn opened(file: &[u8], k: Kind) -> Result<Font, Refusal>
     ensures equal { result ≡ opened_of k file.now }
@@ -104,7 +82,7 @@ pub fn opened(file: &[u8], k: Kind) -> Result<Font, Refusal>
 {
     let f = stages::check(file)?;
     let kind = f.kind;
-    if same_kind(k, kind) {
+    if k == kind {
         return Ok(f);
     }
     Err(refusal::refuse(Reason::WrongKind, 0))

@@ -58,26 +58,6 @@ fn only_kind(n: usize, m: usize) -> u32
     1
 }
 
-// The smaller of two.
-fn smaller_of(n: usize, m: usize) -> usize
-    ensures { result ≡ min n m }
-{
-    if n < m {
-        return n;
-    }
-    m
-}
-
-// The larger of two.
-fn larger_of(n: usize, m: usize) -> usize
-    ensures { result ≡ max n m }
-{
-    if n < m {
-        return m;
-    }
-    n
-}
-
 // How many pairs a kind makes: none for 0.
 fn pair_count(k: u32) -> usize
     ensures { (result ≡ length (pair_of k 0)) × (result ≤ 1) }
@@ -200,8 +180,8 @@ fn count_pairs(a: &[u8], f: Font, b: &[u8], h: Font) -> usize
 {
     let from = compared_start(a.len(), f, h);
     let start = compared_start(b.len(), h, f);
-    let n = smaller_of(f.count, h.count);
-    let m = larger_of(f.count, h.count);
+    let n = f.count.min(h.count);
+    let m = f.count.max(h.count);
     let common = count_common(a, f, &a[from..], b, h, &b[start..], n);
     pair_count(table_kind(f.table, h.table)) + common + (m - n)
 }
@@ -214,8 +194,8 @@ fn put_pairs(a: &[u8], f: Font, b: &[u8], h: Font, out: &mut [u32]) -> usize
 {
     let from = compared_start(a.len(), f, h);
     let start = compared_start(b.len(), h, f);
-    let n = smaller_of(f.count, h.count);
-    let m = larger_of(f.count, h.count);
+    let n = f.count.min(h.count);
+    let m = f.count.max(h.count);
     let k = table_kind(f.table, h.table);
     let r = only_kind(f.count, h.count);
     let common = put_pair(k, 0, &mut out[0..]);

@@ -1,24 +1,25 @@
 -- Signed numbers of 16 bits as the machine holds them.
-use mathlib.Core.Path.{◌≡◌, refl, ap, ◌∙◌}
+use mathlib.Core.Path.{◌≡◌, refl, sym, ap, ◌∙◌}
 use mathlib.Core.Bool.{Bool, true, false}
-use Prim.Native.Nat.{ℕ, ◌-◌, ◌≤◌, ◌<◌}
+use Prim.Native.Nat.{ℕ, suc, ◌-◌, ◌≤◌, ◌<◌}
 use lib.Dec.{ltb}
-use lib.IntN.{ℤ, pos, negsuc, ◌-ℤ◌}
+use lib.IntN.{ℤ}
 use lib.Signed.{mag}
 use native.Mathlib.Omega.{arith}
-use borrow.Author.Tests.{lt-ltb, ltb-true, ltb-false}
-use mir.Syntax.{w32}
+use borrow.Author.Tests.{ltb-true, ltb-false}
+use mir.Syntax.{w16, w32}
 use mir.Val.{SFits, to_z, of_z}
-use mir.Facts.{to_z-of_z, to_z_pos}
+use mir.Facts.{to_z-of_z, to_z_pos, to_z-neg}
 use Rattle.entries.specs.Meaning.{signed16}
 use Rattle.entries.proofs.Sums.{low, high}
 
--- what the machine works out from 32768 on
-pub minus : (v : ℕ) → 32768 ≤ v → v < 65536 → to_z w32 v -ℤ pos 65536 ≡ negsuc (65535 - v)
-minus v h b = rw (to_z_pos w32 {n = v} (omega arith), lt-ltb v 65536 b) (ap negsuc (omega arith))
-
-pub minus_fits : (v : ℕ) → 32768 ≤ v → v < 65536 → SFits w32 (to_z w32 v -ℤ pos 65536)
-minus_fits v h b = rw (minus v h b) (record { sfits = omega arith })
+-- two bytes as the machine's signed number
+pub as_signed : (v : ℕ) → v < 65536 → to_z w16 v ≡ signed16 v
+as_signed v b = go (ltb v 32768) refl
+  where
+    go : (t : Bool) → ltb v 32768 ≡ t → to_z w16 v ≡ signed16 v
+    go true e = let h : v < 32768 = ltb-true v 32768 e in to_z_pos w16 {n = v} h ∙ sym (low v h)
+    go false e = let h : 32768 ≤ v = ltb-false v 32768 e in let q : 65536 - suc (65535 - v) ≡ v = omega arith in rw q at (to_z-neg w16 (65535 - v) (omega arith)) ∙ sym (high v h b)
 
 signed_mag : (v : ℕ) → v < 65536 → mag (signed16 v) < 32768
 signed_mag v b = go (ltb v 32768) refl

@@ -3,10 +3,11 @@ use mathlib.Core.Path.{◌≡◌, refl, sym, ◌∙◌, ap, subst}
 use mathlib.Core.Logic.{◌⊎◌, inl, inr, ⊎_elim}
 use mathlib.Core.List.{List}
 use mathlib.Core.Bool.{Bool, true, false}
-use Prim.Native.Nat.{ℕ, zero, suc, ◌+◌, ◌≤◌, ◌<◌}
+use Prim.Native.Nat.{ℕ, zero, suc, ◌+◌, ◌≤◌, ◌<◌, max}
 use native.Mathlib.Omega.{arith}
 use lib.Dec.{ltb}
 use borrow.Author.Tests.{ltb-true, ltb-false, eqb-true}
+use Rattle.std.proofs.lemmas.Bool.Decides.{nat_tests}
 use Rattle.base.specs.Meaning.{pick}
 use Rattle.base.specs.Reading.{when}
 use Rattle.base.proofs.Tests.{below}
@@ -72,6 +73,10 @@ entry_says s total at Broken e = (size_of s total at e, λ r. no_glyph (entry_of
 -- what holds of each entry, whatever it says
 pub entry_meaning : (s : List ℕ) (total at : ℕ) → EntrySays s total at (entry_of s total at)
 entry_meaning s total at = entry_says s total at (entry_of s total at) refl
+
+-- the larger of two is the library's `max`
+pub larger_max : (a b : ℕ) → max a b ≡ larger a b
+larger_max a b = grind (arith, nat_tests)
 
 -- the larger of two is one of them, and none is larger
 larger_left : (a b : ℕ) → a ≤ larger a b

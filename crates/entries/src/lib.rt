@@ -4,12 +4,13 @@
 
 ghost use Rattle.std.specs.Prelude.{◌≡◌, ◌+◌, ◌≤◌, ◌<◌, length, ◌+ℤ◌};
 ghost use Rattle.entries.specs.Meaning.{entry_at, signed16, metrics_at, count_of, rows_at, cols_at};
-ghost use Rattle.entries.specs.Reading.{larger, entry_of, scan_of};
+ghost use Rattle.entries.specs.Reading.{entry_of, scan_of};
 
+use header::Format;
 use vfont2::Vfont2;
 
 // What an entry says: no glyph, a glyph of so many rows and columns, or that it breaks a rule.
-#[derive(Clone, Copy)]
+#[derive(Clone, Copy, Debug, PartialEq, Eq)]
 pub enum Entry {
     Empty,
     Glyph(usize, usize),
@@ -27,15 +28,11 @@ pub struct Metrics {
 }
 
 // A number of two bytes as a signed one. Asks for a number of two bytes: each caller has just read it.
-fn signed(v: u32) -> i32
+pub fn signed(v: u32) -> i32
     requires { v < 65536 }
     ensures { result ≡ signed16 v }
 {
-    if v < 32768 {
-        v as i32
-    } else {
-        v as i32 - 65536
-    }
+    i32::from((v as u16).cast_signed())
 }
 
 // The metrics of the entry at `at`. Asks that the entry stands in the file: each caller has tested the length.
@@ -89,16 +86,6 @@ pub fn cols_at(file: &[u8], at: usize) -> usize
     base::size(span(base::get16(file, at + 12), base::get16(file, at + 14)))
 }
 
-// The larger of two.
-pub fn larger_of(a: usize, b: usize) -> usize
-    ensures { result ≡ larger a b }
-{
-    if a < b {
-        return b;
-    }
-    a
-}
-
 // What the entry at `at` says, where the bitmaps have `total` bytes. Asks that the entry stands in the file: each caller has
 // tested the length.
 pub fn entry_at(file: &[u8], total: usize, at: usize) -> Entry
@@ -138,14 +125,14 @@ pub fn scan_entries(file: &[u8], total: usize, n: usize, start: usize) -> Result
     requires { entry_at start n ≤ length file.now }
     ensures { result ≡ scan_of file.now total start n 0 0 0 }
 {
-    let mut height = 0;
-    let mut width = 0;
+    let mut height: usize = 0;
+    let mut width: usize = 0;
     for i in 0..n {
         match entry_at(file, total, start + i * Vfont2::ENTRY_LEN) {
             Entry::Empty => {}
             Entry::Glyph(rows, cols) => {
-                height = larger_of(height, rows);
-                width = larger_of(width, cols);
+                height = height.max(rows);
+                width = width.max(cols);
             }
             Entry::Broken => return Err(i),
         }

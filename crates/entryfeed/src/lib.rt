@@ -5,6 +5,7 @@
 ghost use Rattle.std.specs.Prelude.{◌≡◌, ◌+◌, ◌*◌, ◌≤◌, ◌<◌, length, drop};
 ghost use Rattle.entryfeed.specs.Reading.{sums_of, entries_read, entries_fed};
 
+use header::Format;
 use unfinished::Held;
 use vfont2::Vfont2;
 
@@ -55,8 +56,8 @@ fn more_sums(size: usize, at: usize, x: Sums, s: &[u8], start: usize, k: usize) 
         },
         Ok((h, w)) => Sums {
             broken: 0,
-            height: entries::larger_of(x.height, h),
-            width: entries::larger_of(x.width, w),
+            height: x.height.max(h),
+            width: x.width.max(w),
         },
     }
 }

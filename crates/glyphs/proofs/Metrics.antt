@@ -1,12 +1,12 @@
 -- The metrics of a glyph as numbers of 16 bits: whether two glyphs have the same, and the rows and columns that they give.
 use mathlib.Core.Path.{◌≡◌, refl, sym, ◌∙◌, ap}
-use mathlib.Core.Bool.{Bool, true, false}
+use mathlib.Core.Bool.{Bool, true, false, ◌&&◌}
 use mathlib.Core.List.{List}
 use Prim.Native.Nat.{ℕ, ◌+◌, ◌≤◌, ◌<◌}
 use native.Mathlib.Omega.{arith}
 use lib.Dec.{eqb}
 use lib.IntN.{◌+ℤ◌}
-use borrow.Author.Tests.{eq-eqb, ne_eqb, eqb-true}
+use borrow.Author.Tests.{eq-eqb, eqb-true}
 use Rattle.base.specs.Reading.{when}
 use Rattle.header.specs.declared.Kind.{Kind}
 use Rattle.header.specs.declared.Kind.TheVariants.{Psf1, Psf2, Vfont2}
@@ -26,27 +26,16 @@ use Rattle.glyphs.specs.Reading.{even_words, words_of, same_words}
 use Rattle.refusal.specs.declared.Refusal.{Refusal}
 use Rattle.std.specs.Prelude.{Result, Ok}
 
--- the test, one metric after the other
+both : (x y : Bool) → x && y ≡ when x y false
+unfolding when
+both true y = refl
+both false y = refl
+
+-- `==` of two glyphs' metrics
 module _ (a b : Words) where
-  pub other_up : (a.up ≡ b.up → ⊥) → false ≡ same_words a b
-  unfolding same_words when
-  other_up n = rw (ne_eqb _ _ n)
-
-  pub other_down : a.up ≡ b.up → (a.down ≡ b.down → ⊥) → false ≡ same_words a b
-  unfolding same_words when
-  other_down p n = rw (eq-eqb _ _ p, ne_eqb _ _ n)
-
-  pub other_left : a.up ≡ b.up → a.down ≡ b.down → (a.left ≡ b.left → ⊥) → false ≡ same_words a b
-  unfolding same_words when
-  other_left p q n = rw (eq-eqb _ _ p, eq-eqb _ _ q, ne_eqb _ _ n)
-
-  pub other_right : a.up ≡ b.up → a.down ≡ b.down → a.left ≡ b.left → (a.right ≡ b.right → ⊥) → false ≡ same_words a b
-  unfolding same_words when
-  other_right p q r n = rw (eq-eqb _ _ p, eq-eqb _ _ q, eq-eqb _ _ r, ne_eqb _ _ n)
-
-  pub by_logical : a.up ≡ b.up → a.down ≡ b.down → a.left ≡ b.left → a.right ≡ b.right → eqb a.logical b.logical ≡ same_words a b
-  unfolding same_words when
-  by_logical p q r t = rw (eq-eqb _ _ p, eq-eqb _ _ q, eq-eqb _ _ r, eq-eqb _ _ t)
+  pub by_eq : eqb a.up b.up && (eqb a.down b.down && (eqb a.left b.left && (eqb a.right b.right && eqb a.logical b.logical))) ≡ same_words a b
+  unfolding same_words
+  by_eq = simp both
 
   -- it says that all are the same
   past : (t : Bool) (y : Bool) → when t y false ≡ true → (t ≡ true) × (y ≡ true)
@@ -71,7 +60,8 @@ module _ (a b : Words) where
 
   -- and says so wherever they are
   pub words_same : a ≡ b → same_words a b ≡ true
-  words_same e = sym (by_logical (ap (λ (w : Words). w.up) e) (ap (λ (w : Words). w.down) e) (ap (λ (w : Words). w.left) e) (ap (λ (w : Words). w.right) e)) ∙ eq-eqb _ _ (ap (λ (w : Words). w.logical) e)
+  unfolding same_words when
+  words_same e = rw (eq-eqb _ _ (ap (λ (w : Words). w.up) e), eq-eqb _ _ (ap (λ (w : Words). w.down) e), eq-eqb _ _ (ap (λ (w : Words). w.left) e), eq-eqb _ _ (ap (λ (w : Words). w.right) e)) (eq-eqb _ _ (ap (λ (w : Words). w.logical) e))
 
 -- "The number of lines present in the bitmap is up+down. Similarly, the number of columns is left+right."
 abbrev pub rows_of : Words → ℕ

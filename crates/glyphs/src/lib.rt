@@ -6,14 +6,14 @@ ghost use Rattle.std.specs.Prelude.{◌≡◌, ◌+◌, ◌≤◌, ◌<◌, leng
 ghost use Rattle.header.specs.Bounds.{Placed};
 ghost use Rattle.bitmap.specs.Bounds.{Inside};
 ghost use Rattle.bitmap.specs.Reading.{bitmap_of};
-ghost use Rattle.glyphs.specs.Reading.{even_words, entry_words, words_of, same_words, pixel_kind, located_kind, glyph_kind};
+ghost use Rattle.glyphs.specs.Reading.{even_words, entry_words, words_of, pixel_kind, located_kind, glyph_kind};
 
 use bitmap::Bitmap;
-use header::{Font, Kind};
+use header::{Font, Format, Kind};
 use vfont2::Vfont2;
 
 // A glyph's five metrics, each as the number of 16 bits that a vfont2 entry has for it.
-#[derive(Clone, Copy)]
+#[derive(Clone, Copy, Debug, PartialEq, Eq)]
 pub struct Words {
     pub up: u32,
     pub down: u32,
@@ -63,25 +63,6 @@ fn words_of(file: &[u8], f: Font, g: usize) -> Words
     }
 }
 
-// Whether two glyphs have the same metrics.
-fn same_words(a: Words, b: Words) -> bool
-    ensures { result ≡ same_words a b }
-{
-    if a.up != b.up {
-        return false;
-    }
-    if a.down != b.down {
-        return false;
-    }
-    if a.left != b.left {
-        return false;
-    }
-    if a.right != b.right {
-        return false;
-    }
-    a.logical == b.logical
-}
-
 // 4 where two bitmaps of one height and width differ in a pixel, else 0. Asks that they stand in their files: they were located there.
 fn pixel_kind(a: &[u8], p: Bitmap, b: &[u8], q: Bitmap) -> u32
     requires { Inside a.now p × Inside b.now q × (p.height ≡ q.height) × (p.width ≡ q.width) × (length a.now ≤ 1048576) × (length b.now ≤ 1048576) }
@@ -104,7 +85,7 @@ fn drawn_kind(a: &[u8], f: Font, p: Bitmap, b: &[u8], h: Font, q: Bitmap, g: usi
 {
     let v = words_of(a, f, g);
     let w = words_of(b, h, g);
-    if same_words(v, w) {
+    if v == w {
         return pixel_kind(a, p, b, q);
     }
     3

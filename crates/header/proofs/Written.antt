@@ -1,9 +1,9 @@
 -- The parts of a written header one by one: flags, mode, lengths.
 use mathlib.Core.Path.{◌≡◌, refl}
 use mathlib.Core.Bool.{Bool, true, false}
-use mathlib.Core.List.{[], ◌∷◌, ◌++◌}
+use mathlib.Core.List.{List, [], ◌∷◌, ◌++◌}
 use Prim.Native.Nat.{ℕ}
-use lib.ListN.{length}
+use lib.ListN.{length, length-append}
 use borrow.Author.Tests.{eq-eqb, ne_eqb}
 use Rattle.base.specs.Reading.{bytes32}
 use Rattle.header.specs.declared.Kind.{Kind}
@@ -44,10 +44,10 @@ pub vfont2_parts : (t : Bool) (n z h w : ℕ) → magic_of Vfont2 ++ fixed_field
 unfolding header_bytes
 vfont2_parts t n z h w = refl
 
--- a magic and the fields behind it
-pub front_length : (k : Kind) (t : Bool) → (length (magic_of Psf2 ++ fixed_fields t) ≡ 16) × (length (magic_of Vfont2 ++ fixed_fields t) ≡ 16)
+-- a magic of four bytes and the fields behind it
+pub front_length : (m : List ℕ) (t : Bool) → length m ≡ 4 → length (m ++ fixed_fields t) ≡ 16
 unfolding fixed_fields bytes32
-front_length k t = (refl, refl)
+front_length m t e = rw (length-append, e)
 
 -- "Written headers are 32 bytes (4 for PSF1)"
 pub header_length : (k : Kind) (t : Bool) (n z h w : ℕ) → length (header_bytes k t n z h w) ≡ header_len k

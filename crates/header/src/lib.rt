@@ -1,18 +1,23 @@
-// Inner layer: what the headers of the three kinds have in common: what a header says (`Font`), the fields that PSF2 and vfont2 have at the
-// same places, read and written, and the bytes of a bitmap. Each kind's own header is in crates `psf1`, `psf2` and `vfont2`.
+// Inner layer: what the headers of the three kinds have in common: what each kind fixes (`Format`), what a header says (`Font`), the fields that
+// PSF2 and vfont2 have at the same places, read and written (`LongHeader`), and the bytes of a bitmap. Each kind's own header is in crates
+// `psf1`, `psf2` and `vfont2`.
 // Definitions: specs/Meaning.antt (the formats), specs/Reading.antt (the checks in their order, the headers that are written).
 #![tactic(auto)]
 
-ghost use Rattle.std.specs.Prelude.{◌≡◌, ◌≤◌, ◌<◌, length};
+ghost use Rattle.std.specs.Prelude.{◌≡◌, ◌+◌, ◌*◌, ◌≤◌, ◌<◌, ℕ, Bool, List, ◌++◌, length, Result};
 ghost use Rattle.base.specs.Reading.{over};
+ghost use Rattle.header.specs.declared.Kind.{Kind};
 ghost use Rattle.header.specs.declared.Kind.TheVariants.{Psf2 as psf2};
+ghost use Rattle.header.specs.declared.Fields.{Fields};
+ghost use Rattle.header.specs.declared.Font.{Font};
+ghost use Rattle.refusal.specs.declared.Refusal.{Refusal};
 ghost use Rattle.header.specs.Meaning.{header_len, row_bytes, glyph_bytes};
-ghost use Rattle.header.specs.Reading.{head_of, fields, flags_of, fixed_fields};
+ghost use Rattle.header.specs.Reading.{head_of, on_fields, fields, flags_of, fixed_fields, header_bytes};
 ghost use Rattle.header.specs.Bounds.{HeadWithin};
 
 use refusal::{Reason, Refusal};
 
-#[derive(Clone, Copy)]
+#[derive(Clone, Copy, Debug, PartialEq, Eq)]
 pub enum Kind {
     Psf1,
     Psf2,
@@ -23,7 +28,7 @@ pub enum Kind {
 pub const LIMIT: usize = 1048576;
 
 // What an accepted font's header says: all that any other call needs. Offsets are in the file.
-#[derive(Clone, Copy)]
+#[derive(Clone, Copy, Debug, PartialEq, Eq)]
 pub struct Font {
     pub kind: Kind,
     pub count: usize,
@@ -43,7 +48,7 @@ pub struct Font {
 }
 
 // The fields that PSF2 and vfont2 have at the same places.
-#[derive(Clone, Copy)]
+#[derive(Clone, Copy, Debug, PartialEq, Eq)]
 pub struct Fields {
     pub header: usize,
     pub count: usize,
@@ -141,4 +146,70 @@ pub fn put_fields(a: usize, b: usize, c: usize, d: usize, out: &mut [u8])
     base::put32(b as u32, &mut out[4..]);
     base::put32(c as u32, &mut out[8..]);
     base::put32(d as u32, &mut out[12..]);
+}
+
+// What a kind of file fixes, its magic of M bytes among it. Each kind is a type in a crate of its own, which gives the definitions' numbers and is
+// proved to have them as its constants.
+pub trait Format<const M: usize> {
+    ghost MAGIC: { List ℕ };
+
+    ghost HEADER_LEN: { ℕ };
+
+    ghost ENTRY_LEN: { ℕ };
+
+    const MAGIC: [u8; M];
+
+    const HEADER_LEN: usize;
+    // first bitmap rule: the bitmaps begin behind the header, after so many bytes for each glyph
+    const ENTRY_LEN: usize;
+
+    // Where the bitmaps of n glyphs begin, behind a header of that length. Asks for small numbers: the checks have bounded both.
+    fn first_bitmap(header: usize, n: usize) -> usize
+        requires { (header ≤ 4096) × (n ≤ 4096) }
+        ensures { result ≡ header + n * ENTRY_LEN }
+    {
+        header + n * Self::ENTRY_LEN
+    }
+
+    // law: the sum above can't overflow
+    ghost small: { ENTRY_LEN ≤ 18 };
+}
+
+// A kind whose header has the fields that PSF2 and vfont2 have at the same places.
+pub trait LongHeader: Format<4> {
+    ghost kind: { Kind };
+
+    ghost shaped: { Fields → Result Font Refusal };
+
+    // The font that these fields describe: refusal 7. Asks for small numbers: `head_of` has bounded them.
+    fn shaped(f: Fields) -> Result<Font, Refusal>
+        requires { (f.header ≤ 4096) × (f.count ≤ 4096) × (f.size < 4294967296) }
+        ensures { result ≡ shaped f };
+
+    // What the header of a file says: refusals 3 to 7.
+    fn says(file: &[u8]) -> Result<Font, Refusal>
+        ensures { result ≡ on_fields shaped (head_of file.now) }
+    {
+        let f = head_of(file, Self::HEADER_LEN)?;
+        Self::shaped(f)
+    }
+
+    // The header of a file, to the front; `size` is what stands at 20. Asks for numbers that four bytes hold, and for room: the caller has worked
+    // out both.
+    fn put_header(table: bool, n: usize, size: usize, height: usize, width: usize, out: &mut [u8])
+        requires { (n < 4294967296) × (size < 4294967296) × (height < 4294967296) × (width < 4294967296) × (32 ≤ length out.old) }
+        ensures { out.new ≡ over (header_bytes kind table n size height width) out.old }
+    {
+        let magic = Self::MAGIC;
+        base::copy(&magic, &mut out[0..]);
+        put_fixed(Self::HEADER_LEN, table, &mut out[4..]);
+        put_fields(n, size, height, width, &mut out[16..]);
+    }
+
+    // laws: the header's length, the magic's, and that a header is magic, fixed fields and four numbers
+    ghost fixed: { Self.HEADER_LEN ≡ header_len psf2 };
+
+    ghost four: { length Self.MAGIC ≡ 4 };
+
+    ghost parts: { (t : Bool) (n z h w : ℕ) → Self.MAGIC ++ fixed_fields t ++ fields n z h w ≡ header_bytes kind t n z h w };
 }

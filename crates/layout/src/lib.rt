@@ -11,7 +11,7 @@ ghost use Rattle.header.specs.Bounds.{Placed};
 ghost use Rattle.entries.specs.Meaning.{entry_at, address_at};
 ghost use Rattle.layout.specs.Reading.{metrics_bytes, entry_bytes, entries_at, evenly, dispatch_bytes, gathered, glyphs_in};
 
-use header::{Font, Kind};
+use header::{Font, Format, Kind, LongHeader};
 use psf1::Psf1;
 use psf2::Psf2;
 use vfont2::Vfont2;

@@ -9,7 +9,7 @@ ghost use Rattle.loader.specs.Reading.{part_of, entries_in, table_in, font_fed, 
 ghost use Rattle.loader.specs.Bounds.{Fitting};
 
 use entryfeed::Sums;
-use header::{Font, Kind};
+use header::{Font, Format, Kind};
 use refusal::{Reason, Refusal};
 use tablefeed::Standing;
 use unfinished::Held;

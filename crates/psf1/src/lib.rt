@@ -2,32 +2,35 @@
 #![tactic(auto)]
 
 ghost use Rattle.std.specs.Prelude.{◌≡◌, ◌≤◌, ◌<◌, length};
+ghost use Rattle.std.proofs.Common.{rules};
 ghost use Rattle.base.specs.Reading.{over};
 ghost use Rattle.header.specs.declared.Kind.TheVariants.{Psf1 as psf1};
-ghost use Rattle.header.specs.Meaning.{psf1_count, psf1_table};
+ghost use Rattle.header.specs.Meaning.{magic_of, header_len, entry_len, psf1_count, psf1_table};
 ghost use Rattle.header.specs.Reading.{mode_of, header_bytes, psf1_says};
 
-use header::{Font, Kind};
+use header::{Font, Format, Kind};
 use refusal::{Reason, Refusal};
 
 #[derive(Clone, Copy)]
 pub struct Psf1;
 
+impl Format<2> for Psf1 {
+    ghost MAGIC = { magic_of psf1 };
+
+    ghost HEADER_LEN = { header_len psf1 };
+
+    ghost ENTRY_LEN = { entry_len psf1 };
+
+    const MAGIC: [u8; 2] = [0x36, 0x04];
+
+    const HEADER_LEN: usize = 4;
+
+    const ENTRY_LEN: usize = 0;
+
+    ghost small = { Prim.search rules };
+}
+
 impl Psf1 {
-    pub const MAGIC: [u8; 2] = [0x36, 0x04];
-
-    pub const HEADER_LEN: usize = 4;
-    // first bitmap rule: the bitmaps begin behind the header, after so many bytes for each glyph
-    pub const ENTRY_LEN: usize = 0;
-
-    // Where the bitmaps of n glyphs begin, behind a header of that length. Asks for small numbers: the checks have bounded both.
-    pub fn first_bitmap(header: usize, n: usize) -> usize
-        requires { (header ≤ 4096) × (n ≤ 4096) }
-        ensures { result ≡ header }
-    {
-        header + n * Psf1::ENTRY_LEN
-    }
-
     // "256 glyphs, or 512 if bit 0 of the mode is set"
     pub fn count_of(mode: u8) -> usize
         ensures { (result ≡ psf1_count mode) × (result ≤ 512) }

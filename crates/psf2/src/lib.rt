@@ -1,31 +1,39 @@
 // Inner layer: PSF2: its constants, its header read and written. Definitions: crates/header/specs.
 #![tactic(auto)]
 
-ghost use Rattle.std.specs.Prelude.{◌≡◌, ◌+◌, ◌*◌, ◌≤◌, ◌<◌, length};
-ghost use Rattle.base.specs.Reading.{over};
+ghost use Rattle.std.specs.Prelude.{◌≡◌, ◌≤◌, ◌<◌, refl};
+ghost use Rattle.std.proofs.Common.{rules};
 ghost use Rattle.header.specs.declared.Kind.TheVariants.{Psf2 as psf2};
-ghost use Rattle.header.specs.Reading.{head_of, psf2_shaped, on_fields, header_bytes};
+ghost use Rattle.header.specs.Meaning.{magic_of, header_len, entry_len};
+ghost use Rattle.header.specs.Reading.{psf2_shaped};
+ghost use Rattle.header.proofs.Written.{psf2_parts};
 
-use header::{Fields, Font, Kind};
+use header::{Fields, Font, Format, Kind, LongHeader};
 use refusal::{Reason, Refusal};
 
 #[derive(Clone, Copy)]
 pub struct Psf2;
 
-impl Psf2 {
-    pub const MAGIC: [u8; 4] = [0x72, 0xB5, 0x4A, 0x86];
+impl Format<4> for Psf2 {
+    ghost MAGIC = { magic_of psf2 };
 
-    pub const HEADER_LEN: usize = 32;
-    // first bitmap rule, as for PSF1
-    pub const ENTRY_LEN: usize = 0;
+    ghost HEADER_LEN = { header_len psf2 };
 
-    // Where the bitmaps of n glyphs begin, behind a header of that length. Asks for small numbers: the checks have bounded both.
-    pub fn first_bitmap(header: usize, n: usize) -> usize
-        requires { (header ≤ 4096) × (n ≤ 4096) }
-        ensures { result ≡ header }
-    {
-        header + n * Psf2::ENTRY_LEN
-    }
+    ghost ENTRY_LEN = { entry_len psf2 };
+
+    const MAGIC: [u8; 4] = [0x72, 0xB5, 0x4A, 0x86];
+
+    const HEADER_LEN: usize = 32;
+
+    const ENTRY_LEN: usize = 0;
+
+    ghost small = { Prim.search rules };
+}
+
+impl LongHeader for Psf2 {
+    ghost kind = { psf2 };
+
+    ghost shaped = { psf2_shaped };
 
     // The font that these fields describe: refusal 7. Asks for small numbers: `header::head_of` has bounded them.
     fn shaped(f: Fields) -> Result<Font, Refusal>
@@ -61,29 +69,9 @@ impl Psf2 {
         })
     }
 
-    // What the header of a PSF2 file says: refusals 3 to 7.
-    pub fn says(file: &[u8]) -> Result<Font, Refusal>
-        ensures { result ≡ on_fields psf2_shaped (head_of file.now) }
-    {
-        let fields = header::head_of(file, Psf2::HEADER_LEN)?;
-        Psf2::shaped(fields)
-    }
+    ghost fixed = { refl };
 
-    // The header of a PSF2 file, to the front. Asks for numbers that four bytes hold, and for room: the caller has worked out both.
-    pub fn put_header(
-        table: bool,
-        n: usize,
-        size: usize,
-        height: usize,
-        width: usize,
-        out: &mut [u8],
-    )
-        requires { (n < 4294967296) × (size < 4294967296) × (height < 4294967296) × (width < 4294967296) × (32 ≤ length out.old) }
-        ensures { out.new ≡ over (header_bytes psf2 table n size height width) out.old }
-    {
-        let magic = Psf2::MAGIC;
-        base::copy(&magic, &mut out[0..]);
-        header::put_fixed(Psf2::HEADER_LEN, table, &mut out[4..]);
-        header::put_fields(n, size, height, width, &mut out[16..]);
-    }
+    ghost four = { refl };
+
+    ghost parts = { psf2_parts };
 }

@@ -14,14 +14,14 @@ ghost use Rattle.stages.specs.Reading.{sized, greatest_of, scanned, entries_of, 
 ghost use Rattle.stages.specs.Bounds.{CheckedPlaced, ToTablePlaced};
 
 use coding::Coding;
-use header::{Font, Kind};
+use header::{Font, Format, Kind, LongHeader};
 use psf1::Psf1;
 use psf2::Psf2;
 use refusal::{Reason, Refusal};
 use table::Fault;
 use vfont2::Vfont2;
 
-// How a kind of file writes its table's values.
+// How a kind of file writes its table's values. No `From`: this crate has neither type, and the crates that have them do not know each other.
 pub fn coding_of(kind: Kind) -> Coding
     ensures { result ≡ coding_of kind }
 {
@@ -52,6 +52,7 @@ fn kind_of(file: &[u8]) -> Option<Kind>
 }
 
 // What a file's header says: refusals 2 to 7 in their order, or the font that it describes.
+#[inline(always)]
 pub fn says(file: &[u8]) -> Result<Font, Refusal>
     ensures { result ≡ says_of file.now }
 {
@@ -63,17 +64,11 @@ pub fn says(file: &[u8]) -> Result<Font, Refusal>
     }
 }
 
-// The same for the loader, which asks it at every piece: a function of its own, since the compiler puts `says` into the check only while nothing
-// else calls it.
+// The same for the loader, which asks it at every piece: one function for its calls, where `says` goes into each caller.
 pub fn describes(file: &[u8]) -> Result<Font, Refusal>
     ensures { result ≡ says_of file.now }
 {
-    let kind = kind_of(file).ok_or(refusal::refuse(Reason::Kind, 0))?;
-    match kind {
-        Kind::Psf1 => Psf1::says(file),
-        Kind::Psf2 => Psf2::says(file),
-        Kind::Vfont2 => Vfont2::says(file),
-    }
+    says(file)
 }
 
 // Refusal 8 for a file of so many bytes.

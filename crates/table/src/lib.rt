@@ -14,7 +14,7 @@ use coding::Coding;
 use token::{Malformed, Token};
 
 // What stands in a description, one after the other: a single value, a start mark, a value in a sequence, the end mark.
-#[derive(Clone, Copy)]
+#[derive(Clone, Copy, Debug, PartialEq, Eq)]
 pub enum Item {
     Single(u32),
     Start,
@@ -23,7 +23,7 @@ pub enum Item {
 }
 
 // What stands at a place of a tail, and the place after it; Cut where it is not all there, Bad with the first wrong place.
-#[derive(Clone, Copy)]
+#[derive(Clone, Copy, Debug, PartialEq, Eq)]
 pub enum Step {
     Value(u32, usize),
     Start(usize),
@@ -109,7 +109,7 @@ pub fn value_item(inside: bool, v: u32) -> Item
 
 // Why a tail is no table. Places are counted from the table's first byte; Cut and Bad also tell how many descriptions are complete before
 // the place, which is the glyph whose description is being read there.
-#[derive(Clone, Copy)]
+#[derive(Clone, Copy, Debug, PartialEq, Eq)]
 pub enum Fault {
     Cut(usize, usize),
     Bad(usize, usize),

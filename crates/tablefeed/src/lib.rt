@@ -161,15 +161,6 @@ fn settle(s: &[u8], at: usize, r: Run) -> Fed
     }
 }
 
-fn least_of(a: usize, b: usize) -> usize
-    ensures { (result ≤ a) × (result ≤ b) × (result < b → result ≡ a) }
-{
-    if a < b {
-        return a;
-    }
-    b
-}
-
 // A part behind bytes that are held: what begins in them is read first, from them and the first three bytes of the part. Asks for what
 // `feed` asks for.
 fn behind_held(c: Coding, n: usize, at: usize, h: Held, t: Standing, part: &[u8]) -> Fed
@@ -177,7 +168,7 @@ fn behind_held(c: Coding, n: usize, at: usize, h: Held, t: Standing, part: &[u8]
     ensures { result ≡ table_fed c n at h t part.now }
 {
     let k = h.len;
-    let m = least_of(part.len(), 3);
+    let m = part.len().min(3);
     let joined = unfinished::put(h, &part[..m]);
     let bytes = joined.bytes;
     let end = k + m;

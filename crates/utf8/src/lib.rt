@@ -155,6 +155,7 @@ fn further(s: &[u8], k: usize, v: u32, lo: u8, hi: u8) -> Result<(u32, usize), M
 }
 
 // A value of three bytes whose first gave v: the second has its bounds, the third is 80 to BF. Asks for what the rows have.
+// No loop over the bytes for this and `four`: only the second byte has bounds of its own, so a loop would be no plainer.
 fn three(s: &[u8], v: u32, lo: u8, hi: u8) -> Result<(u32, usize), Malformed>
     requires { (v < 128) × (128 ≤ lo) }
     ensures { (result ≡ conts 2 lo hi v 1 (drop 1 s.now)) × Reached 532544 3 result }
@@ -269,13 +270,13 @@ fn four_permitted(b: u8, x: u8, y: u8, z: u8) -> usize
     0
 }
 
-// The length of a value of two bytes at a place, whose first is b: 0 where it is not there whole, or its key is `key`. Asks for what b's row of
-// Table 3-7 has.
-fn two_len(s: &[u8], at: usize, b: u8, lo: u8, hi: u8, key: u32) -> usize
-    requires { (at < length s.now) × (b ≡ get_or s.now at 0) × ((lead_of b).len ≡ 2) × (lo ≡ (lead_of b).lo) × (hi ≡ (lead_of b).hi) }
+// The length N of a value at a place, whose first byte is b: 0 where it is not there whole, its last byte is `key`, or it is a noncharacter. Asks for
+// what b's row of Table 3-7 has.
+fn row_len<const N: usize>(s: &[u8], at: usize, b: u8, lo: u8, hi: u8, key: u32) -> usize
+    requires { (at < length s.now) × (b ≡ get_or s.now at 0) × ((lead_of b).len ≡ N) × (lo ≡ (lead_of b).lo) × (hi ≡ (lead_of b).hi) × (2 ≤ N) × (N ≤ 4) }
     ensures { (result ≡ plain_len key (read_value (drop at s.now))) × (at + result ≤ length s.now) }
 {
-    if s.len() <= at + 1 {
+    if s.len() < at + N {
         return 0;
     }
     let x = s[at + 1];
@@ -285,26 +286,11 @@ fn two_len(s: &[u8], at: usize, b: u8, lo: u8, hi: u8, key: u32) -> usize
     if hi < x {
         return 0;
     }
-    if wide(x) == key {
-        return 0;
-    }
-    2
-}
-
-// The same of three bytes; 0 too where it is a noncharacter.
-fn three_len(s: &[u8], at: usize, b: u8, lo: u8, hi: u8, key: u32) -> usize
-    requires { (at < length s.now) × (b ≡ get_or s.now at 0) × ((lead_of b).len ≡ 3) × (lo ≡ (lead_of b).lo) × (hi ≡ (lead_of b).hi) }
-    ensures { (result ≡ plain_len key (read_value (drop at s.now))) × (at + result ≤ length s.now) }
-{
-    if s.len() <= at + 2 {
-        return 0;
-    }
-    let x = s[at + 1];
-    if x < lo {
-        return 0;
-    }
-    if hi < x {
-        return 0;
+    if N == 2 {
+        if wide(x) == key {
+            return 0;
+        }
+        return 2;
     }
     let y = s[at + 2];
     if y < 0x80 {
@@ -313,33 +299,11 @@ fn three_len(s: &[u8], at: usize, b: u8, lo: u8, hi: u8, key: u32) -> usize
     if 0xBF < y {
         return 0;
     }
-    if wide(y) == key {
-        return 0;
-    }
-    three_permitted(b, x, y)
-}
-
-// The same of four bytes.
-fn four_len(s: &[u8], at: usize, b: u8, lo: u8, hi: u8, key: u32) -> usize
-    requires { (at < length s.now) × (b ≡ get_or s.now at 0) × ((lead_of b).len ≡ 4) × (lo ≡ (lead_of b).lo) × (hi ≡ (lead_of b).hi) }
-    ensures { (result ≡ plain_len key (read_value (drop at s.now))) × (at + result ≤ length s.now) }
-{
-    if s.len() <= at + 3 {
-        return 0;
-    }
-    let x = s[at + 1];
-    if x < lo {
-        return 0;
-    }
-    if hi < x {
-        return 0;
-    }
-    let y = s[at + 2];
-    if y < 0x80 {
-        return 0;
-    }
-    if 0xBF < y {
-        return 0;
+    if N == 3 {
+        if wide(y) == key {
+            return 0;
+        }
+        return three_permitted(b, x, y);
     }
     let z = s[at + 3];
     if z < 0x80 {
@@ -363,9 +327,9 @@ pub fn plain_len(s: &[u8], at: usize, b: u8, key: u32) -> usize
     let l = lead_of(b);
     let n = l.len;
     match n {
-        2 => two_len(s, at, b, l.lo, l.hi, key),
-        3 => three_len(s, at, b, l.lo, l.hi, key),
-        4 => four_len(s, at, b, l.lo, l.hi, key),
+        2 => row_len::<2>(s, at, b, l.lo, l.hi, key),
+        3 => row_len::<3>(s, at, b, l.lo, l.hi, key),
+        4 => row_len::<4>(s, at, b, l.lo, l.hi, key),
         _ => 0,
     }
 }

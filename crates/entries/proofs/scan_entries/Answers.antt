@@ -1,5 +1,6 @@
 -- `entries::scan_entries` meets its contract: the entries from the i-th on, with the greatest so far, scan as all of them do. Assumes nothing.
 use Rattle.entries.proofs.Cases as cases
+use Rattle.entries.proofs.Meaning.{larger_max}
 use Prim.Native.Nat.{◌+◌, ◌-◌}
 use mathlib.Core.Path.{◌≡◌, refl, sym, ◌∙◌}
 use native.Mathlib.Omega.{arith}
@@ -10,7 +11,7 @@ pub loop-i-preserved : goal.loop-i-preserved
 loop-i-preserved c = let e : c.args.n - (c.loop-i.i + 1) ≡ c.args.n - c.loop-i.i - 1 = omega arith in
     let s = c.args.file.now in elim c.match-entry_at.branch [
       | in-Empty w ↦ rw (e, w.height-is, w.width-is) (sym (cases.past_empty s c.args.total c.args.start c.loop-i.i _ _ _ refl (c.args.n - c.loop-i.i) (omega arith) (sym c.entry_at.ensures ∙ w.in-Empty.is)) ∙ c.loop-i.invariant)
-      | in-Glyph w ↦ rw (e, w.height-is, w.width-is, w.larger_of-height.ensures, w.larger_of-width.ensures) (sym (cases.past_glyph s c.args.total c.args.start c.loop-i.i _ _ _ refl (c.args.n - c.loop-i.i) _ _ (omega arith) (sym c.entry_at.ensures ∙ w.in-Glyph.is)) ∙ c.loop-i.invariant)
+      | in-Glyph w ↦ rw (e, w.height-is, w.width-is, w.max-height.ensures, larger_max, w.max-width.ensures, larger_max) (sym (cases.past_glyph s c.args.total c.args.start c.loop-i.i _ _ _ refl (c.args.n - c.loop-i.i) _ _ (omega arith) (sym c.entry_at.ensures ∙ w.in-Glyph.is)) ∙ c.loop-i.invariant)
     ]
 
 pub returns-in-Broken : goal.returns-in-Broken

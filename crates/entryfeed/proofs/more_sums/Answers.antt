@@ -1,7 +1,7 @@
 -- `entryfeed::more_sums` meets its contract. Assumes that the entries stand in the slice, and the slice within the file limit.
 use native.Mathlib.Omega.{arith}
 use mathlib.Core.Path.{sym, ◌∙◌}
-use Rattle.entries.proofs.Meaning.{scan_broken}
+use Rattle.entries.proofs.Meaning.{scan_broken, larger_max}
 use Rattle.entryfeed.proofs.Feeding.{found, taller}
 use Rattle.entryfeed.proofs.more_sums.Goals as goal
 
@@ -15,4 +15,4 @@ pub returns-in-Err : goal.returns-in-Err
 returns-in-Err c = found _ _ _ c.args.s.now _ _ c.if-x-ne0.false _ _ c.in-Err.is c.scan_entries-r.ensures
 
 pub returns-in-Ok : goal.returns-in-Ok
-returns-in-Ok c = taller _ _ _ c.args.s.now _ _ c.if-x-ne0.false _ _ _ _ _ c.in-Ok.is c.scan_entries-r.ensures c.larger_of.ensures c.larger_of-in-Ok.ensures
+returns-in-Ok c = taller _ _ _ c.args.s.now _ _ c.if-x-ne0.false _ _ _ _ _ c.in-Ok.is c.scan_entries-r.ensures (c.max.ensures ∙ larger_max _ _) (c.max-in-Ok.ensures ∙ larger_max _ _)

@@ -20,4 +20,4 @@ pub overflow_add-result : goal.overflow_add-result
 overflow_add-result c = let h : c.count_of-count.result ≤ 512 = omega arith in let w : c.size-size.result ≤ 255 = omega arith in omega (arith, mul-le-mul h w)
 
 pub returns : goal.returns
-returns c = cases.psf1_read c.args.file.now c.count_of-count.result c.size-size.result _ _ c.count_of-count.ensures.0 (omega arith) c.table_of.ensures c.first_bitmap.ensures (omega arith)
+returns c = cases.psf1_read c.args.file.now c.count_of-count.result c.size-size.result _ _ c.count_of-count.ensures.0 (omega arith) c.table_of.ensures (omega arith) (omega arith)

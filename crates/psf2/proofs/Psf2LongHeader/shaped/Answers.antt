@@ -4,7 +4,7 @@ use mathlib.Core.Path.{◌∙◌, ap}
 use Rattle.header.proofs.Cases as cases
 use Prim.Native.Nat.{◌≤◌}
 use native.Mathlib.Nat.{mul-le-mul}
-use Rattle.psf2.proofs.Psf2.shaped.Goals as goal
+use Rattle.psf2.proofs.Psf2LongHeader.shaped.Goals as goal
 use Rattle.std.specs.Prelude.{Err}
 
 pub returns-then-f-lt1 : goal.returns-then-f-lt1
@@ -29,4 +29,4 @@ pub overflow_add-result : goal.overflow_add-result
 overflow_add-result c = let n : c.args.f.count ≤ 4096 = omega arith in let z : c.args.f.size ≤ 8160 = omega arith in omega (arith, mul-le-mul n z)
 
 pub returns : goal.returns
-returns c = cases.psf2_read c.args.f _ c.first_bitmap-bitmaps.ensures (omega arith)
+returns c = cases.psf2_read c.args.f _ (omega arith) (omega arith)

@@ -2,7 +2,7 @@
 use native.Mathlib.Omega.{arith}
 use mathlib.Core.Path.{◌∙◌, ap}
 use Rattle.header.proofs.Cases as cases
-use Rattle.vfont2.proofs.Vfont2.shaped.Goals as goal
+use Rattle.vfont2.proofs.Vfont2LongHeader.shaped.Goals as goal
 use Rattle.std.specs.Prelude.{Err}
 
 pub returns-then-f-gt255 : goal.returns-then-f-gt255
