@@ -2,13 +2,14 @@
 use mathlib.Core.Path.{◌≡◌, refl}
 use mathlib.Core.Bool.{Bool, true, false}
 use mathlib.Core.List.{List, [], ◌∷◌, ◌++◌}
-use Prim.Native.Nat.{ℕ}
+use Prim.Native.Nat.{ℕ, ◌≤◌}
+use native.Mathlib.Omega.{arith}
 use lib.ListN.{length, length-append}
 use borrow.Author.Tests.{eq-eqb, ne_eqb}
 use Rattle.base.specs.Reading.{bytes32}
 use Rattle.header.specs.declared.Kind.{Kind}
 use Rattle.header.specs.declared.Kind.TheVariants.{Psf1, Psf2, Vfont2}
-use Rattle.header.specs.Meaning.{magic_of, header_len}
+use Rattle.header.specs.Meaning.{magic_of, header_len, entry_len}
 use Rattle.header.specs.Reading.{fields, flags_of, fixed_fields, mode_of, header_bytes}
 
 pub flags_yes : (t : Bool) → t ≡ true → 1 ≡ flags_of t
@@ -35,6 +36,11 @@ fixed_flags t h f l e = rw (l, e)
 pub header_mode : (n : ℕ) (t : Bool) (m z h w : ℕ) → m ≡ mode_of n t → 0x36 ∷ 0x04 ∷ m ∷ h ∷ [] ≡ header_bytes Psf1 t n z h w
 unfolding header_bytes
 header_mode n t m z h w e = rw e
+
+pub entry_small : (k : Kind) → entry_len k ≤ 18
+entry_small Psf1 = omega arith
+entry_small Psf2 = omega arith
+entry_small Vfont2 = omega arith
 
 pub psf2_parts : (t : Bool) (n z h w : ℕ) → magic_of Psf2 ++ fixed_fields t ++ fields n z h w ≡ header_bytes Psf2 t n z h w
 unfolding header_bytes

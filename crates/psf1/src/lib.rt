@@ -2,11 +2,11 @@
 #![tactic(auto)]
 
 ghost use Rattle.std.specs.Prelude.{◌≡◌, ◌≤◌, ◌<◌, length};
-ghost use Rattle.std.proofs.Common.{rules};
 ghost use Rattle.base.specs.Reading.{over};
 ghost use Rattle.header.specs.declared.Kind.TheVariants.{Psf1 as psf1};
 ghost use Rattle.header.specs.Meaning.{magic_of, header_len, entry_len, psf1_count, psf1_table};
 ghost use Rattle.header.specs.Reading.{mode_of, header_bytes, psf1_says};
+ghost use Rattle.header.proofs.Written.{entry_small};
 
 use header::{Font, Format, Kind};
 use refusal::{Reason, Refusal};
@@ -27,7 +27,7 @@ impl Format<2> for Psf1 {
 
     const ENTRY_LEN: usize = 0;
 
-    ghost small = { Prim.search rules };
+    ghost small = { entry_small psf1 };
 }
 
 impl Psf1 {

@@ -2,11 +2,10 @@
 #![tactic(auto)]
 
 ghost use Rattle.std.specs.Prelude.{◌≡◌, ◌≤◌, ◌<◌, refl};
-ghost use Rattle.std.proofs.Common.{rules};
 ghost use Rattle.header.specs.declared.Kind.TheVariants.{Psf2 as psf2};
 ghost use Rattle.header.specs.Meaning.{magic_of, header_len, entry_len};
 ghost use Rattle.header.specs.Reading.{psf2_shaped};
-ghost use Rattle.header.proofs.Written.{psf2_parts};
+ghost use Rattle.header.proofs.Written.{entry_small, psf2_parts};
 
 use header::{Fields, Font, Format, Kind, LongHeader};
 use refusal::{Reason, Refusal};
@@ -27,7 +26,7 @@ impl Format<4> for Psf2 {
 
     const ENTRY_LEN: usize = 0;
 
-    ghost small = { Prim.search rules };
+    ghost small = { entry_small psf2 };
 }
 
 impl LongHeader for Psf2 {

@@ -2,11 +2,10 @@
 #![tactic(auto)]
 
 ghost use Rattle.std.specs.Prelude.{◌≡◌, ◌≤◌, ◌<◌, refl};
-ghost use Rattle.std.proofs.Common.{rules};
 ghost use Rattle.header.specs.declared.Kind.TheVariants.{Vfont2 as vfont2};
 ghost use Rattle.header.specs.Meaning.{magic_of, header_len, entry_len};
 ghost use Rattle.header.specs.Reading.{vfont2_shaped};
-ghost use Rattle.header.proofs.Written.{vfont2_parts};
+ghost use Rattle.header.proofs.Written.{entry_small, vfont2_parts};
 
 use header::{Fields, Font, Format, Kind, LongHeader};
 use refusal::{Reason, Refusal};
@@ -27,7 +26,7 @@ impl Format<4> for Vfont2 {
     // the dispatch table: an entry of so many bytes for each glyph
     const ENTRY_LEN: usize = 18;
 
-    ghost small = { Prim.search rules };
+    ghost small = { entry_small vfont2 };
 }
 
 impl LongHeader for Vfont2 {
