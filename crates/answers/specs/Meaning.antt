@@ -105,15 +105,11 @@ number_answer n = record { refusal = no_refusal; number = n }
 abbrev pub refused_number : Refusal → LavNumber
 refused_number r = record { refusal = refusal_told r; number = 0 }
 
--- a pixel, 1 is drawn
-abbrev pub pixel_answer : Result ℕ Refusal → LavNumber
-pixel_answer (Ok b) = number_answer b
-pixel_answer (Err r) = refused_number r
-
--- the glyph found
-abbrev pub lookup_answer : Result ℕ Refusal → LavNumber
-lookup_answer (Ok g) = number_answer g
-lookup_answer (Err r) = refused_number r
+-- what a call that gives one number answers: a pixel (1 is drawn), the glyph that a lookup found, how many bytes a conversion wrote, how long a
+-- font is after an edit
+abbrev pub number_result : Result ℕ Refusal → LavNumber
+number_result (Ok n) = number_answer n
+number_result (Err r) = refused_number r
 
 -- LAV_SINGLE, LAV_START, LAV_VALUE_IN_SEQUENCE, LAV_END; a mark has the value 0
 abbrev pub item_answer : I.Item → LavItem
@@ -129,16 +125,6 @@ refused_item r = record { refusal = refusal_told r; kind = 0; value = 0 }
 abbrev pub walk_answer : Result Item Refusal → LavItem
 walk_answer (Ok i) = item_answer i
 walk_answer (Err r) = refused_item r
-
--- how many bytes a conversion wrote
-abbrev pub converted_answer : Result ℕ Refusal → LavNumber
-converted_answer (Ok n) = number_answer n
-converted_answer (Err r) = refused_number r
-
--- how long a font is after an edit
-abbrev pub edited_answer : Result ℕ Refusal → LavNumber
-edited_answer (Ok n) = number_answer n
-edited_answer (Err r) = refused_number r
 
 -- how many pairs of differences two fonts have; or the refusal, and whose it is
 abbrev pub compared_answer : Result ℕ Uncompared → LavDifferences

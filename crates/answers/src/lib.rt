@@ -1,8 +1,8 @@
-// Inner layer: each answer of the public calls as the struct that C reads. Definitions: specs/Meaning.antt.
+// Inner layer: each answer of the public calls as the struct that C reads, by `From`. Definitions: specs/Meaning.antt.
 #![tactic(auto)]
 
 ghost use Rattle.std.specs.Prelude.{◌≡◌};
-ghost use Rattle.answers.specs.Meaning.{no_refusal, glyph_told, refusal_told, reply_told, kind_number, flag_number, refused_font, font_answer, refused_part, part_answer, refused_metrics, metrics_answer, number_answer, refused_number, pixel_answer, lookup_answer, item_answer, refused_item, walk_answer, converted_answer, edited_answer, compared_answer};
+ghost use Rattle.answers.specs.Meaning.{no_refusal, glyph_told, refusal_told, reply_told, kind_number, font_answer, part_answer, metrics_answer, walk_answer, number_result, compared_answer};
 
 use bitmap::Part;
 use differences::Uncompared;
@@ -12,7 +12,7 @@ use refusal::Refusal;
 use table::Item;
 
 // A refusal as C reads it, the first field of every answer: document 01's number and place, both 0 where the call is answered; and the
-// glyph, 4,096 where there is none to name. Only `no_refusal` and `refusal_told` make one.
+// glyph, 4,096 where there is none to name. Only its default, which is no refusal, and `From<Refusal>` make one.
 #[repr(C)]
 #[derive(Clone, Copy)]
 pub struct LavRefusal {
@@ -23,7 +23,7 @@ pub struct LavRefusal {
 
 // What the check says of a sound font.
 #[repr(C)]
-#[derive(Clone, Copy)]
+#[derive(Clone, Copy, Default)]
 pub struct LavFont {
     pub refusal: LavRefusal,
     // 1 PSF1, 2 PSF2, 3 vfont2
@@ -54,7 +54,7 @@ pub struct LavPart {
 
 // A glyph's metrics.
 #[repr(C)]
-#[derive(Clone, Copy)]
+#[derive(Clone, Copy, Default)]
 pub struct LavMetrics {
     pub refusal: LavRefusal,
     pub up: i32,
@@ -92,13 +92,16 @@ pub struct LavDifferences {
     pub count: usize,
 }
 
-pub fn no_refusal() -> LavRefusal
-    ensures { result ≡ no_refusal }
-{
-    LavRefusal {
-        number: 0,
-        glyph: 4096,
-        place: 0,
+// No refusal: the call is answered.
+impl Default for LavRefusal {
+    ghost is_default = { λ r. r ≡ no_refusal };
+
+    fn default() -> LavRefusal {
+        LavRefusal {
+            number: 0,
+            glyph: 4096,
+            place: 0,
+        }
     }
 }
 
@@ -107,34 +110,38 @@ fn glyph_told(glyph: usize) -> u32
     ensures { result ≡ glyph_told glyph }
 {
     if glyph < refusal::NO_GLYPH {
-        return glyph as u32;
+        glyph as u32
+    } else {
+        4096
     }
-    4096
 }
 
-pub fn refusal_told(r: Refusal) -> LavRefusal
-    ensures { result ≡ refusal_told r }
-{
-    let reason = r.reason;
-    let number = refusal::number(reason);
-    LavRefusal {
-        number: number,
-        glyph: glyph_told(r.glyph),
-        place: r.place as u64,
+impl From<Refusal> for LavRefusal {
+    ghost from_gives = { λ r y. y ≡ refusal_told r };
+
+    fn from(r: Refusal) -> LavRefusal {
+        LavRefusal {
+            number: refusal::number(r.reason),
+            glyph: glyph_told(r.glyph),
+            place: r.place as u64,
+        }
     }
 }
 
 // What feeding a loader answers: a refusal alone.
-pub fn reply_told(a: Result<(), Refusal>) -> LavRefusal
-    ensures { result ≡ reply_told a }
-{
-    match a {
-        Ok(()) => no_refusal(),
-        Err(r) => refusal_told(r),
+impl From<Result<(), Refusal>> for LavRefusal {
+    ghost from_gives = { λ a y. y ≡ reply_told a };
+
+    fn from(a: Result<(), Refusal>) -> LavRefusal {
+        match a {
+            Ok(()) => LavRefusal::default(),
+            Err(r) => r.into(),
+        }
     }
 }
 
-pub fn kind_number(k: Kind) -> u32
+// A kind's number in C. The new form is no plainer: neither type is this crate's, so `From<Kind> for u32` can't stand here, and `k as u32 + 1` names no kind.
+fn kind_number(k: Kind) -> u32
     ensures { result ≡ kind_number k }
 {
     match k {
@@ -144,230 +151,157 @@ pub fn kind_number(k: Kind) -> u32
     }
 }
 
-pub fn flag_number(b: bool) -> usize
-    ensures { result ≡ flag_number b }
-{
-    if b {
-        return 1;
-    }
-    0
-}
+impl From<Result<Font, Refusal>> for LavFont {
+    ghost from_gives = { λ a y. y ≡ font_answer a };
 
-pub fn refused_font(r: Refusal) -> LavFont
-    ensures { result ≡ refused_font r }
-{
-    LavFont {
-        refusal: refusal_told(r),
-        kind: 0,
-        count: 0,
-        height: 0,
-        width: 0,
-        table: 0,
-        entries: 0,
-        bitmaps: 0,
-        size: 0,
-        end: 0,
-    }
-}
-
-pub fn font_answer(a: Result<Font, Refusal>) -> LavFont
-    ensures { result ≡ font_answer a }
-{
-    match a {
-        Ok(f) => {
-            let k = f.kind;
-            LavFont {
-                refusal: no_refusal(),
-                kind: kind_number(k),
+    fn from(a: Result<Font, Refusal>) -> LavFont {
+        match a {
+            Ok(f) => LavFont {
+                refusal: LavRefusal::default(),
+                kind: kind_number(f.kind),
                 count: f.count,
                 height: f.height,
                 width: f.width,
-                table: flag_number(f.table),
+                table: usize::from(f.table),
                 entries: f.entries,
                 bitmaps: f.bitmaps,
                 size: f.size,
                 end: f.end,
-            }
+            },
+            Err(r) => LavFont {
+                refusal: r.into(),
+                ..LavFont::default()
+            },
         }
-        Err(r) => refused_font(r),
     }
 }
 
-pub fn refused_part(r: Refusal) -> LavPart
-    ensures { result ≡ refused_part r }
-{
-    LavPart {
-        refusal: refusal_told(r),
-        offset: 0,
-        length: 0,
+impl From<Result<Part, Refusal>> for LavPart {
+    ghost from_gives = { λ a y. y ≡ part_answer a };
+
+    fn from(a: Result<Part, Refusal>) -> LavPart {
+        match a {
+            Ok(p) => LavPart {
+                refusal: LavRefusal::default(),
+                offset: p.start,
+                length: p.len,
+            },
+            Err(r) => LavPart {
+                refusal: r.into(),
+                offset: 0,
+                length: 0,
+            },
+        }
     }
 }
 
-pub fn part_answer(p: Result<Part, Refusal>) -> LavPart
-    ensures { result ≡ part_answer p }
-{
-    match p {
-        Ok(part) => LavPart {
-            refusal: no_refusal(),
-            offset: part.start,
-            length: part.len,
-        },
-        Err(r) => refused_part(r),
+impl From<Result<Metrics, Refusal>> for LavMetrics {
+    ghost from_gives = { λ a y. y ≡ metrics_answer a };
+
+    fn from(a: Result<Metrics, Refusal>) -> LavMetrics {
+        match a {
+            Ok(m) => LavMetrics {
+                refusal: LavRefusal::default(),
+                up: m.up,
+                down: m.down,
+                left: m.left,
+                right: m.right,
+                logical: m.logical,
+            },
+            Err(r) => LavMetrics {
+                refusal: r.into(),
+                ..LavMetrics::default()
+            },
+        }
     }
 }
 
-pub fn number_answer(n: usize) -> LavNumber
-    ensures { result ≡ number_answer n }
-{
-    LavNumber {
-        refusal: no_refusal(),
-        number: n,
+impl From<Result<Item, Refusal>> for LavItem {
+    ghost from_gives = { λ a y. y ≡ walk_answer a };
+
+    fn from(a: Result<Item, Refusal>) -> LavItem {
+        match a {
+            Ok(Item::Single(v)) => LavItem {
+                refusal: LavRefusal::default(),
+                kind: 1,
+                value: v,
+            },
+            Ok(Item::Start) => LavItem {
+                refusal: LavRefusal::default(),
+                kind: 2,
+                value: 0,
+            },
+            Ok(Item::Value(v)) => LavItem {
+                refusal: LavRefusal::default(),
+                kind: 3,
+                value: v,
+            },
+            Ok(Item::End) => LavItem {
+                refusal: LavRefusal::default(),
+                kind: 4,
+                value: 0,
+            },
+            Err(r) => LavItem {
+                refusal: r.into(),
+                kind: 0,
+                value: 0,
+            },
+        }
     }
 }
 
-pub fn refused_number(r: Refusal) -> LavNumber
-    ensures { result ≡ refused_number r }
-{
-    LavNumber {
-        refusal: refusal_told(r),
-        number: 0,
+// A glyph that is found, a length that a conversion wrote or that a font has after an edit.
+impl From<Result<usize, Refusal>> for LavNumber {
+    ghost from_gives = { λ a y. y ≡ number_result a };
+
+    fn from(a: Result<usize, Refusal>) -> LavNumber {
+        match a {
+            Ok(n) => LavNumber {
+                refusal: LavRefusal::default(),
+                number: n,
+            },
+            Err(r) => LavNumber {
+                refusal: r.into(),
+                number: 0,
+            },
+        }
     }
 }
 
-pub fn pixel_answer(p: Result<u8, Refusal>) -> LavNumber
-    ensures { result ≡ pixel_answer p }
-{
-    match p {
-        Ok(b) => number_answer(base::size(base::wide(b))),
-        Err(r) => refused_number(r),
+// A pixel.
+impl From<Result<u8, Refusal>> for LavNumber {
+    ghost from_gives = { λ a y. y ≡ number_result a };
+
+    fn from(a: Result<u8, Refusal>) -> LavNumber {
+        a.map(usize::from).into()
     }
 }
 
-pub fn lookup_answer(l: Result<usize, Refusal>) -> LavNumber
-    ensures { result ≡ lookup_answer l }
-{
-    match l {
-        Ok(g) => number_answer(g),
-        Err(r) => refused_number(r),
-    }
-}
+impl From<Result<usize, Uncompared>> for LavDifferences {
+    ghost from_gives = { λ a y. y ≡ compared_answer a };
 
-pub fn refused_metrics(r: Refusal) -> LavMetrics
-    ensures { result ≡ refused_metrics r }
-{
-    LavMetrics {
-        refusal: refusal_told(r),
-        up: 0,
-        down: 0,
-        left: 0,
-        right: 0,
-        logical: 0,
-    }
-}
-
-pub fn metrics_answer(m: Result<Metrics, Refusal>) -> LavMetrics
-    ensures { result ≡ metrics_answer m }
-{
-    match m {
-        Ok(x) => LavMetrics {
-            refusal: no_refusal(),
-            up: x.up,
-            down: x.down,
-            left: x.left,
-            right: x.right,
-            logical: x.logical,
-        },
-        Err(r) => refused_metrics(r),
-    }
-}
-
-pub fn item_answer(i: Item) -> LavItem
-    ensures { result ≡ item_answer i }
-{
-    match i {
-        Item::Single(v) => LavItem {
-            refusal: no_refusal(),
-            kind: 1,
-            value: v,
-        },
-        Item::Start => LavItem {
-            refusal: no_refusal(),
-            kind: 2,
-            value: 0,
-        },
-        Item::Value(v) => LavItem {
-            refusal: no_refusal(),
-            kind: 3,
-            value: v,
-        },
-        Item::End => LavItem {
-            refusal: no_refusal(),
-            kind: 4,
-            value: 0,
-        },
-    }
-}
-
-pub fn refused_item(r: Refusal) -> LavItem
-    ensures { result ≡ refused_item r }
-{
-    LavItem {
-        refusal: refusal_told(r),
-        kind: 0,
-        value: 0,
-    }
-}
-
-pub fn walk_answer(w: Result<Item, Refusal>) -> LavItem
-    ensures { result ≡ walk_answer w }
-{
-    match w {
-        Ok(i) => item_answer(i),
-        Err(r) => refused_item(r),
-    }
-}
-
-pub fn converted_answer(c: Result<usize, Refusal>) -> LavNumber
-    ensures { result ≡ converted_answer c }
-{
-    match c {
-        Ok(n) => number_answer(n),
-        Err(r) => refused_number(r),
-    }
-}
-
-pub fn edited_answer(e: Result<usize, Refusal>) -> LavNumber
-    ensures { result ≡ edited_answer e }
-{
-    match e {
-        Ok(n) => number_answer(n),
-        Err(r) => refused_number(r),
-    }
-}
-
-pub fn compared_answer(c: Result<usize, Uncompared>) -> LavDifferences
-    ensures { result ≡ compared_answer c }
-{
-    match c {
-        Ok(n) => LavDifferences {
-            refusal: no_refusal(),
-            font: 0,
-            count: n,
-        },
-        Err(Uncompared::First(r)) => LavDifferences {
-            refusal: refusal_told(r),
-            font: 1,
-            count: 0,
-        },
-        Err(Uncompared::Second(r)) => LavDifferences {
-            refusal: refusal_told(r),
-            font: 2,
-            count: 0,
-        },
-        Err(Uncompared::Neither(r)) => LavDifferences {
-            refusal: refusal_told(r),
-            font: 0,
-            count: 0,
-        },
+    fn from(a: Result<usize, Uncompared>) -> LavDifferences {
+        match a {
+            Ok(n) => LavDifferences {
+                refusal: LavRefusal::default(),
+                font: 0,
+                count: n,
+            },
+            Err(Uncompared::First(r)) => LavDifferences {
+                refusal: r.into(),
+                font: 1,
+                count: 0,
+            },
+            Err(Uncompared::Second(r)) => LavDifferences {
+                refusal: r.into(),
+                font: 2,
+                count: 0,
+            },
+            Err(Uncompared::Neither(r)) => LavDifferences {
+                refusal: r.into(),
+                font: 0,
+                count: 0,
+            },
+        }
     }
 }

@@ -11,7 +11,7 @@ ghost use Rattle.convert.specs.Reading.{converted_of, converted_into};
 ghost use Rattle.edit.specs.Reading.{add_answer, add_into, drop_answer, drop_into};
 ghost use Rattle.differences.specs.Reading.{compare_answer, compare_into};
 ghost use Rattle.loader.specs.Reading.{fresh_of, fed_of, feed_answer, closed_of, close_answer};
-ghost use Rattle.answers.specs.Meaning.{reply_told, font_answer, part_answer, metrics_answer, pixel_answer, lookup_answer, walk_answer, converted_answer, edited_answer, compared_answer};
+ghost use Rattle.answers.specs.Meaning.{reply_told, font_answer, part_answer, metrics_answer, walk_answer, number_result, compared_answer};
 
 use answers::{LavDifferences, LavFont, LavItem, LavMetrics, LavNumber, LavPart, LavRefusal};
 use loader::Loader;
@@ -21,8 +21,7 @@ use loader::Loader;
 pub extern "C" fn lav_check(file: &[u8]) -> LavFont
     ensures { result ≡ font_answer (check_of file.now) }
 {
-    let a = fonts::check(file);
-    answers::font_answer(a)
+    fonts::check(file).into()
 }
 
 // Offset and length of glyph g's bytes: a part of the file, of length 0 at 0 where refused.
@@ -32,8 +31,7 @@ pub extern "C" fn lav_glyph(file: &[u8], g: usize) -> LavPart
     ensures equal { result ≡ part_answer (glyph_part_of file.now g) }
     ensures inside { result.offset + result.length ≤ length file.now }
 {
-    let p = fonts::glyph_part(file, g);
-    answers::part_answer(p)
+    fonts::glyph_part(file, g).into()
 }
 
 // Offset and length of row y of glyph g: a part of the file, of length 0 at 0 where refused.
@@ -43,18 +41,16 @@ pub extern "C" fn lav_row(file: &[u8], g: usize, y: usize) -> LavPart
     ensures equal { result ≡ part_answer (row_part_of file.now g y) }
     ensures inside { result.offset + result.length ≤ length file.now }
 {
-    let p = fonts::row_part(file, g, y);
-    answers::part_answer(p)
+    fonts::row_part(file, g, y).into()
 }
 
 // The pixel of row y and column x of glyph g, 1 is drawn.
 // Refusals: the font's own (1 to 12), ASK for the glyph, NO GLYPH, ASK for row and column.
 #[unsafe(no_mangle)]
 pub extern "C" fn lav_pixel(file: &[u8], g: usize, y: usize, x: usize) -> LavNumber
-    ensures { result ≡ pixel_answer (pixel_at file.now g y x) }
+    ensures { result ≡ number_result (pixel_at file.now g y x) }
 {
-    let p = fonts::pixel(file, g, y, x);
-    answers::pixel_answer(p)
+    fonts::pixel(file, g, y, x).into()
 }
 
 // The metrics of glyph g: up, down, left, right and logical width. Refusals: the font's own (1 to 12), ASK, NO GLYPH.
@@ -62,8 +58,7 @@ pub extern "C" fn lav_pixel(file: &[u8], g: usize, y: usize, x: usize) -> LavNum
 pub extern "C" fn lav_metrics(file: &[u8], g: usize) -> LavMetrics
     ensures { result ≡ metrics_answer (glyph_metrics_of file.now g) }
 {
-    let m = fonts::metrics(file, g);
-    answers::metrics_answer(m)
+    fonts::metrics(file, g).into()
 }
 
 // Item k of glyph g's description, counted from 0. Refusals: the font's own (1 to 12), NO TABLE, ASK.
@@ -71,72 +66,65 @@ pub extern "C" fn lav_metrics(file: &[u8], g: usize) -> LavMetrics
 pub extern "C" fn lav_item(file: &[u8], g: usize, k: usize) -> LavItem
     ensures { result ≡ walk_answer (item_of file.now g k) }
 {
-    let w = fonts::item(file, g, k);
-    answers::walk_answer(w)
+    fonts::item(file, g, k).into()
 }
 
 // The lowest glyph that lists the value v as a single.
 // Refusals: the font's own (1 to 12), NO TABLE, ASK for a value above 10FFFF, UNMAPPED.
 #[unsafe(no_mangle)]
 pub extern "C" fn lav_find_value(file: &[u8], v: u32) -> LavNumber
-    ensures { result ≡ lookup_answer (value_glyph file.now v) }
+    ensures { result ≡ number_result (value_glyph file.now v) }
 {
-    let l = fonts::find_value(file, v);
-    answers::lookup_answer(l)
+    fonts::find_value(file, v).into()
 }
 
 // The lowest glyph that lists the sequence vs.
 // Refusals: the font's own (1 to 12), NO TABLE, ASK for an empty sequence or a value above 10FFFF, UNMAPPED.
 #[unsafe(no_mangle)]
 pub extern "C" fn lav_find_sequence(file: &[u8], vs: &[u32]) -> LavNumber
-    ensures { result ≡ lookup_answer (sequence_glyph file.now vs.now) }
+    ensures { result ≡ number_result (sequence_glyph file.now vs.now) }
 {
-    let l = fonts::find_sequence(file, vs);
-    answers::lookup_answer(l)
+    fonts::find_sequence(file, vs).into()
 }
 
 // PSF1 to PSF2 at the front of out: the number of bytes written. A refused call leaves out as it was.
 // Refusals: the font's own (1 to 12), WRONG KIND, VALUE, SIZE, ROOM.
 #[unsafe(no_mangle)]
 pub extern "C" fn lav_psf1_to_psf2(file: &[u8], out: &mut [u8]) -> LavNumber
-    ensures answer { result ≡ converted_answer (converted_of Psf1ToPsf2 file.now (length out.old)) }
+    ensures answer { result ≡ number_result (converted_of Psf1ToPsf2 file.now (length out.old)) }
     ensures buffer { out.new ≡ converted_into Psf1ToPsf2 file.now out.old }
 {
-    let c = fonts::psf1_to_psf2(file, out);
-    answers::converted_answer(c)
+    fonts::psf1_to_psf2(file, out).into()
 }
 
 // PSF2 to PSF1 at the front of out: the number of bytes written. A refused call leaves out as it was.
 // Refusals: the font's own (1 to 12), WRONG KIND, GLYPHS, VALUE, SIZE, ROOM.
 #[unsafe(no_mangle)]
 pub extern "C" fn lav_psf2_to_psf1(file: &[u8], out: &mut [u8]) -> LavNumber
-    ensures answer { result ≡ converted_answer (converted_of Psf2ToPsf1 file.now (length out.old)) }
+    ensures answer { result ≡ number_result (converted_of Psf2ToPsf1 file.now (length out.old)) }
     ensures buffer { out.new ≡ converted_into Psf2ToPsf1 file.now out.old }
 {
-    let c = fonts::psf2_to_psf1(file, out);
-    answers::converted_answer(c)
+    fonts::psf2_to_psf1(file, out).into()
 }
 
 // PSF2 to vfont2 at the front of out: the number of bytes written. A refused call leaves out as it was.
 // Refusals: the font's own (1 to 12), WRONG KIND, SIZE, ROOM.
 #[unsafe(no_mangle)]
 pub extern "C" fn lav_psf2_to_vfont2(file: &[u8], out: &mut [u8]) -> LavNumber
-    ensures answer { result ≡ converted_answer (converted_of Psf2ToVfont2 file.now (length out.old)) }
+    ensures answer { result ≡ number_result (converted_of Psf2ToVfont2 file.now (length out.old)) }
     ensures buffer { out.new ≡ converted_into Psf2ToVfont2 file.now out.old }
 {
-    let c = fonts::psf2_to_vfont2(file, out);
-    answers::converted_answer(c)
+    fonts::psf2_to_vfont2(file, out).into()
 }
 
 // vfont2 to PSF2 at the front of out: the number of bytes written. A refused call leaves out as it was.
 // Refusals: the font's own (1 to 12), WRONG KIND, GLYPHS, SIZE, ROOM.
 #[unsafe(no_mangle)]
 pub extern "C" fn lav_vfont2_to_psf2(file: &[u8], out: &mut [u8]) -> LavNumber
-    ensures answer { result ≡ converted_answer (converted_of Vfont2ToPsf2 file.now (length out.old)) }
+    ensures answer { result ≡ number_result (converted_of Vfont2ToPsf2 file.now (length out.old)) }
     ensures buffer { out.new ≡ converted_into Vfont2ToPsf2 file.now out.old }
 {
-    let c = fonts::vfont2_to_psf2(file, out);
-    answers::converted_answer(c)
+    fonts::vfont2_to_psf2(file, out).into()
 }
 
 // Adds the value v to glyph g of the PSF2 font in the first len bytes of buf, as its last single: the font's new length. A refused call leaves
@@ -145,11 +133,10 @@ pub extern "C" fn lav_vfont2_to_psf2(file: &[u8], out: &mut [u8]) -> LavNumber
 // surrogate or a noncharacter, HAVE, SIZE, ROOM.
 #[unsafe(no_mangle)]
 pub extern "C" fn lav_add_mapping(buf: &mut [u8], len: usize, g: usize, v: u32) -> LavNumber
-    ensures answer { result ≡ edited_answer (add_answer buf.old len g v) }
+    ensures answer { result ≡ number_result (add_answer buf.old len g v) }
     ensures buffer { buf.new ≡ add_into buf.old len g v }
 {
-    let e = edit::add_mapping(buf, len, g, v);
-    answers::edited_answer(e)
+    edit::add_mapping(buf, len, g, v).into()
 }
 
 // Drops the first listing of v as a single of glyph g of the PSF2 font in the first len bytes of buf: the font's new length, and the bytes
@@ -158,11 +145,10 @@ pub extern "C" fn lav_add_mapping(buf: &mut [u8], len: usize, g: usize, v: u32) 
 // surrogate, NOT THERE, as for any noncharacter.
 #[unsafe(no_mangle)]
 pub extern "C" fn lav_drop_mapping(buf: &mut [u8], len: usize, g: usize, v: u32) -> LavNumber
-    ensures answer { result ≡ edited_answer (drop_answer buf.old len g v) }
+    ensures answer { result ≡ number_result (drop_answer buf.old len g v) }
     ensures buffer { buf.new ≡ drop_into buf.old len g v }
 {
-    let e = edit::drop_mapping(buf, len, g, v);
-    answers::edited_answer(e)
+    edit::drop_mapping(buf, len, g, v).into()
 }
 
 // The differences of two fonts at the front of out, as pairs of kind and glyph: how many pairs. (6, 0) first where just one font has a table, and
@@ -174,8 +160,7 @@ pub extern "C" fn lav_differences(first: &[u8], second: &[u8], out: &mut [u32]) 
     ensures answer { result ≡ compared_answer (compare_answer first.now second.now (length out.old)) }
     ensures buffer { out.new ≡ compare_into first.now second.now out.old }
 {
-    let c = differences::compare(first, second, out);
-    answers::compared_answer(c)
+    differences::compare(first, second, out).into()
 }
 
 // A loader that has been fed nothing: the caller keeps the record, and lends it to the two calls below. Of a record that no call has made,
@@ -191,16 +176,14 @@ pub extern "C" fn lav_loader_fresh() -> Loader
 fn fed_told(l: Loader) -> LavRefusal
     ensures { result ≡ reply_told (feed_answer l) }
 {
-    let a = loader::fed_answer(l);
-    answers::reply_told(a)
+    loader::fed_answer(l).into()
 }
 
 // What closing a record answers.
 fn closed_told(l: Loader) -> LavFont
     ensures { result ≡ font_answer (close_answer l) }
 {
-    let a = loader::closed_answer(l);
-    answers::font_answer(a)
+    loader::closed_answer(l).into()
 }
 
 // Feeds a piece to a loader: the record as fed, and no refusal. Refusals: LATE for one that is closed, and the record stays as it was.

@@ -1,2 +1,0 @@
--- Laws on the answers as C reads them.
-pub mod Inside
