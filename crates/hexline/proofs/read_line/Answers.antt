@@ -1,18 +1,18 @@
 -- `hexline::read_line` meets its contract: at each turn what is left of the line is read behind the bytes so far. Assumes nothing.
 use native.Mathlib.Omega.{arith}
-use mathlib.Core.Path.{refl, sym, ◌∙◌}
+use mathlib.Core.Path.{sym, ◌∙◌}
 use lib.ListN.{length-set}
-use Rattle.hexline.proofs.Steps.{goes_on, alone, ended, not_long, bad_bounded}
+use Rattle.hexline.proofs.Steps.{fewer, goes_on, no_byte}
 use Rattle.hexline.proofs.read_line.Goals as goal
 
-pub loop-at-init : goal.loop-at-init
-loop-at-init c = (omega arith, omega arith, omega arith, refl, sym (not_long c.args.line.now (omega arith)))
+pub returns-in_err-bytes-clause-equal : goal.returns-in_err-bytes-clause-equal
+returns-in_err-bytes-clause-equal c =
+    let s = c.in-Some.ensures.steps in
+    c.from_residual.ensures ∙ sym (no_byte _ _ _ _ _ s.0.1.0 (s.0.1.1 ∙ c.loop-k.invariant.0) (sym c.pair_value.ensures ∙ c.in_err-bytes.was)) ∙ c.loop-k.invariant.3
 
-pub returns-then-line-at : goal.returns-then-line-at
-returns-then-line-at c = record { equal = c.bad-then-line-at.ensures ∙ sym (alone c.args.line.now c.loop-at.at c.loop-at.k c.loop-at.bytes (omega arith) (omega arith)) ∙ c.loop-at.invariant.4; bounded = bad_bounded _ c.bad-then-line-at.ensures }
-
-pub loop-at-preserved : goal.loop-at-preserved
-loop-at-preserved c = (omega arith, omega arith, omega arith, simp length-set c.loop-at.invariant.3, sym (goes_on c.args.line.now c.loop-at.at c.loop-at.k c.loop-at.bytes _ (omega arith) c.pair_value-v.ensures (omega arith)) ∙ c.loop-at.invariant.4)
-
-pub returns : goal.returns
-returns c = record { equal = sym (ended c.args.line.now c.loop-at.at c.loop-at.k c.loop-at.bytes (omega arith)) ∙ c.loop-at.invariant.4; bounded = (omega arith, c.loop-at.invariant.3) }
+pub loop-k-preserved : goal.loop-k-preserved
+loop-k-preserved c =
+    let s = c.in-Some.ensures.steps in
+    let two = s.0.1.1 ∙ c.loop-k.invariant.0 in
+    let n = fewer _ _ _ s.0.1.0 two in
+    (s.0.0 ∙ c.loop-k.invariant.0, omega (arith, n, s.2), simp length-set c.loop-k.invariant.2, sym (goes_on _ _ _ _ _ s.0.1.0 two _ _ _ s.1 s.2 (sym c.pair_value.ensures ∙ c.in_ok-bytes.was)) ∙ c.loop-k.invariant.3)

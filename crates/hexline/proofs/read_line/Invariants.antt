@@ -1,11 +1,13 @@
 use mathlib.Core.Path.{◌≡◌}
-use Prim.Native.Nat.{◌≤◌, ◌-◌, ◌+◌}
-use lib.ListN.{length, drop}
+use Prim.Native.Nat.{◌+◌}
+use lib.ListN.{length}
+use Rattle.std.specs.Slice.Iter.{chunks_exact_rest, chunks_exact_size}
+use Rattle.std.specs.Iterator.Adapters.{enumerate_source, enumerate_count}
 use Rattle.hexline.specs.Reading.{bytes_from, frame_of}
 use Rattle.hexline.proofs.read_line.Given as goal
 
-abbrev pub invariant-loop-at : goal.invariant-loop-at
-invariant-loop-at l = (l.at ≡ l.k + l.k) × (l.at ≤ length l.line) × (length l.line ≤ 128) × (length l.bytes ≡ 64) × (bytes_from l.k l.bytes (drop l.at l.line) ≡ frame_of l.line)
-
-abbrev pub decreases-loop-at : goal.decreases-loop-at
-decreases-loop-at l = length l.line - l.at
+abbrev pub invariant-loop-k : goal.invariant-loop-k
+invariant-loop-k l =
+    let k = enumerate_count l.k-iterator in
+    let rest = chunks_exact_rest (enumerate_source l.k-iterator) in
+    (chunks_exact_size (enumerate_source l.k-iterator) ≡ 2) × (k + k + length rest ≡ length l.line) × (length l.bytes ≡ 64) × (bytes_from k l.bytes rest ≡ frame_of l.line)
