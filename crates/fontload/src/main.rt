@@ -10,7 +10,7 @@ use std::io::{self, Read};
 
 // Reads until buf is full or the input ends, and returns how many bytes it put at the start of buf. A read that a signal interrupts counts
 // as one that failed.
-fn read_full(reader: &mut impl Result<(u32, usize), Malformed>, buf: &mut [u8]) -> io::Result<usize>
+fn read_full(reader: &mut impl Read, buf: &mut [u8]) -> io::Result<usize>
     ensures { IfOk result (λ n. n ≤ length buf.new) }
 {
     let mut done = 0;
@@ -25,16 +25,13 @@ fn read_full(reader: &mut impl Result<(u32, usize), Malformed>, buf: &mut [u8]) 
 }
 
 // The input, fed chunk by chunk.
-fn input(reader: &mut impl Result<(u32, usize), Malformed>) -> io::Result<Frames> {
+fn input(reader: &mut impl Read) -> io::Result<Frames> {
     let mut buf = [0u8; 4096];
     let mut state = frames::fresh();
     for _ in 0..1025 {
         let n = read_full(reader, &mut buf)?;
         state = frames::fed(state, &buf[..n]);
-        if n < 4096 {
-            return Ok(state);
-        }
-        if 0 < state.bad {
+        if n < 4096 || state.bad.is_some() {
             return Ok(state);
         }
     }
@@ -43,7 +40,5 @@ fn input(reader: &mut impl Result<(u32, usize), Malformed>) -> io::Result<Frames
 
 fn main(rt: HostRuntime) -> io::Result<()> {
     let answer = frames::written(frames::close(input(&mut rt.stdin())?));
-    let n = answer.len;
-    let bytes = answer.bytes;
-    rt.write_all(&bytes[..n])
+    rt.write_all(&answer.bytes[..answer.len])
 }
