@@ -15,7 +15,7 @@ fn frames_of(reader: &mut impl Read) -> io::Result<Frames> {
     for _ in 0..1025 {
         let n = input::read_full(reader, &mut buf)?;
         state = frames::fed(state, &buf[..n]);
-        if n < CHUNK || 0 < state.bad {
+        if n < CHUNK || state.bad.is_some() {
             break;
         }
     }

@@ -10,7 +10,7 @@ use lib.Seq.{take-suc-set}
 use borrow.Author.Tests.{lt-ltb, le-ltb}
 use Rattle.base.specs.Reading.{when}
 use Rattle.base.proofs.Tests.{below}
-use Rattle.hexline.specs.Meaning.{bad_frame}
+use Rattle.std.specs.Prelude.{None}
 use Rattle.hexline.specs.Reading.{frame_of}
 use Rattle.hexline.proofs.Steps.{too_long}
 use Rattle.frames.specs.declared.Frames.{Frames}
@@ -24,7 +24,7 @@ pub nothing_held : (line : List ℕ) → length line ≡ 128 → Holds line 0 []
 nothing_held line h = (h, inl (omega arith, refl, refl))
 
 -- what is read of it
-pub held_long : (line : List ℕ) (len : ℕ) → 128 < len → held_frame line len ≡ bad_frame
+pub held_long : (line : List ℕ) (len : ℕ) → 128 < len → held_frame line len ≡ None
 unfolding held_frame when
 held_long line len h = rw (lt-ltb 128 len h)
 
@@ -42,7 +42,7 @@ pub with_short : (f : Frames) (b : ℕ) → f.len < 128 → with_of f b ≡ reco
 unfolding with_of when
 with_short f b h = rw (lt-ltb f.len 128 h)
 
-with_long : (f : Frames) (b : ℕ) → 128 ≤ f.len → with_of f b ≡ record { loader = f.loader; line = f.line; len = 129; ended = f.ended; bad = f.bad; taken = f.taken }
+pub with_long : (f : Frames) (b : ℕ) → 128 ≤ f.len → with_of f b ≡ record { loader = f.loader; line = f.line; len = 129; ended = f.ended; bad = f.bad; taken = f.taken }
 unfolding with_of when
 with_long f b h = rw (le-ltb f.len 128 h)
 

@@ -6,14 +6,12 @@ use mathlib.Core.List.{List, [], ◌∷◌, ◌++◌}
 use Prim.Native.Nat.{ℕ, zero, suc, ◌+◌, ◌≤◌, ◌<◌}
 use native.Mathlib.Omega.{arith}
 use lib.ListN.{length, take, replicate, length-replicate}
-use borrow.Author.Tests.{le-ltb}
 use Rattle.base.specs.Meaning.{pick}
-use Rattle.base.specs.Reading.{when}
 use Rattle.base.proofs.Tests.{same}
 use Rattle.refusal.specs.declared.Reason.TheVariants.{Line}
 use Rattle.refusal.specs.Meaning.{refusal}
 use Rattle.hexline.specs.declared.Frame.{Frame}
-use Rattle.hexline.specs.Meaning.{NoFrame, good_frame, bad_frame}
+use Rattle.hexline.specs.Meaning.{NoFrame, good_frame}
 use Rattle.hexline.specs.Reading.{frame_of}
 use Rattle.hexline.proofs.Meaning.{Read, decided, frame_read, bad_read, front}
 use Rattle.loader.specs.declared.Loader.{Loader}
@@ -22,11 +20,12 @@ use Rattle.frames.specs.declared.Frames.{Frames}
 use Rattle.loader.specs.Meaning.{fed_all}
 use Rattle.frames.specs.Meaning.{limit, AreFrames}
 use Rattle.frames.specs.Reading.{counted_of, fresh_of, ended_of, with_of, took_of, byte_of, fed_of, answered_of, last_of, closed_of}
-use Rattle.frames.proofs.Feeding.{counted_more, byte_full, byte_newline, byte_char, last_bad, closed_last, bad_answered, full_answered}
+use Rattle.frames.proofs.Feeding.{counted_more, byte_full, byte_newline, byte_char, last_bad, last_good, closed_last, bad_answered, full_answered}
 use Rattle.frames.proofs.Held.{Holds, nothing_held, held_read, Longer, longer}
 use Rattle.frames.proofs.Ended.{fed_line, bad_line, good_ended, bad_ended}
 use Rattle.frames.proofs.Lines.{lines_in, more_than, newline, char}
-use Rattle.std.specs.Prelude.{Result, Err}
+use Rattle.std.specs.Prelude.{Option, None, is_some, IsNone, Result, Err}
+use Rattle.std.specs.Option.{option_map_or}
 use Rattle.frames.specs.declared.Failure.{Failure}
 use Rattle.frames.specs.declared.Failure.TheVariants.{Refused, TooBig}
 
@@ -34,55 +33,51 @@ use Rattle.frames.specs.declared.Failure.TheVariants.{Refused, TooBig}
 abbrev pub judge : ℕ → Loader → Bool → List (List ℕ) → Result (Unit {0}) Failure
 judge n l big [] = pick big (Err TooBig) (answered_of (close_answer l))
 judge n l big (x ∷ xs) =
-    pick (frame_of x).good (judge (n + 1) (pieceFed l (take (frame_of x).len (frame_of x).bytes)) big xs) (Err (Refused (refusal Line (n + 1))))
+    option_map_or (λ g. judge (n + 1) (pieceFed l (take g.len g.bytes)) big xs) (frame_of x) (Err (Refused (refusal Line (n + 1))))
 
 module _ (n : ℕ) (l : Loader) (big : Bool) (x : List ℕ) (xs : List (List ℕ)) where
   pub judge_good : (bs : List ℕ) → frame_of x ≡ good_frame bs → judge n l big (x ∷ xs) ≡ judge (n + 1) (pieceFed l bs) big xs
   judge_good bs e =
-      ap (λ (g : Frame). pick g.good (judge (n + 1) (pieceFed l (take g.len g.bytes)) big xs) (Err (Refused (refusal Line (n + 1))))) e
+      ap (λ (o : Option Frame). option_map_or (λ g. judge (n + 1) (pieceFed l (take g.len g.bytes)) big xs) o (Err (Refused (refusal Line (n + 1))))) e
       ∙ ap (λ (z : List ℕ). judge (n + 1) (pieceFed l z) big xs) (front bs)
 
-  pub judge_bad : frame_of x ≡ bad_frame → judge n l big (x ∷ xs) ≡ Err (Refused (refusal Line (n + 1)))
+  pub judge_bad : frame_of x ≡ None → judge n l big (x ∷ xs) ≡ Err (Refused (refusal Line (n + 1)))
   judge_bad e =
-      ap (λ (g : Frame). pick g.good (judge (n + 1) (pieceFed l (take g.len g.bytes)) big xs) (Err (Refused (refusal Line (n + 1))))) e
+      ap (λ (o : Option Frame). option_map_or (λ g. judge (n + 1) (pieceFed l (take g.len g.bytes)) big xs) o (Err (Refused (refusal Line (n + 1))))) e
 
 -- a state before a line is bad: p is held, and k bytes are left to the limit
 pub record Fine (f : Frames) (p : List ℕ) (k : ℕ) : Type 0 where
-  pub none_bad : f.bad ≤ 0
+  pub none_bad : IsNone f.bad
   pub room : f.taken + k ≡ 4194304
   pub few : f.ended ≤ f.taken
   pub held : Holds f.line f.len p
 
 pub fresh_fine : Fine fresh_of [] limit
 unfolding fresh_of
-fresh_fine = record { none_bad = omega arith; room = omega arith; few = omega arith; held = nothing_held (replicate 128 0) (length-replicate {A = ℕ} 128 0) }
+fresh_fine = record { none_bad = refl; room = omega arith; few = omega arith; held = nothing_held (replicate 128 0) (length-replicate {A = ℕ} 128 0) }
 
 -- the end of the line that is held
 module _ (f : Frames) (p : List ℕ) (h : Holds f.line f.len p) (few : f.ended ≤ 4194304) where
   ended_good : (bs : List ℕ) → frame_of p ≡ good_frame bs → ended_of f ≡ fed_line f (pieceFed f.loader bs) (f.ended + 1)
   ended_good bs e =
       sym
-      (good_ended f (good_frame bs) (f.ended + 1) (sym e ∙ sym (held_read f.line f.len p h)) (sym (counted_more f.ended few)) (pieceFed f.loader bs) (ap (λ (z : List ℕ). pieceFed f.loader z) (sym (front bs))) refl)
+      (good_ended f (f.ended + 1) (sym (counted_more f.ended few)) _ (pieceFed f.loader bs) (held_read f.line f.len p h ∙ e) (ap (λ (z : List ℕ). pieceFed f.loader z) (sym (front bs))))
 
-  ended_bad : frame_of p ≡ bad_frame → ended_of f ≡ bad_line f (f.ended + 1)
-  ended_bad e = sym (bad_ended f bad_frame (f.ended + 1) (sym e ∙ sym (held_read f.line f.len p h)) (sym (counted_more f.ended few)) refl)
-
-last_good : (f : Frames) → f.bad ≤ 0 → last_of f ≡ answered_of (close_answer f.loader)
-unfolding last_of when
-last_good f h = rw (le-ltb 0 f.bad h)
+  ended_bad : frame_of p ≡ None → ended_of f ≡ bad_line f (f.ended + 1)
+  ended_bad e = sym (bad_ended f (f.ended + 1) (sym (counted_more f.ended few)) (held_read f.line f.len p h ∙ e))
 
 -- the end of the input
 at_end : (f : Frames) (p : List ℕ) (k : ℕ) → Fine f p k → closed_of f ≡ judge f.ended f.loader false (p ∷ [])
 at_end f p k i = closed_last f i.none_bad (omega (arith, i.room)) ∙ go (decided p)
   where
-    go : Read p ⊎ (NoFrame p × (frame_of p ≡ bad_frame)) → last_of (ended_of f) ≡ judge f.ended f.loader false (p ∷ [])
+    go : Read p ⊎ (NoFrame p × (frame_of p ≡ None)) → last_of (ended_of f) ≡ judge f.ended f.loader false (p ∷ [])
     go (inl r) =
         ap last_of (ended_good f p i.held (omega (arith, i.room, i.few)) r.bs r.read)
         ∙ last_good (fed_line f (pieceFed f.loader r.bs) (f.ended + 1)) i.none_bad
         ∙ sym (judge_good f.ended f.loader false p [] r.bs r.read)
     go (inr n) =
         ap last_of (ended_bad f p i.held (omega (arith, i.room, i.few)) n.1)
-        ∙ last_bad (bad_line f (f.ended + 1)) (omega arith)
+        ∙ last_bad (bad_line f (f.ended + 1)) (f.ended + 1) refl
         ∙ sym (judge_bad f.ended f.loader false p [] n.1)
 
 -- what is left of an input is answered by its lines
@@ -103,7 +98,7 @@ module _ (b : ℕ) (s : List ℕ) (k : ℕ) (ih : Loads s k) (f : Frames) (p : L
       ∙ go (decided p)
       ∙ ap (λ (ls : List (List ℕ)). judge f.ended f.loader (more_than k s) ls) (sym (newline p s k b e))
     where
-      go : Read p ⊎ (NoFrame p × (frame_of p ≡ bad_frame)) → closed_of (fed_of (ended_of (took_of f)) s) ≡ judge f.ended f.loader (more_than k s) (p ∷ lines_in [] k s)
+      go : Read p ⊎ (NoFrame p × (frame_of p ≡ None)) → closed_of (fed_of (ended_of (took_of f)) s) ≡ judge f.ended f.loader (more_than k s) (p ∷ lines_in [] k s)
       go (inl r) =
           ap (λ (g : Frames). closed_of (fed_of g s)) (ended_good (took_of f) p i.held (omega (arith, i.room, i.few)) r.bs r.read)
           ∙ ih (fed_line (took_of f) (pieceFed f.loader r.bs) (f.ended + 1)) []
@@ -111,7 +106,7 @@ module _ (b : ℕ) (s : List ℕ) (k : ℕ) (ih : Loads s k) (f : Frames) (p : L
           ∙ sym (judge_good f.ended f.loader (more_than k s) p (lines_in [] k s) r.bs r.read)
       go (inr n) =
           ap (λ (g : Frames). closed_of (fed_of g s)) (ended_bad (took_of f) p i.held (omega (arith, i.room, i.few)) n.1)
-          ∙ bad_answered s (bad_line (took_of f) (f.ended + 1)) (omega arith)
+          ∙ bad_answered s (bad_line (took_of f) (f.ended + 1)) (f.ended + 1) refl
           ∙ sym (judge_bad f.ended f.loader (more_than k s) p (lines_in [] k s) n.1)
 
   -- a character of a line
@@ -119,7 +114,7 @@ module _ (b : ℕ) (s : List ℕ) (k : ℕ) (ih : Loads s k) (f : Frames) (p : L
   longer_loads g w =
       ih g (p ++ (b ∷ []))
       (record {
-        none_bad = omega (arith, i.none_bad, w.bad_same);
+        none_bad = ap is_some w.bad_same ∙ i.none_bad;
         room = omega (arith, i.room, one_taken, w.taken_same);
         few = omega (arith, i.few, one_taken, w.taken_same, w.ended_same);
         held = w.held;
@@ -187,7 +182,7 @@ pub pieces : (ls : List (List ℕ)) → Pieces ls ⊎ FirstBad ls
 pieces [] = inl (record { ps = []; are = tt })
 pieces (x ∷ ls) = go (decided x) (pieces ls)
   where
-    go : Read x ⊎ (NoFrame x × (frame_of x ≡ bad_frame)) → Pieces ls ⊎ FirstBad ls → Pieces (x ∷ ls) ⊎ FirstBad (x ∷ ls)
+    go : Read x ⊎ (NoFrame x × (frame_of x ≡ None)) → Pieces ls ⊎ FirstBad ls → Pieces (x ∷ ls) ⊎ FirstBad (x ∷ ls)
     go (inr n) y = inr (record { before = []; line = x; after = ls; ps = []; all = refl; are = tt; none = n.0 })
     go (inl r) (inl y) = inl (record { ps = r.bs ∷ y.ps; are = (r.frame, y.are) })
     go (inl r) (inr y) =

@@ -21,7 +21,7 @@ use Rattle.frames.proofs.Lines as lines
 use Rattle.frames.proofs.Lines.{lines_in, more_than, more, no_more, reads_lines, behind_limit}
 use Rattle.frames.proofs.Texts.{text_in_front}
 use Rattle.frames.proofs.Judged.{judge, judge_frames, judge_first, fresh_fine, loads, Pieces, FirstBad, pieces}
-use Rattle.std.specs.Prelude.{Result, Ok, Err}
+use Rattle.std.specs.Prelude.{IsSome, Result, Ok, Err}
 use Rattle.frames.specs.declared.Failure.{Failure}
 use Rattle.frames.specs.declared.Failure.TheVariants.{Refused, TooBig}
 
@@ -106,7 +106,7 @@ pub text_written : (cs : List (List ℕ)) (o : Result (Unit {0}) Failure) → An
 text_written cs o a = text_in_front (outcome_text (closed_of (fed_chunks fresh_of cs))) ∙ ap (λ (x : Result (Unit {0}) Failure). outcome_text x) ((exactly cs o).1 a)
 
 -- where the program may stop reading: behind a bad line nothing changes the state
-pub stops_bad : (f : Frames) (cs : List (List ℕ)) → 0 < f.bad → fed_chunks f cs ≡ f
+pub stops_bad : (f : Frames) (cs : List (List ℕ)) → IsSome f.bad → fed_chunks f cs ≡ f
 stops_bad f cs h = chunks_joined f cs ∙ bad_stays (together cs) f h
 
 -- and behind one byte more than the limit nothing changes the answer

@@ -2,12 +2,11 @@
 // Definitions: specs/Meaning.antt (lines, what is answered), specs/Reading.antt (how the state goes on).
 #![tactic(auto)]
 
-ghost use Rattle.std.specs.Prelude.{◌≡◌, true, ◌≤◌, ◌<◌, length};
-ghost use Rattle.words.specs.Meaning.{refused_text};
+ghost use Rattle.std.specs.Prelude.{◌≡◌, true, ◌≤◌, ◌<◌, length, IfSome, IsNone};
 ghost use Rattle.frames.specs.Meaning.{outcome_text, output_of};
-ghost use Rattle.frames.specs.Reading.{counted_of, held_frame, fresh_of, ended_of, with_of, byte_of, fed_of, answered_of, last_of, closed_of};
+ghost use Rattle.frames.specs.Reading.{counted_of, held_frame, fresh_of, ended_of, with_of, byte_of, fed_of, last_of, closed_of};
+ghost use Rattle.frames.specs.declared.Failure.TheVariants.{Refused};
 
-use header::Font;
 use hexline::Frame;
 use loader::Loader;
 use refusal::{Reason, Refusal};
@@ -20,13 +19,14 @@ pub const LIMIT: usize = 4194304;
 pub struct Frames {
     // the pieces so far
     pub loader: Loader,
-    // the line that is not ended: its first characters, and how many there are, 129 for more than 128
+    // the line that is not ended: its first characters, and how many there are, 129 for more than 128 (a count that stops, as the others do:
+    // an Option would be no plainer)
     pub line: [u8; 128],
     pub len: usize,
     // how many lines were ended
     pub ended: usize,
-    // the number of the first bad line, 0 for none
-    pub bad: usize,
+    // the number of the first bad line
+    pub bad: Option<usize>,
     // how many bytes were taken
     pub taken: usize,
 }
@@ -38,6 +38,14 @@ pub enum Failure {
     TooBig,
 }
 
+impl From<Refusal> for Failure {
+    ghost from_gives = { λ r x. x ≡ Refused r };
+
+    fn from(r: Refusal) -> Failure {
+        Failure::Refused(r)
+    }
+}
+
 // A line of output: so many bytes, which stand in front with zeros behind them.
 #[derive(Clone, Copy)]
 pub struct Output {
@@ -46,6 +54,7 @@ pub struct Output {
 }
 
 // One more, up to one more than the limit.
+#[tactic(auto, unfolding(crate::specs::Reading::counted_of, base::specs::Reading::when))]
 fn counted(n: usize) -> usize
     ensures { result ≡ counted_of n }
 {
@@ -56,6 +65,7 @@ fn counted(n: usize) -> usize
 }
 
 // Before any input.
+#[tactic(auto, unfolding(crate::specs::Reading::fresh_of))]
 pub fn fresh() -> Frames
     ensures { result ≡ fresh_of }
 {
@@ -64,52 +74,47 @@ pub fn fresh() -> Frames
         line: [0u8; 128],
         len: 0,
         ended: 0,
-        bad: 0,
+        bad: None,
         taken: 0,
     }
 }
 
-// The line that is held as a frame.
-#[tactic(auto, using(crate::proofs::Held::held_long, hexline::proofs::Steps::bad_bounded))]
-fn held_frame(line: [u8; 128], len: usize) -> Frame
+// The line that is held as a frame; none for a bad line.
+#[tactic(auto, using(crate::proofs::Held::held_long, crate::proofs::Held::held_short))]
+fn held_frame(line: [u8; 128], len: usize) -> Option<Frame>
     ensures equal { result ≡ held_frame line len }
-    ensures bounded { (result.len ≤ 64) × (length result.bytes ≡ 64) }
+    ensures bounded { IfSome result (λ f. (f.len ≤ 64) × (length f.bytes ≡ 64)) }
 {
     if 128 < len {
-        return hexline::bad();
+        return None;
     }
     hexline::read_line(&line[..len])
 }
 
 // The end of a line: its bytes are one piece, or it is the first bad one.
+#[tactic(auto, using(crate::proofs::Ended::good_ended, crate::proofs::Ended::bad_ended))]
 fn end_line(f: Frames) -> Frames
     ensures { result ≡ ended_of f }
 {
-    let line = f.line;
-    let frame = held_frame(line, f.len);
-    let n = frame.len;
     let mut next = f;
     next.len = 0;
     next.ended = counted(f.ended);
-    if frame.good {
-        let bytes = frame.bytes;
-        let pieces = f.loader;
-        next.loader = loader::fed(pieces, &bytes[..n]);
-        return next;
+    match held_frame(f.line, f.len) {
+        Some(frame) => next.loader = loader::fed(f.loader, &frame.bytes[..frame.len]),
+        None => next.bad = Some(next.ended),
     }
-    next.bad = next.ended;
     next
 }
 
 // One more character of a line.
+#[tactic(auto, using(crate::proofs::Held::with_short, crate::proofs::Held::with_long))]
 fn with_char(f: Frames, b: u8) -> Frames
     ensures { result ≡ with_of f b }
 {
-    let at = f.len;
     let mut next = f;
-    if at < 128 {
-        next.line[at] = b;
-        next.len = at + 1;
+    if f.len < 128 {
+        next.line[f.len] = b;
+        next.len = f.len + 1;
         return next;
     }
     next.len = 129;
@@ -117,11 +122,11 @@ fn with_char(f: Frames, b: u8) -> Frames
 }
 
 // One byte of input. Behind a bad line nothing is read, and behind the limit it is only counted.
-#[tactic(auto, using(crate::proofs::Ended::took_as, crate::proofs::Feeding::byte_full, crate::proofs::Feeding::byte_newline))]
+#[tactic(auto, using(crate::proofs::Ended::took_as, crate::proofs::Feeding::byte_bad, crate::proofs::Feeding::byte_full, crate::proofs::Feeding::byte_newline, crate::proofs::Feeding::byte_char))]
 fn byte(f: Frames, b: u8) -> Frames
     ensures { result ≡ byte_of f b }
 {
-    if 0 < f.bad {
+    if f.bad.is_some() {
         return f;
     }
     let mut next = f;
@@ -129,29 +134,21 @@ fn byte(f: Frames, b: u8) -> Frames
     if LIMIT <= f.taken {
         return next;
     }
-    if b == 10 {
+    if b == b'\n' {
         return end_line(next);
     }
     with_char(next, b)
 }
 
 // Whether a byte is surely one more character of the line that is held.
-fn is_char(b: u8, len: usize, bad: usize, taken: usize) -> bool
-    ensures { result ≡ true → (bad ≤ 0) × (taken < 4194304) × (len < 128) × (b ≡ 10 → ⊥) }
+fn is_char(b: u8, len: usize, bad: Option<usize>, taken: usize) -> bool
+    ensures { result ≡ true → IsNone bad × (taken < 4194304) × (len < 128) × (b ≡ 10 → ⊥) }
 {
-    if 0 < bad {
-        return false;
-    }
-    if LIMIT <= taken {
-        return false;
-    }
-    if 128 <= len {
-        return false;
-    }
-    b != 10
+    bad.is_none() && taken < LIMIT && len < 128 && b != b'\n'
 }
 
 // A chunk of input, of any length. The line that is held goes by variables, so that a character costs one store.
+#[tactic(auto, using(crate::proofs::Chars::char_byte, crate::proofs::Feeding::next, crate::proofs::Feeding::ended))]
 pub fn fed(f: Frames, chunk: &[u8]) -> Frames
     ensures { result ≡ fed_of f chunk.now }
 {
@@ -159,10 +156,7 @@ pub fn fed(f: Frames, chunk: &[u8]) -> Frames
     let mut line = f.line;
     let mut len = f.len;
     let mut taken = f.taken;
-    let mut i = 0;
-    while i < chunk.len() {
-        let b = chunk[i];
-        i += 1;
+    for &b in chunk {
         if is_char(b, len, state.bad, taken) {
             line[len] = b;
             len += 1;
@@ -172,8 +166,7 @@ pub fn fed(f: Frames, chunk: &[u8]) -> Frames
             state.len = len;
             state.taken = taken;
             state = byte(state, b);
-            let next = state.line;
-            line = next;
+            line = state.line;
             len = state.len;
             taken = state.taken;
         }
@@ -184,32 +177,24 @@ pub fn fed(f: Frames, chunk: &[u8]) -> Frames
     state
 }
 
-// What the loader answers.
-fn answered(a: Result<Font, Refusal>) -> Result<(), Failure>
-    ensures { result ≡ answered_of a }
-{
-    match a {
-        Ok(_) => Ok(()),
-        Err(r) => Err(Failure::Refused(r)),
-    }
-}
-
 // The answer where all lines are ended.
+#[tactic(auto, using(crate::proofs::Feeding::last_bad, crate::proofs::Feeding::last_good))]
 fn last(f: Frames) -> Result<(), Failure>
     ensures { result ≡ last_of f }
 {
-    if 0 < f.bad {
-        return Err(Failure::Refused(refusal::refuse(Reason::Line, f.bad)));
+    if let Some(n) = f.bad {
+        return Err(Failure::Refused(refusal::refuse(Reason::Line, n)));
     }
-    answered(loader::closed_answer(f.loader))
+    loader::closed_answer(f.loader)?;
+    Ok(())
 }
 
 // The answer where the input ends. Refusals: LINE, place the first bad line's number, and those of the loader.
-#[tactic(auto, using(crate::proofs::Feeding::closed_full))]
+#[tactic(auto, using(crate::proofs::Feeding::closed_bad, crate::proofs::Feeding::closed_full, crate::proofs::Feeding::closed_last))]
 pub fn close(f: Frames) -> Result<(), Failure>
     ensures { result ≡ closed_of f }
 {
-    if 0 < f.bad {
+    if f.bad.is_some() {
         return last(f);
     }
     if LIMIT < f.taken {
@@ -218,41 +203,16 @@ pub fn close(f: Frames) -> Result<(), Failure>
     last(end_line(f))
 }
 
-// A text as a line of output. Asks that it is one: each caller names it.
-fn output_of(text: &[u8]) -> Output
-    requires { length text.now ≤ 96 }
-    ensures equal { result ≡ output_of text.now }
-    ensures bounded { (result.len ≤ 96) × (length result.bytes ≡ 96) }
-{
-    let mut bytes = [0u8; 96];
-    let n = text::put_text(text, &mut bytes);
-    Output {
-        len: n,
-        bytes: bytes,
-    }
-}
-
-// The line of a refusal.
-fn refused_output(r: Refusal) -> Output
-    ensures equal { result ≡ output_of (refused_text r) }
-    ensures bounded { (result.len ≤ 96) × (length result.bytes ≡ 96) }
-{
-    let mut bytes = [0u8; 96];
-    let n = words::put_refused(r, &mut bytes);
-    Output {
-        len: n,
-        bytes: bytes,
-    }
-}
-
 // An answer as the program's line.
 pub fn written(o: Result<(), Failure>) -> Output
     ensures equal { result ≡ output_of (outcome_text o) }
     ensures bounded { (result.len ≤ 96) × (length result.bytes ≡ 96) }
 {
-    match o {
-        Ok(()) => output_of(b"sound\n"),
-        Err(Failure::Refused(r)) => refused_output(r),
-        Err(Failure::TooBig) => output_of(b"too big\n"),
-    }
+    let mut bytes = [0u8; 96];
+    let len = match o {
+        Ok(()) => text::put_text(b"sound\n", &mut bytes),
+        Err(Failure::Refused(r)) => words::put_refused(r, &mut bytes),
+        Err(Failure::TooBig) => text::put_text(b"too big\n", &mut bytes),
+    };
+    Output { len, bytes }
 }

@@ -1,6 +1,6 @@
 -- One line of hexadecimal (document 02, W2): "lines of hexadecimal, one frame a line: 0 to 128 upper-case digits, an even number, each
 -- line one piece". A line of 2k digits is k bytes, the high digit of each first.
-use Rattle.std.specs.Prelude.{ℕ, ◌/◌, ◌%◌, ◌≤◌, ◌≡◌, true, false, List, [], ◌∷◌, length, replicate}
+use Rattle.std.specs.Prelude.{ℕ, ◌/◌, ◌%◌, ◌≤◌, ◌≡◌, List, [], ◌∷◌, length, replicate, Option, Some}
 use Rattle.base.specs.Meaning.{Bytes}
 use Rattle.base.specs.Reading.{over}
 use Rattle.text.specs.Reading.{digit_of}
@@ -20,9 +20,5 @@ abbrev pub NoFrame : List ℕ → Type 0
 NoFrame line = (bs : List ℕ) → IsFrame line bs → ⊥
 
 -- what is said of a frame of these bytes
-abbrev pub good_frame : List ℕ → Frame
-good_frame bs = record { good = true; len = length bs; bytes = over bs (replicate 64 0) }
-
--- and of a bad line
-abbrev pub bad_frame : Frame
-bad_frame = record { good = false; len = 0; bytes = replicate 64 0 }
+abbrev pub good_frame : List ℕ → Option Frame
+good_frame bs = Some (record { len = length bs; bytes = over bs (replicate 64 0) })

@@ -8,14 +8,15 @@ ghost use Rattle.text.specs.Meaning.{number_text};
 ghost use Rattle.text.specs.Reading.{digit_of, numeral};
 
 // A digit up to F. Asks that it is one: each caller has divided.
+#[tactic(auto, unfolding(crate::specs::Reading::digit_of))]
 fn digit(d: u8) -> u8
     requires { d < 16 }
     ensures { result ≡ digit_of d }
 {
-    if d < 10 {
-        return 48 + d;
+    match d {
+        0..=9 => b'0' + d,
+        _ => b'A' + (d - 10),
     }
-    55 + d
 }
 
 // How many digits a number has in a radix. Asks for a radix: each caller names 10 or 16.
@@ -35,6 +36,7 @@ pub fn numeral_len(radix: usize, n: usize) -> usize
 
 // A number to the front, in a radix that has digits, and how many bytes it is. Asks for such a radix, each caller names 10 or 16, and
 // for room: the caller has measured.
+#[tactic(auto, using(crate::proofs::Digits::length_one, crate::proofs::Digits::length_more, crate::proofs::Digits::divided, crate::proofs::Digits::numeral_one, crate::proofs::Digits::numeral_more, crate::proofs::Putting::put_one, crate::proofs::Putting::put_more, base::proofs::Over::length_over))]
 pub fn put_numeral(radix: usize, n: usize, out: &mut [u8]) -> usize
     requires { (2 ≤ radix) × (radix ≤ 16) × (length (numeral radix n) ≤ length out.old) }
     ensures { (result ≡ length (numeral radix n)) × (out.new ≡ over (numeral radix n) out.old) }
@@ -58,6 +60,7 @@ pub fn put_text(text: &[u8], out: &mut [u8]) -> usize
 }
 
 // A number and the byte after it to the front, and how many bytes they are. Asks for room: the caller has measured.
+#[tactic(auto, using(crate::proofs::Putting::put_more, crate::proofs::Digits::number_text_lem, crate::proofs::Digits::number_length, base::proofs::Over::length_over))]
 pub fn put_number(n: usize, after: u8, out: &mut [u8]) -> usize
     requires { length (number_text n after) ≤ length out.old }
     ensures { (result ≡ length (number_text n after)) × (out.new ≡ over (number_text n after) out.old) }
@@ -68,6 +71,7 @@ pub fn put_number(n: usize, after: u8, out: &mut [u8]) -> usize
 }
 
 // One byte to the front. Asks for room: the caller has measured.
+#[tactic(auto, using(crate::proofs::Putting::put_one))]
 pub fn put_byte(b: u8, out: &mut [u8]) -> usize
     requires { length (b ∷ []) ≤ length out.old }
     ensures { (result ≡ length (b ∷ [])) × (out.new ≡ over (b ∷ []) out.old) }

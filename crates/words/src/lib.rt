@@ -8,13 +8,13 @@ ghost use Rattle.words.specs.Meaning.{refused_text};
 use refusal::Refusal;
 
 // The line of a refusal. Asks for room for the longest: each caller has a buffer of 96 bytes.
+#[tactic(auto, using(text::proofs::Putting::first_stands, text::proofs::Putting::behind_room, text::proofs::Putting::behind_stands, text::proofs::Digits::number_21))]
 pub fn put_refused(r: Refusal, out: &mut [u8]) -> usize
     requires { 96 ≤ length out.old }
     ensures { (result ≡ length (refused_text r)) × (out.new ≡ over (refused_text r) out.old) × (result ≤ 96) }
 {
-    let reason = r.reason;
     let a = text::put_text(b"refused ", out);
-    let b = a + text::put_number(base::size(refusal::number(reason)), 32, &mut out[a..]);
-    let d = b + text::put_number(r.place, 32, &mut out[b..]);
-    d + text::put_number(r.glyph, 10, &mut out[d..])
+    let b = a + text::put_number(base::size(refusal::number(r.reason)), b' ', &mut out[a..]);
+    let d = b + text::put_number(r.place, b' ', &mut out[b..]);
+    d + text::put_number(r.glyph, b'\n', &mut out[d..])
 }

@@ -1,30 +1,18 @@
 -- `hexline::read_line` meets its contract: at each turn what is left of the line is read behind the bytes so far. Assumes nothing.
 use native.Mathlib.Omega.{arith}
-use mathlib.Core.Path.{◌≡◌, refl, sym, ◌∙◌, ap}
-use Prim.Native.Nat.{◌/◌}
-use lib.ListN.{length, length-append, length-set}
-use Rattle.std.specs.Slice.Iter.{chunks_exact_rest}
-use Rattle.hexline.specs.Reading.{bytes_from}
-use Rattle.hexline.proofs.Steps.{goes_on, ended, not_long}
+use mathlib.Core.Path.{sym, ◌∙◌}
+use lib.ListN.{length-set}
+use Rattle.hexline.proofs.Steps.{fewer, goes_on, no_byte}
 use Rattle.hexline.proofs.read_line.Goals as goal
 
-pub loop-k-init : goal.loop-k-init
-loop-k-init c = rw c.into_iter-k-iterator.ensures.into_iter_gives
-    (rw (c.enumerate-k-items.ensures.source, c.enumerate-k-items.ensures.count)
-    (rw (c.chunks_exact.ensures.size, c.chunks_exact.ensures.rest) (refl, refl, omega arith, sym (not_long c.args.line.now (omega arith)))))
+pub returns-in_err-bytes-clause-equal : goal.returns-in_err-bytes-clause-equal
+returns-in_err-bytes-clause-equal c =
+    let s = c.in-Some.ensures.steps in
+    c.from_residual.ensures ∙ sym (no_byte _ _ _ _ _ s.0.1.0 (s.0.1.1 ∙ c.loop-k.invariant.0) (sym c.pair_value.ensures ∙ c.in_err-bytes.was)) ∙ c.loop-k.invariant.3
 
 pub loop-k-preserved : goal.loop-k-preserved
-loop-k-preserved c = let h = c.in-Some.ensures.steps in
-    let l = c.loop-k in
-    let two : length c.in-Some.pair.now ≡ 2 = h.0.1.1 ∙ l.invariant.1 in (
-      simp length-set l.invariant.0,
-      h.0.0 ∙ l.invariant.1,
-      omega (arith, ap length h.0.1.0, length-append c.in-Some.pair.now (chunks_exact_rest c.next.new.self.iter), h.2, l.invariant.2),
-      rw (h.2, h.1) (sym (goes_on l.k-iterator.count l.bytes c.in-Some.pair.now _ c.pair_value-v.result two c.pair_value-v.ensures c.if-v-gt255.false) ∙ ap (bytes_from l.k-iterator.count l.bytes) (sym h.0.1.0) ∙ l.invariant.3),
-    )
-
-pub returns-clause-equal : goal.returns-clause-equal
-returns-clause-equal c = let h = c.in-None.ensures.steps in
-    let l = c.loop-k in
-    let k : length c.args.line.now / 2 ≡ l.k-iterator.count = omega (arith, h.0.1.0, l.invariant.1, l.invariant.2, c.if-line-ne0.false) in
-    rw k (sym (ended l.k-iterator.count l.bytes (chunks_exact_rest l.k-iterator.iter) (omega (arith, h.0.1.0, l.invariant.1, l.invariant.2, c.if-line-ne0.false))) ∙ l.invariant.3)
+loop-k-preserved c =
+    let s = c.in-Some.ensures.steps in
+    let two = s.0.1.1 ∙ c.loop-k.invariant.0 in
+    let n = fewer _ _ _ s.0.1.0 two in
+    (s.0.0 ∙ c.loop-k.invariant.0, omega (arith, n, s.2), simp length-set c.loop-k.invariant.2, sym (goes_on _ _ _ _ _ s.0.1.0 two _ _ _ s.1 s.2 (sym c.pair_value.ensures ∙ c.in_ok-bytes.was)) ∙ c.loop-k.invariant.3)

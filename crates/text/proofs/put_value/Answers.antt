@@ -1,19 +1,10 @@
 -- `text::put_value` meets its contract: the byte stands in front, and the value behind it. Assumes nothing.
 use native.Mathlib.Omega.{arith}
-use Prim.Native.Nat.{ℕ}
-use mathlib.Core.Path.{ap}
-use lib.ListN.{length}
 use mathlib.Core.List.{[], ◌∷◌}
 use Rattle.text.proofs.Putting.{first_stands, behind_stands}
 use Rattle.text.proofs.Digits.{same_numeral}
 use Rattle.text.specs.Reading.{numeral}
 use Rattle.text.proofs.put_value.Goals as goal
-
-pub put_numeral-l-requires : goal.put_numeral-l-requires
-put_numeral-l-requires c = let e = ap (λ (x : ℕ). length (numeral 16 x)) c.size.ensures in (omega arith, omega arith, omega (arith, e))
-
-pub overflow_add-result : goal.overflow_add-result
-overflow_add-result c = let e = ap (λ (x : ℕ). length (numeral 16 x)) c.size.ensures in omega (arith, e)
 
 pub returns : goal.returns
 returns c = let a = c.args in

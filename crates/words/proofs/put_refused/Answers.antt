@@ -4,68 +4,12 @@ use mathlib.Core.Path.{◌∙◌, ap, refl}
 use mathlib.Core.List.{List, [], ◌∷◌, ◌++◌}
 use Prim.Native.Nat.{ℕ}
 use lib.ListN.{length}
-use Rattle.text.proofs.Putting.{first_stands, behind_room, behind_stands}
+use Rattle.text.proofs.Putting.{first_stands, behind_stands}
 use Rattle.text.proofs.Digits.{number_21}
 use Rattle.words.proofs.Words.{refused_text_lem}
 use Rattle.text.specs.Meaning.{number_text}
 use Rattle.base.specs.Reading.{over}
 use Rattle.words.proofs.put_refused.Goals as goal
-
-pub put_number-requires : goal.put_number-requires
-put_number-requires c = let n1 = number_21 c.size.result 32 (omega arith) in
-    let s1 = first_stands (114 ∷ 101 ∷ 102 ∷ 117 ∷ 115 ∷ 101 ∷ 100 ∷ 32 ∷ []) c.args.out.now c.put_text-a.new.out c.put_text-a.result (omega (arith, c.requires)) c.put_text-a.ensures in
-    behind_room (114 ∷ 101 ∷ 102 ∷ 117 ∷ 115 ∷ 101 ∷ 100 ∷ 32 ∷ []) (number_text c.size.result 32) c.args.out.now _ _ s1 (omega (arith, c.requires, n1, c.put_text-a.ensures.0))
-
-pub overflow_add-b : goal.overflow_add-b
-overflow_add-b c = let n1 = number_21 c.size.result 32 (omega arith) in
-    omega (arith, n1, c.put_text-a.ensures.0, c.put_number.ensures.0)
-
-pub slice_bounds-put_number-count-2 : goal.slice_bounds-put_number-count-2
-slice_bounds-put_number-count-2 c = let n1 = number_21 c.size.result 32 (omega arith) in
-    let s1 = first_stands (114 ∷ 101 ∷ 102 ∷ 117 ∷ 115 ∷ 101 ∷ 100 ∷ 32 ∷ []) c.args.out.now c.put_text-a.new.out c.put_text-a.result (omega (arith, c.requires)) c.put_text-a.ensures in
-    let s2 = behind_stands (114 ∷ 101 ∷ 102 ∷ 117 ∷ 115 ∷ 101 ∷ 100 ∷ 32 ∷ []) (number_text c.size.result 32) c.args.out.now _ _ s1 (omega (arith, c.requires, n1, c.put_text-a.ensures.0)) _ _ c.put_number.ensures in
-    omega (arith, c.requires, n1, c.put_text-a.ensures.0, c.put_number.ensures.0, s2.0, s2.1)
-
-pub slice_bounds-put_number-start-2 : goal.slice_bounds-put_number-start-2
-slice_bounds-put_number-start-2 c = let n1 = number_21 c.size.result 32 (omega arith) in
-    let s1 = first_stands (114 ∷ 101 ∷ 102 ∷ 117 ∷ 115 ∷ 101 ∷ 100 ∷ 32 ∷ []) c.args.out.now c.put_text-a.new.out c.put_text-a.result (omega (arith, c.requires)) c.put_text-a.ensures in
-    let s2 = behind_stands (114 ∷ 101 ∷ 102 ∷ 117 ∷ 115 ∷ 101 ∷ 100 ∷ 32 ∷ []) (number_text c.size.result 32) c.args.out.now _ _ s1 (omega (arith, c.requires, n1, c.put_text-a.ensures.0)) _ _ c.put_number.ensures in
-    omega (arith, c.requires, n1, c.put_text-a.ensures.0, c.put_number.ensures.0, s2.0, s2.1)
-
-pub put_number-requires-2 : goal.put_number-requires-2
-put_number-requires-2 c = let n1 = number_21 c.size.result 32 (omega arith) in let n2 = number_21 c.args.r.place 32 (omega arith) in
-    let s1 = first_stands (114 ∷ 101 ∷ 102 ∷ 117 ∷ 115 ∷ 101 ∷ 100 ∷ 32 ∷ []) c.args.out.now c.put_text-a.new.out c.put_text-a.result (omega (arith, c.requires)) c.put_text-a.ensures in
-    let s2 = behind_stands (114 ∷ 101 ∷ 102 ∷ 117 ∷ 115 ∷ 101 ∷ 100 ∷ 32 ∷ []) (number_text c.size.result 32) c.args.out.now _ _ s1 (omega (arith, c.requires, n1, c.put_text-a.ensures.0)) _ _ c.put_number.ensures in
-    behind_room ((114 ∷ 101 ∷ 102 ∷ 117 ∷ 115 ∷ 101 ∷ 100 ∷ 32 ∷ []) ++ (number_text c.size.result 32)) (number_text c.args.r.place 32) c.args.out.now _ _ s2 (omega (arith, c.requires, n1, n2, c.put_text-a.ensures.0, c.put_number.ensures.0))
-
-pub overflow_add-d : goal.overflow_add-d
-overflow_add-d c = let n1 = number_21 c.size.result 32 (omega arith) in let n2 = number_21 c.args.r.place 32 (omega arith) in
-    omega (arith, n1, n2, c.put_text-a.ensures.0, c.put_number.ensures.0, c.put_number-2.ensures.0)
-
-pub slice_bounds-put_number-count-3 : goal.slice_bounds-put_number-count-3
-slice_bounds-put_number-count-3 c = let n1 = number_21 c.size.result 32 (omega arith) in let n2 = number_21 c.args.r.place 32 (omega arith) in
-    let s1 = first_stands (114 ∷ 101 ∷ 102 ∷ 117 ∷ 115 ∷ 101 ∷ 100 ∷ 32 ∷ []) c.args.out.now c.put_text-a.new.out c.put_text-a.result (omega (arith, c.requires)) c.put_text-a.ensures in
-    let s2 = behind_stands (114 ∷ 101 ∷ 102 ∷ 117 ∷ 115 ∷ 101 ∷ 100 ∷ 32 ∷ []) (number_text c.size.result 32) c.args.out.now _ _ s1 (omega (arith, c.requires, n1, c.put_text-a.ensures.0)) _ _ c.put_number.ensures in
-    let s3 = behind_stands ((114 ∷ 101 ∷ 102 ∷ 117 ∷ 115 ∷ 101 ∷ 100 ∷ 32 ∷ []) ++ (number_text c.size.result 32)) (number_text c.args.r.place 32) c.args.out.now _ _ s2 (omega (arith, c.requires, n1, n2, c.put_text-a.ensures.0, c.put_number.ensures.0)) _ _ c.put_number-2.ensures in
-    omega (arith, c.requires, n1, n2, c.put_text-a.ensures.0, c.put_number.ensures.0, c.put_number-2.ensures.0, s3.0, s3.1)
-
-pub slice_bounds-put_number-start-3 : goal.slice_bounds-put_number-start-3
-slice_bounds-put_number-start-3 c = let n1 = number_21 c.size.result 32 (omega arith) in let n2 = number_21 c.args.r.place 32 (omega arith) in
-    let s1 = first_stands (114 ∷ 101 ∷ 102 ∷ 117 ∷ 115 ∷ 101 ∷ 100 ∷ 32 ∷ []) c.args.out.now c.put_text-a.new.out c.put_text-a.result (omega (arith, c.requires)) c.put_text-a.ensures in
-    let s2 = behind_stands (114 ∷ 101 ∷ 102 ∷ 117 ∷ 115 ∷ 101 ∷ 100 ∷ 32 ∷ []) (number_text c.size.result 32) c.args.out.now _ _ s1 (omega (arith, c.requires, n1, c.put_text-a.ensures.0)) _ _ c.put_number.ensures in
-    let s3 = behind_stands ((114 ∷ 101 ∷ 102 ∷ 117 ∷ 115 ∷ 101 ∷ 100 ∷ 32 ∷ []) ++ (number_text c.size.result 32)) (number_text c.args.r.place 32) c.args.out.now _ _ s2 (omega (arith, c.requires, n1, n2, c.put_text-a.ensures.0, c.put_number.ensures.0)) _ _ c.put_number-2.ensures in
-    omega (arith, c.requires, n1, n2, c.put_text-a.ensures.0, c.put_number.ensures.0, c.put_number-2.ensures.0, s3.0, s3.1)
-
-pub put_number-requires-3 : goal.put_number-requires-3
-put_number-requires-3 c = let n1 = number_21 c.size.result 32 (omega arith) in let n2 = number_21 c.args.r.place 32 (omega arith) in let n3 = number_21 c.args.r.glyph 10 (omega arith) in
-    let s1 = first_stands (114 ∷ 101 ∷ 102 ∷ 117 ∷ 115 ∷ 101 ∷ 100 ∷ 32 ∷ []) c.args.out.now c.put_text-a.new.out c.put_text-a.result (omega (arith, c.requires)) c.put_text-a.ensures in
-    let s2 = behind_stands (114 ∷ 101 ∷ 102 ∷ 117 ∷ 115 ∷ 101 ∷ 100 ∷ 32 ∷ []) (number_text c.size.result 32) c.args.out.now _ _ s1 (omega (arith, c.requires, n1, c.put_text-a.ensures.0)) _ _ c.put_number.ensures in
-    let s3 = behind_stands ((114 ∷ 101 ∷ 102 ∷ 117 ∷ 115 ∷ 101 ∷ 100 ∷ 32 ∷ []) ++ (number_text c.size.result 32)) (number_text c.args.r.place 32) c.args.out.now _ _ s2 (omega (arith, c.requires, n1, n2, c.put_text-a.ensures.0, c.put_number.ensures.0)) _ _ c.put_number-2.ensures in
-    behind_room (((114 ∷ 101 ∷ 102 ∷ 117 ∷ 115 ∷ 101 ∷ 100 ∷ 32 ∷ []) ++ (number_text c.size.result 32)) ++ (number_text c.args.r.place 32)) (number_text c.args.r.glyph 10) c.args.out.now _ _ s3 (omega (arith, c.requires, n1, n2, n3, c.put_text-a.ensures.0, c.put_number.ensures.0, c.put_number-2.ensures.0))
-
-pub overflow_add-result : goal.overflow_add-result
-overflow_add-result c = let n1 = number_21 c.size.result 32 (omega arith) in let n2 = number_21 c.args.r.place 32 (omega arith) in let n3 = number_21 c.args.r.glyph 10 (omega arith) in
-    omega (arith, n1, n2, n3, c.put_text-a.ensures.0, c.put_number.ensures.0, c.put_number-2.ensures.0, c.put_number-3.ensures.0)
 
 pub returns : goal.returns
 returns c = let n1 = number_21 c.size.result 32 (omega arith) in let n2 = number_21 c.args.r.place 32 (omega arith) in let n3 = number_21 c.args.r.glyph 10 (omega arith) in
