@@ -19,8 +19,8 @@ pub const LIMIT: usize = 4194304;
 pub struct Frames {
     // the pieces so far
     pub loader: Loader,
-    // the line that is not ended: its first characters, and how many there are, 129 for more than 128 (a count that stops, as the others do:
-    // an Option would be no plainer)
+    // the line that is not ended: its first characters, and how many there are, 129 for more than 128
+    // (stays: this count stops one past its limit as the other two do, and an Option, which each character would have to open, is no plainer)
     pub line: [u8; 128],
     pub len: usize,
     // how many lines were ended
