@@ -88,7 +88,7 @@ larger_zero : (a : ℕ) → 1 ≤ a → larger 0 a ≡ a
 larger_zero a h = rw (lt-ltb 0 a h)
 
 module _ (s : List ℕ) (total start h w : ℕ) where
-  scan_same : (k i : ℕ) → ((j : ℕ) → i ≤ j → j < i + k → entry_of s total (entry_at start j) ≡ Glyph h w) → scan_of s total start k i h w ≡ Ok (h , w)
+  scan_same : (k i : ℕ) → ((j : ℕ) → i ≤ j → j < i + k → entry_of s total (entry_at start j) ≡ Glyph h w) → scan_of s total start k i h w ≡ Ok (h, w)
   scan_same zero i f = cases.scanned s total start 0 i h w refl
   scan_same (suc k) i f =
       let v : suc k - 1 ≡ k = omega arith in
@@ -97,7 +97,7 @@ module _ (s : List ℕ) (total start h w : ℕ) where
       ∙ scan_same k (i + 1) (λ j a l. f j (omega arith) (omega arith))
 
   -- entries that all have a glyph of one height and width give that height and width
-  pub scan_even : (k : ℕ) → 1 ≤ k → 1 ≤ h → 1 ≤ w → ((j : ℕ) → j < k → entry_of s total (entry_at start j) ≡ Glyph h w) → scan_of s total start k 0 0 0 ≡ Ok (h , w)
+  pub scan_even : (k : ℕ) → 1 ≤ k → 1 ≤ h → 1 ≤ w → ((j : ℕ) → j < k → entry_of s total (entry_at start j) ≡ Glyph h w) → scan_of s total start k 0 0 0 ≡ Ok (h, w)
   scan_even k ak ah aw f =
       cases.past_glyph s total start 0 (entry_at start 0) 0 0 refl k h w ak (f 0 ak)
       ∙ (λ j. scan_of s total start (k - 1) 1 (larger_zero h ah j) (larger_zero w aw j))

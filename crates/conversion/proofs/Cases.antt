@@ -194,7 +194,7 @@ module _ (f : Font) (need : ℕ) where
   unfolding fitting
   too_large h = search chain depth 30
 
-  pub fits : need ≤ limit → Ok (f , need) ≡ fitting f need
+  pub fits : need ≤ limit → Ok (f, need) ≡ fitting f need
   unfolding fitting
   fits h = search chain depth 30
 

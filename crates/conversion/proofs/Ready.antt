@@ -29,7 +29,7 @@ use Rattle.std.specs.Prelude.{Result, Ok, Err, Option, Some, None}
 same_font : (f g : Font) → ◌≡◌ {A = Result Font Refusal} (Ok f) (Ok g) → f ≡ g
 same_font f g e = cc
 
-never_ready : {A : Type 0} (r : Refusal) (f : Font) (n : ℕ) → ◌≡◌ {A = Result (Font × ℕ) Refusal} (Err r) (Ok (f , n)) → A
+never_ready : {A : Type 0} (r : Refusal) (f : Font) (n : ℕ) → ◌≡◌ {A = Result (Font × ℕ) Refusal} (Err r) (Ok (f, n)) → A
 never_ready r f n e = let z : ◌≡◌ {A = ℕ} 0 1 = cc in absurd (omega arith)
 
 -- 17 did not apply
@@ -46,13 +46,13 @@ opened_sound k s f e = go (check_of s) refl e
     go (Err r) q e = absurd (never r f e)
 
 -- 20 did not
-fit_ready : (f g : Font) (need n : ℕ) → fitting f need ≡ Ok (g , n) → (f ≡ g) × (need ≡ n) × (need ≤ limit)
+fit_ready : (f g : Font) (need n : ℕ) → fitting f need ≡ Ok (g, n) → (f ≡ g) × (need ≡ n) × (need ≤ limit)
 unfolding fitting when
 fit_ready f g need n e = go (ltb limit need) refl e
   where
-    go : (t : Bool) → ltb limit need ≡ t → when {A = Result (Font × ℕ) Refusal} t (Err (refusal Size 0)) (Ok (f , need)) ≡ Ok (g , n) → (f ≡ g) × (need ≡ n) × (need ≤ limit)
+    go : (t : Bool) → ltb limit need ≡ t → when {A = Result (Font × ℕ) Refusal} t (Err (refusal Size 0)) (Ok (f, need)) ≡ Ok (g, n) → (f ≡ g) × (need ≡ n) × (need ≤ limit)
     go true q e = never_ready _ g n e
-    go false q e = let p : ◌≡◌ {A = Font × ℕ} (f , need) (g , n) = cc in (ap (λ (x : Font × ℕ). x.0) p, ap (λ (x : Font × ℕ). x.1) p, ltb-false _ _ q)
+    go false q e = let p : ◌≡◌ {A = Font × ℕ} (f, need) (g, n) = cc in (ap (λ (x : Font × ℕ). x.0) p, ap (λ (x : Font × ℕ). x.1) p, ltb-false _ _ q)
 
 -- what is known of a font that a conversion is ready for, with an output of so many bytes
 pub record Known (c : Conversion) (s : List ℕ) (f : Font) (n : ℕ) : Type 0 where
@@ -65,11 +65,11 @@ pub record Known (c : Conversion) (s : List ℕ) (f : Font) (n : ℕ) : Type 0 w
   pub short : n ≤ limit
 
 module _ (c : Conversion) (s : List ℕ) (f : Font) (n : ℕ) where
-  on_font : (g : Font) → opened_of (source_kind c) s ≡ Ok g → prepared_on c s g ≡ Ok (f , n) → Known c s f n
+  on_font : (g : Font) → opened_of (source_kind c) s ≡ Ok g → prepared_on c s g ≡ Ok (f, n) → Known c s f n
   unfolding prepared_on
   on_font g o e = by_suits (suits_of c s g) refl e
     where
-      by_measure : suits_of c s g ≡ Ok tt → (m : Result ℕ ℕ) → measured_of c (tail_of s g) ≡ m → measured_then c g (tail_of s g) m ≡ Ok (f , n) → Known c s f n
+      by_measure : suits_of c s g ≡ Ok tt → (m : Result ℕ ℕ) → measured_of c (tail_of s g) ≡ m → measured_then c g (tail_of s g) m ≡ Ok (f, n) → Known c s f n
       by_measure u (Ok t) q e =
           let r = fit_ready g f (front_len c g + t) n e in
           let h = r.0 in
@@ -85,15 +85,15 @@ module _ (c : Conversion) (s : List ℕ) (f : Font) (n : ℕ) where
           }
       by_measure u (Err k) q e = never_ready _ f n e
 
-      by_suits : (x : Result (Unit {0}) Refusal) → suits_of c s g ≡ x → suits_then x (measured_then c g (tail_of s g) (measured_of c (tail_of s g))) ≡ Ok (f , n) → Known c s f n
+      by_suits : (x : Result (Unit {0}) Refusal) → suits_of c s g ≡ x → suits_then x (measured_then c g (tail_of s g) (measured_of c (tail_of s g))) ≡ Ok (f, n) → Known c s f n
       by_suits (Ok tt) u e = by_measure u (measured_of c (tail_of s g)) refl e
       by_suits (Err r) u e = never_ready r f n e
 
-  pub known : prepared_of c s ≡ Ok (f , n) → Known c s f n
+  pub known : prepared_of c s ≡ Ok (f, n) → Known c s f n
   unfolding prepared_of
   known e = go (opened_of (source_kind c) s) refl e
     where
-      go : (x : Result Font Refusal) → opened_of (source_kind c) s ≡ x → opened_then x (prepared_on c s) ≡ Ok (f , n) → Known c s f n
+      go : (x : Result Font Refusal) → opened_of (source_kind c) s ≡ x → opened_then x (prepared_on c s) ≡ Ok (f, n) → Known c s f n
       go (Ok g) o e = on_font g o e
       go (Err r) o e = never_ready r f n e
 

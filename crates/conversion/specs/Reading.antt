@@ -83,7 +83,7 @@ measured_of Vfont2ToPsf2 tail = Ok (length tail)
 
 -- 20: "the output is over 1,048,576 bytes"
 unfoldable pub fitting : Font → ℕ → Result (Font × ℕ) Refusal
-fitting f need = when (ltb limit need) (Err (refusal Size 0)) (Ok (f , need))
+fitting f need = when (ltb limit need) (Err (refusal Size 0)) (Ok (f, need))
 
 -- the glyph that a tail's answer tells
 abbrev pub glyph_told : Result (Unit {0}) Refusal → ℕ

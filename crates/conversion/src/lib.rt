@@ -156,11 +156,7 @@ fn suits_psf2(file: &[u8], f: Font) -> Result<(), Refusal>
     let e = first_uneven(file, f.height, f.width, f.count, f.entries);
     match e {
         None => Ok(()),
-        Some(i) => Err(refusal::refuse_at(
-            Reason::Glyphs,
-            f.entries + i * Vfont2::ENTRY_LEN,
-            i,
-        )),
+        Some(i) => Err(refusal::refuse_at(Reason::Glyphs, f.entries + i * Vfont2::ENTRY_LEN, i)),
     }
 }
 
@@ -241,11 +237,7 @@ fn measured(c: Conversion, file: &[u8], f: Font) -> Result<(Font, usize), Refusa
     let m = table_len(c, &file[end..]);
     match m {
         Ok(t) => fit(f, front_len(c, f) + t),
-        Err(k) => Err(refusal::refuse_at(
-            Reason::Value,
-            end + k,
-            glyph_at(f, file, k),
-        )),
+        Err(k) => Err(refusal::refuse_at(Reason::Value, end + k, glyph_at(f, file, k))),
     }
 }
 

@@ -32,7 +32,7 @@ measured_length Psf2ToPsf1 tl t e = length_recoded Utf8 Ucs2 tl t (measured_is P
 measured_length Psf2ToVfont2 tl t e = let q : Ok (length tl) ≡ Ok t = measured_is Psf2ToVfont2 Psf2ToVfont2 tl refl ∙ e in let h : length tl ≡ t = cc in sym h
 measured_length Vfont2ToPsf2 tl t e = let q : Ok (length tl) ≡ Ok t = measured_is Vfont2ToPsf2 Vfont2ToPsf2 tl refl ∙ e in let h : length tl ≡ t = cc in sym h
 
-module _ (c : Conversion) (s : List ℕ) (f : Font) (n : ℕ) (y : Bytes s) (e : prepared_of c s ≡ Ok (f , n)) where
+module _ (c : Conversion) (s : List ℕ) (f : Font) (n : ℕ) (y : Bytes s) (e : prepared_of c s ≡ Ok (f, n)) where
   pub ready : Known c s f n
   ready = known c s f n e
 

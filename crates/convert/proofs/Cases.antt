@@ -32,7 +32,7 @@ module _ (c : Conversion) (s xs : List ℕ) where
   unfolding converted_of converted_into
   unprepared r e = (rw e, rw e)
 
-  module _ (f : Font) (n : ℕ) (e : prepared_of c s ≡ Ok (f , n)) where
+  module _ (f : Font) (n : ℕ) (e : prepared_of c s ≡ Ok (f, n)) where
     pub no_room : length xs < n → (Err (refusal Room n) ≡ converted_of c s (length xs)) × (xs ≡ converted_into c s xs)
     unfolding converted_of converted_into when
     no_room h = (rw (e, lt-ltb (length xs) n h), rw (e, lt-ltb (length xs) n h))

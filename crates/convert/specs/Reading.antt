@@ -11,12 +11,12 @@ use Rattle.refusal.specs.declared.Refusal.{Refusal}
 
 -- 21: "the lent buffer is shorter than the output", place "size needed"
 abbrev pub converted : Result (Font × ℕ) Refusal → ℕ → Result ℕ Refusal
-converted (Ok (f , need)) room = when (ltb room need) (Err (refusal Room need)) (Ok need)
+converted (Ok (f, need)) room = when (ltb room need) (Err (refusal Room need)) (Ok need)
 converted (Err r) room = Err r
 
 -- the buffer at the end: the output laid over its front, or as it was
 abbrev pub laid : Result (Font × ℕ) Refusal → (Font → List ℕ) → List ℕ → List ℕ
-laid (Ok (f , need)) output xs = when (ltb (length xs) need) xs (over (output f) xs)
+laid (Ok (f, need)) output xs = when (ltb (length xs) need) xs (over (output f) xs)
 laid (Err r) output xs = xs
 
 -- the answer, for a buffer of so many bytes

@@ -89,6 +89,6 @@ module _ (s : List ℕ) (total start i at h w : ℕ) (here : at ≡ entry_at sta
       let f : entry_of s total (entry_at start i) ≡ Broken = ap (entry_of s total) (sym here) ∙ e in
       rw (f, scan_of)
 
-pub scanned : (s : List ℕ) (total start k i h w : ℕ) → k ≡ 0 → scan_of s total start k i h w ≡ Ok (h , w)
+pub scanned : (s : List ℕ) (total start k i h w : ℕ) → k ≡ 0 → scan_of s total start k i h w ≡ Ok (h, w)
 unfolding scan_of
 scanned s total start k i h w e = rw e

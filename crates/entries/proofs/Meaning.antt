@@ -148,7 +148,7 @@ module _ (s : List ℕ) (total start : ℕ) where
 
   abbrev ScanSays : ℕ → ℕ → ℕ → ℕ → Result (ℕ × ℕ) ℕ → Type 0
   ScanSays i k h w (Err x) = (i ≤ x) × (x < i + k) × Breaks s total (entry_at start x) × Fine i x
-  ScanSays i k h w (Ok (y , z)) = Fine i (i + k) × Grown s start (rows_at s) i k h y × Grown s start (cols_at s) i k w z
+  ScanSays i k h w (Ok (y, z)) = Fine i (i + k) × Grown s start (rows_at s) i k h y × Grown s start (cols_at s) i k w z
 
   -- one entry more that breaks no rule
   fine_more : (i j n : ℕ) → j ≡ n → (Breaks s total (entry_at start i) → ⊥) → Fine (suc i) j → Fine i n
@@ -164,7 +164,7 @@ module _ (s : List ℕ) (total start : ℕ) where
       ((z : ℕ) → Grown s start (cols_at s) (suc i) k w' z → Grown s start (cols_at s) i (suc k) w z) →
       (x : Result (ℕ × ℕ) ℕ) → ScanSays (suc i) k h' w' x → ScanSays i (suc k) h w x
   past i k h w h' w' fine f g (Err x) (a, l, b, c) = (omega arith, omega arith, b, fine_more i x x refl fine c)
-  past i k h w h' w' fine f g (Ok (y , z)) (c, a, b) = (fine_more i (suc i + k) (i + suc k) (omega arith) fine c, f y a, g z b)
+  past i k h w h' w' fine f g (Ok (y, z)) (c, a, b) = (fine_more i (suc i + k) (i + suc k) (omega arith) fine c, f y a, g z b)
 
   scan_says : (k i h w : ℕ) → ScanSays i k h w (scan_of s total start k i h w)
   unfolding scan_of
@@ -209,7 +209,7 @@ scan_broken s total n start i e =
     record { within = omega (arith, g.1); breaks = g.2; first = λ j l p. g.3 j (omega arith) l p }
 
 -- or no entry does, and it gives the largest sums over the entries with a glyph
-pub scan_greatest : (s : List ℕ) (total n start h w : ℕ) → scan_of s total start n 0 0 0 ≡ Ok (h , w) →
+pub scan_greatest : (s : List ℕ) (total n start h w : ℕ) → scan_of s total start n 0 0 0 ≡ Ok (h, w) →
     ((i : ℕ) → i < n → Breaks s total (entry_at start i) → ⊥) × IsGreatest s n start (rows_at s) h × IsGreatest s n start (cols_at s) w
 scan_greatest s total n start h w e =
     let g = rw e at (scan_says s total start n 0 0 0) in

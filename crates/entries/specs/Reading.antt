@@ -26,7 +26,7 @@ larger a b = pick (ltb a b) b a
 -- k entries from entry i on, of a table that begins at an offset: the first that breaks a rule, or the greatest numbers of rows and
 -- columns, h and w among them
 unfoldable pub scan_of : List ℕ → ℕ → ℕ → ℕ → ℕ → ℕ → ℕ → Result (ℕ × ℕ) ℕ
-scan_of s total start zero i h w = Ok (h , w)
+scan_of s total start zero i h w = Ok (h, w)
 scan_of s total start (suc k) i h w =
     elim (entry_of s total (entry_at start i)) [
       | Empty ↦ scan_of s total start k (suc i) h w

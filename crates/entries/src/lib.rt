@@ -121,7 +121,12 @@ pub fn entry_at(file: &[u8], total: usize, at: usize) -> Entry
 }
 
 // What the n entries of the table that begins at `start` say. Asks that they stand in the file: the caller has tested the length.
-pub fn scan_entries(file: &[u8], total: usize, n: usize, start: usize) -> Result<(usize, usize), usize>
+pub fn scan_entries(
+    file: &[u8],
+    total: usize,
+    n: usize,
+    start: usize,
+) -> Result<(usize, usize), usize>
     requires { entry_at start n ≤ length file.now }
     ensures { result ≡ scan_of file.now total start n 0 0 0 }
 {

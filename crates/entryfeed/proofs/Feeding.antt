@@ -37,7 +37,7 @@ module _ (size at : ℕ) (x : Sums) (s : List ℕ) (start k : ℕ) where
   unfolding sums_of
   found h r i e q = rw (eq-eqb x.broken 0 h, here, ← q, e)
 
-  pub taller : x.broken ≡ 0 → (r : Result (ℕ × ℕ) ℕ) (h w a b : ℕ) → r ≡ Ok (h , w) → r ≡ scan_of s size start k 0 0 0 → a ≡ larger x.height h → b ≡ larger x.width w →
+  pub taller : x.broken ≡ 0 → (r : Result (ℕ × ℕ) ℕ) (h w a b : ℕ) → r ≡ Ok (h, w) → r ≡ scan_of s size start k 0 0 0 → a ≡ larger x.height h → b ≡ larger x.width w →
       record { broken = 0; height = a; width = b } ≡ sums_of size (at + start) x (drop start s) k
   unfolding sums_of
   taller z r h w a b e q f g = rw (eq-eqb x.broken 0 z, here, ← q, e, f, g)
@@ -79,11 +79,11 @@ module _ (size at : ℕ) (there : 1 ≤ at) where
       after_scan at (goes_on (λ a b. numbered j (scan_of s size 0 k 0 a b)) r) ≡ sums_of size (at + j * 18) (after_scan at r) s k
   unfolding sums_of
   told x p s j k l z (Err i) e = let n : entry_at at i ≡ 0 → ⊥ = λ m. omega arith in rw (ne_eqb (entry_at at i) 0 n)
-  told x p s j k l z (Ok (a , b)) e = go (scan_of s size 0 k 0 a b)
+  told x p s j k l z (Ok (a, b)) e = go (scan_of s size 0 k 0 a b)
     where
       go : (r : Result (ℕ × ℕ) ℕ) → after_scan at (numbered j r) ≡ after_scan (at + j * 18) r
       go (Err i) = let m : entry_at at (j + i) ≡ entry_at (at + j * 18) i = omega arith in λ n. record { broken = m n; height = 0; width = 0 }
-      go (Ok (h , w)) = refl
+      go (Ok (h, w)) = refl
 
   sums_split : (x : Sums) (p s : List ℕ) (j k : ℕ) → length p ≡ j * 18 → sums_of size at x (p ++ s) (j + k) ≡ sums_of size (at + j * 18) (sums_of size at x p j) s k
   sums_split x p s j k l = go (same x.broken 0)

@@ -43,7 +43,7 @@ first s total start k i h w Broken e = rw (e, scan_of)
 -- entries that read alike scan alike; j is added to the number of one that breaks a rule
 abbrev pub numbered : ℕ → Result (ℕ × ℕ) ℕ → Result (ℕ × ℕ) ℕ
 numbered j (Err i) = Err (j + i)
-numbered j (Ok (h , w)) = Ok (h , w)
+numbered j (Ok (h, w)) = Ok (h, w)
 
 alike : (s t : List ℕ) (total a b j k i : ℕ) → ((n : ℕ) → n < k → entry_of s total (entry_at a (j + (i + n))) ≡ entry_of t total (entry_at b (i + n))) →
     (h w : ℕ) → scan_of s total a k (j + i) h w ≡ numbered j (scan_of t total b k i h w)
@@ -69,7 +69,7 @@ alike s t total a b j (suc k) i f h w =
 
 unnumbered : (x : Result (ℕ × ℕ) ℕ) → numbered 0 x ≡ x
 unnumbered (Err i) = let e : 0 + i ≡ i = omega arith in ap Err e
-unnumbered (Ok (h , w)) = refl
+unnumbered (Ok (h, w)) = refl
 
 -- a table that begins behind d bytes of a list
 pub scan_drop : (s : List ℕ) (total d start k h w : ℕ) → scan_of s total (d + start) k 0 h w ≡ scan_of (drop d s) total start k 0 h w
@@ -90,7 +90,7 @@ scan_front p s total k h w l =
 -- in two goes
 abbrev pub goes_on : (ℕ → ℕ → Result (ℕ × ℕ) ℕ) → Result (ℕ × ℕ) ℕ → Result (ℕ × ℕ) ℕ
 goes_on f (Err i) = Err i
-goes_on f (Ok (h , w)) = f h w
+goes_on f (Ok (h, w)) = f h w
 
 two_goes : (s : List ℕ) (total start j k i h w : ℕ) →
     scan_of s total start (j + k) i h w ≡ goes_on (λ a b. scan_of s total start k (j + i) a b) (scan_of s total start j i h w)
@@ -125,7 +125,7 @@ scan_split s total j k h w =
 
     go : (x : Result (ℕ × ℕ) ℕ) → goes_on (λ a b. scan_of s total 0 k (j + 0) a b) x ≡ goes_on (λ a b. numbered j (scan_of (drop (j * 18) s) total 0 k 0 a b)) x
     go (Err i) = refl
-    go (Ok (a , b)) = next a b
+    go (Ok (a, b)) = next a b
 
 -- the sums brought along
 larger_larger : (a b c : ℕ) → larger (larger a b) c ≡ larger a (larger b c)
@@ -142,7 +142,7 @@ larger_none a = let k : 0 ≤ a = omega arith in rw (le-ltb a 0 k)
 
 abbrev pub raised : ℕ → ℕ → Result (ℕ × ℕ) ℕ → Result (ℕ × ℕ) ℕ
 raised a b (Err i) = Err i
-raised a b (Ok (h , w)) = Ok ((larger a h) , (larger b w))
+raised a b (Ok (h, w)) = Ok ((larger a h), (larger b w))
 
 scan_along : (s : List ℕ) (total start k i a b h w : ℕ) → scan_of s total start k i (larger a h) (larger b w) ≡ raised a b (scan_of s total start k i h w)
 unfolding scan_of

@@ -11,7 +11,7 @@ use Rattle.entryfeed.specs.declared.Fed.{Fed}
 -- what entries say that begin at a place of the file
 abbrev pub after_scan : ℕ → Result (ℕ × ℕ) ℕ → Sums
 after_scan at (Err i) = record { broken = entry_at at i; height = 0; width = 0 }
-after_scan at (Ok (h , w)) = record { broken = 0; height = h; width = w }
+after_scan at (Ok (h, w)) = record { broken = 0; height = h; width = w }
 
 -- the sums with k entries more, at the front of q, which begins at a place of the file; the first broken entry stays the first
 unfoldable pub sums_of : ℕ → ℕ → Sums → List ℕ → ℕ → Sums

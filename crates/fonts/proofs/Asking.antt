@@ -16,7 +16,7 @@ module _ (s : List ℕ) (answer : Font → Result ℕ Refusal) where
   same (Ok f) = refl
   same (Err r) = refl
 
-  pub table_asked : (t : Bool) (f : Font) → Ok (t , f) ≡ to_table (through_bare s) → after_tail answer (tabled s f) ≡ asked Err answer (check_of s)
+  pub table_asked : (t : Bool) (f : Font) → Ok (t, f) ≡ to_table (through_bare s) → after_tail answer (tabled s f) ≡ asked Err answer (check_of s)
   table_asked t f e = same (tabled s f) ∙ ap (asked Err answer) (table_after s (Ok f) (came_to s t f e))
 
   pub none_asked : (r : Refusal) → Err r ≡ to_table (through_bare s) → Err r ≡ asked Err answer (check_of s)

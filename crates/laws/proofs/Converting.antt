@@ -109,7 +109,7 @@ rows_alike s o p q h w hp hq wp wq e i = go (below i h)
     go (inl a) = row_of_lem s p hp wp a ∙ ap (λ (x : List ℕ). take (row_bytes w) (drop (i * row_bytes w) x)) e ∙ sym (row_of_lem o q hq wq a)
     go (inr a) = ap (view_of s) (sym (row_below p i (omega (arith, a, hp)))) ∙ ap (view_of o) (row_below q i (omega (arith, a, hq)))
 
-module _ (c : Conversion) (s : List ℕ) (f : Font) (n : ℕ) (y : Bytes s) (e : prepared_of c s ≡ Ok (f , n)) where
+module _ (c : Conversion) (s : List ℕ) (f : Font) (n : ℕ) (y : Bytes s) (e : prepared_of c s ≡ Ok (f, n)) where
   abbrev tl : List ℕ
   tl = table_in c (tail_of s f)
 
@@ -282,7 +282,7 @@ pub one_font : (x : List ℕ) (a b : Font) → check_of x ≡ Ok a → check_of 
 one_font x a b p r = let z : Ok a ≡ Ok b = sym p ∙ r in cc
 
 -- written back as the kind that it was, it is the file that it was
-module _ (c d : Conversion) (s : List ℕ) (f : Font) (n : ℕ) (y : Bytes s) (e : prepared_of c s ≡ Ok (f , n)) (g : Font) (k : ℕ) (q : prepared_of d (output_of c s f) ≡ Ok (g , k))
+module _ (c d : Conversion) (s : List ℕ) (f : Font) (n : ℕ) (y : Bytes s) (e : prepared_of c s ≡ Ok (f, n)) (g : Font) (k : ℕ) (q : prepared_of d (output_of c s f) ≡ Ok (g, k))
     (same : target_kind d ≡ source_kind c) where
   abbrev out : List ℕ
   out = output_of c s f
@@ -384,28 +384,28 @@ module _ (c : Conversion) (s xs : List ℕ) where
   pub stays : (r : Refusal) → converted_of c s (length xs) ≡ Err r → converted_into c s xs ≡ xs
   stays r e = go (prepared_of c s) refl
     where
-      by_room : (f : Font) (n : ℕ) → prepared_of c s ≡ Ok (f , n) → (length xs < n) ⊎ (n ≤ length xs) → converted_into c s xs ≡ xs
+      by_room : (f : Font) (n : ℕ) → prepared_of c s ≡ Ok (f, n) → (length xs < n) ⊎ (n ≤ length xs) → converted_into c s xs ≡ xs
       by_room f n q (inl l) = sym (no_room c s xs f n q l).1
       by_room f n q (inr l) = not_both _ n r (sym (wrote c s xs f n q l).0) e
 
       go : (p : Result (Font × ℕ) Refusal) → prepared_of c s ≡ p → converted_into c s xs ≡ xs
-      go (Ok (f , n)) q = by_room f n q (below (length xs) n)
+      go (Ok (f, n)) q = by_room f n q (below (length xs) n)
       go (Err u) q = sym (unprepared c s xs u q).1
 
   -- an answer that something was written comes from a font that the conversion was ready for
-  pub readied : (n : ℕ) → converted_of c s (length xs) ≡ Ok n → (f : Font) × (prepared_of c s ≡ Ok (f , n)) × (converted_into c s xs ≡ over (output_of c s f) xs)
+  pub readied : (n : ℕ) → converted_of c s (length xs) ≡ Ok n → (f : Font) × (prepared_of c s ≡ Ok (f, n)) × (converted_into c s xs ≡ over (output_of c s f) xs)
   readied n e = go (prepared_of c s) refl
     where
       same_length : (k : ℕ) → ◌≡◌ {A = Result ℕ Refusal} (Ok k) (Ok n) → k ≡ n
       same_length k z = cc
 
-      by_room : (f : Font) (k : ℕ) → prepared_of c s ≡ Ok (f , k) → (length xs < k) ⊎ (k ≤ length xs) →
-          (f : Font) × (prepared_of c s ≡ Ok (f , n)) × (converted_into c s xs ≡ over (output_of c s f) xs)
+      by_room : (f : Font) (k : ℕ) → prepared_of c s ≡ Ok (f, k) → (length xs < k) ⊎ (k ≤ length xs) →
+          (f : Font) × (prepared_of c s ≡ Ok (f, n)) × (converted_into c s xs ≡ over (output_of c s f) xs)
       by_room f k q (inl l) = not_both _ n _ e (sym (no_room c s xs f k q l).0)
-      by_room f k q (inr l) = let w = wrote c s xs f k q l in (f, q ∙ ap (λ (m : ℕ). Ok (f , m)) (same_length k (w.0 ∙ e)), sym w.1)
+      by_room f k q (inr l) = let w = wrote c s xs f k q l in (f, q ∙ ap (λ (m : ℕ). Ok (f, m)) (same_length k (w.0 ∙ e)), sym w.1)
 
-      go : (p : Result (Font × ℕ) Refusal) → prepared_of c s ≡ p → (f : Font) × (prepared_of c s ≡ Ok (f , n)) × (converted_into c s xs ≡ over (output_of c s f) xs)
-      go (Ok (f , k)) q = by_room f k q (below (length xs) k)
+      go : (p : Result (Font × ℕ) Refusal) → prepared_of c s ≡ p → (f : Font) × (prepared_of c s ≡ Ok (f, n)) × (converted_into c s xs ≡ over (output_of c s f) xs)
+      go (Ok (f, k)) q = by_room f k q (below (length xs) k)
       go (Err u) q = not_both _ n u e (sym (unprepared c s xs u q).0)
 
   module _ (n : ℕ) (y : Bytes s) (e : converted_of c s (length xs) ≡ Ok n) where
@@ -453,7 +453,7 @@ module _ (c d : Conversion) (s xs ys : List ℕ) (n k : ℕ) (y : Bytes s) (e : 
       (a.font, a.sound, keeps_twice s (take n (converted_into c s xs)) _ a.font b.font (target_kind c) (target_kind d) a.keeps b.sound b.keeps)
 
   -- the second output is the first's, converted
-  back_is : (f g : Font) × (prepared_of c s ≡ Ok (f , n)) × (prepared_of d (output_of c s f) ≡ Ok (g , k))
+  back_is : (f g : Font) × (prepared_of c s ≡ Ok (f, n)) × (prepared_of d (output_of c s f) ≡ Ok (g, k))
       × (take k (converted_into d (take n (converted_into c s xs)) ys) ≡ output_of d (output_of c s f) g)
   back_is =
       let w = readied c s xs n e in

@@ -151,7 +151,7 @@ module _ (s : List ℕ) (after : Font → Said Font → Type 0) (x : Said Font) 
         row_at (inl (i, b))
         (λ k q. stop _ there ∙ ap (λ (j : ℕ). refuses 9 (entry_at (le32 s 8) j)) (one_broken s (le32 s 20) (le32 s 16) (le32 s 8) i k b q))
         (λ n. absurd (n i b))
-    entry_rows (Ok (p , q)) e there =
+    entry_rows (Ok (p, q)) e there =
         let f = vfont2_font (fields_of s) in
         let g = scan_greatest s (le32 s 20) (le32 s 16) (le32 s 8) p q e in
         row_at (inr (λ i b. g.0 i b.within b.breaks)) (λ i b. absurd (g.0 i b.within b.breaks)) (λ none.

@@ -86,7 +86,7 @@ early_greatest f h w = or_else _ _ _ (omega arith) (or_else _ _ _ (omega arith) 
 
 early_scanned : (f : Font) (r : Result (ℕ × ℕ) ℕ) → Early (scanned f r)
 early_scanned f (Err i) = omega arith
-early_scanned f (Ok (h , w)) = early_greatest f h w
+early_scanned f (Ok (h, w)) = early_greatest f h w
 
 early_entries : (s : List ℕ) (f : Font) → Early (entries_of s f)
 unfolding entries_of

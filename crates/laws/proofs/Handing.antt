@@ -93,7 +93,7 @@ OfSuits s (Ok tt) = Unit {0}
 OfSuits s (Err r) = Tells s r
 
 abbrev OfPrepared : List ℕ → Result (Font × ℕ) Refusal → Type 0
-OfPrepared s (Ok (f , n)) = Unit {0}
+OfPrepared s (Ok (f, n)) = Unit {0}
 OfPrepared s (Err r) = Tells s r
 
 abbrev pub OfConverted : List ℕ → Result ℕ Refusal → Type 0
@@ -269,7 +269,7 @@ module _ (s : List ℕ) (y : Bytes s) where
   conversion_told c m = go (prepared_of c s) (prepared c)
     where
       go : (p : Result (Font × ℕ) Refusal) → OfPrepared s p → OfConverted s (converted p m)
-      go (Ok (f , n)) a = by_when (OfConverted s) _ _ _ (from_20 s _ _ (omega arith)) tt
+      go (Ok (f, n)) a = by_when (OfConverted s) _ _ _ (from_20 s _ _ (omega arith)) tt
       go (Err r) a = a
 
 -- the edits, on a font in the first len bytes of a buffer

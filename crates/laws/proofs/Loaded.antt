@@ -124,7 +124,7 @@ module _ (f : Font) (s : List ℕ) (w : Parts f) (within : f.end ≤ length s) w
     tells : (r : Result (ℕ × ℕ) ℕ) → kind_told f (after_scan f.entries r) Vfont2 ≡ scanned f r
     unfolding when
     tells (Err i) = let z : entry_at f.entries i ≡ 0 → ⊥ = λ e. omega (arith, w.0) in rw (ne_eqb (entry_at f.entries i) 0 z, numbered f.entries i)
-    tells (Ok (h , g)) = refl
+    tells (Ok (h, g)) = refl
 
   entries_told_lem : entries_told f (entries_in f 0 (held_of []) no_sums s).sums ≡ entries_of s f
   unfolding entries_told entries_of
@@ -226,7 +226,7 @@ same_font s f = by f.kind
   where
     told_scan : (r : Result (ℕ × ℕ) ℕ) → SoundIs f (scanned f r)
     told_scan (Err i) = tt
-    told_scan (Ok (h , w)) = by_when (SoundIs f) _ _ _ tt (by_when (SoundIs f) _ _ _ tt refl)
+    told_scan (Ok (h, w)) = by_when (SoundIs f) _ _ _ tt (by_when (SoundIs f) _ _ _ tt refl)
 
     by : (k : Kind) → SoundIs f (kind_entries s f k)
     by Psf1 = refl

@@ -176,7 +176,7 @@ module _ (s : List ℕ) where
     scan : (x : Result (ℕ × ℕ) ℕ) → scan_of s f.size f.entries f.count 0 0 0 ≡ x → Numbered s (scanned f x)
     unfolding greatest_of
     scan (Err i) e = at_start 9 i (inl refl) (scan_broken s f.size f.count f.entries i e).within
-    scan (Ok (h , w)) e = or_else _ _ _ (in_header 24 (omega arith)) (or_else _ _ _ (in_header 28 (omega arith)) tt)
+    scan (Ok (h, w)) e = or_else _ _ _ (in_header 24 (omega arith)) (or_else _ _ _ (in_header 28 (omega arith)) tt)
 
   entries : (f : Font) → through_body s ≡ Ok f → Numbered s (entries_of s f)
   unfolding entries_of

@@ -79,5 +79,5 @@ well_formed_exactly s = (formed_is s, λ (v, h, e). subst WellFormed (sym e) (is
 
 -- the one reader of a value (`utf8::read_value`) gives v, l bytes long, exactly when v is a value (a scalar value and no noncharacter), l its length,
 -- and the bytes begin with its bytes
-pub read_exactly : (s : List ℕ) → Bytes s → (v l : ℕ) → (read_value s ≡ Ok (v , l)) ↔ (Utf8Value v × (l ≡ length (utf8_bytes v)) × Begins (utf8_bytes v) s)
+pub read_exactly : (s : List ℕ) → Bytes s → (v l : ℕ) → (read_value s ≡ Ok (v, l)) ↔ (Utf8Value v × (l ≡ length (utf8_bytes v)) × Begins (utf8_bytes v) s)
 read_exactly = reader.value_exactly

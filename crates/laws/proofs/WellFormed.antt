@@ -123,21 +123,21 @@ module _ (v : ℕ) where
       go (inr a) (inr b) (inr c) = subst WellFormed (sym (bytes4 v c)) (is_four c (top s) (below v 0x40000) (below v 0x100000))
 
 -- what is read as a value is no mark
-not_mark : (b : ℕ) (t : List ℕ) (v l : ℕ) → b < 256 → read_value (b ∷ t) ≡ Ok (v , l) → b < 245
+not_mark : (b : ℕ) (t : List ℕ) (v l : ℕ) → b < 256 → read_value (b ∷ t) ≡ Ok (v, l) → b < 245
 not_mark b t v l h e = go (below b 245)
   where
     go : (b < 245) ⊎ (245 ≤ b) → b < 245
     go (inl k) = k
-    go (inr k) = let r = no_value (b ∷ t) (omega arith) _ (row_y b k h) refl in let z : Err (Bad 0) ≡ Ok (v , l) = r ∙ e in let y : ◌≡◌ {A = ℕ} 0 1 = cc in absurd (omega arith)
+    go (inr k) = let r = no_value (b ∷ t) (omega arith) _ (row_y b k h) refl in let z : Err (Bad 0) ≡ Ok (v, l) = r ∙ e in let y : ◌≡◌ {A = ℕ} 0 1 = cc in absurd (omega arith)
 
 -- the reader of one value and that of one token agree on a value
-value_token : (s : List ℕ) → Bytes s → (v l : ℕ) → read_value s ≡ Ok (v , l) → read_utf8 s ≡ Value v l
+value_token : (s : List ℕ) → Bytes s → (v l : ℕ) → read_value s ≡ Ok (v, l) → read_utf8 s ≡ Value v l
 value_token [] y v l e = let z = no_bytes [] refl ∙ e in let x : ◌≡◌ {A = ℕ} 0 1 = cc in absurd (omega arith)
 value_token (b ∷ t) y v l e =
     let h = not_mark b t v l y.0 e in
     sym (no_mark (b ∷ t) (omega arith) (λ z. absurd (omega arith)) (λ z. absurd (omega arith))) ∙ ap as_token e
 
-token_value : (s : List ℕ) → Bytes s → (v l : ℕ) → read_utf8 s ≡ Value v l → read_value s ≡ Ok (v , l)
+token_value : (s : List ℕ) → Bytes s → (v l : ℕ) → read_utf8 s ≡ Value v l → read_value s ≡ Ok (v, l)
 token_value [] y v l e = let z = empty [] refl ∙ e in let x : ◌≡◌ {A = ℕ} 0 1 = cc in absurd (omega arith)
 token_value (b ∷ t) y v l e =
     let h : b < 254 = rw e at (first_byte b t y.0) in
@@ -146,14 +146,14 @@ token_value (b ∷ t) y v l e =
 begins_rest : (p s : List ℕ) → Begins p s → s ≡ p ++ drop (length p) s
 begins_rest p s b = sym (take-append-drop (length p) s) ∙ ap (λ (x : List ℕ). x ++ drop (length p) s) b
 
-pub value_exactly : (s : List ℕ) → Bytes s → (v l : ℕ) → (read_value s ≡ Ok (v , l)) ↔ (Utf8Value v × (l ≡ length (utf8_bytes v)) × Begins (utf8_bytes v) s)
+pub value_exactly : (s : List ℕ) → Bytes s → (v l : ℕ) → (read_value s ≡ Ok (v, l)) ↔ (Utf8Value v × (l ≡ length (utf8_bytes v)) × Begins (utf8_bytes v) s)
 value_exactly s y v l = (there, back)
   where
-    there : read_value s ≡ Ok (v , l) → Utf8Value v × (l ≡ length (utf8_bytes v)) × Begins (utf8_bytes v) s
+    there : read_value s ≡ Ok (v, l) → Utf8Value v × (l ≡ length (utf8_bytes v)) × Begins (utf8_bytes v) s
     there e =
         let w = coded_utf8.read_value_lem s y v l (value_token s y v l e) in
         (w.0, w.1, ap (take (length (utf8_bytes v))) w.2 ∙ take-append_seam (utf8_bytes v) (drop l s))
 
-    back : Utf8Value v × (l ≡ length (utf8_bytes v)) × Begins (utf8_bytes v) s → read_value s ≡ Ok (v , l)
+    back : Utf8Value v × (l ≡ length (utf8_bytes v)) × Begins (utf8_bytes v) s → read_value s ≡ Ok (v, l)
     back (p, e, b) =
         token_value s y v l (ap read_utf8 (begins_rest (utf8_bytes v) s b) ∙ coded_utf8.value_read v (drop (length (utf8_bytes v)) s) p ∙ ap (Value v) (sym e))

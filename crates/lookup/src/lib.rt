@@ -115,7 +115,13 @@ fn looked_by(w: Option<usize>, a: Result<(), Fault>) -> Result<Option<usize>, Fa
 
 // Checks a table of n descriptions and looks for the first of vs as a single, or for the sequence vs, in one pass: it goes over what plainly stands
 // there, up to each value with the key of the first of vs. Asks for some value.
-fn look(c: Coding, tail: &[u8], n: usize, sequence: bool, vs: &[u32]) -> Result<Option<usize>, Fault>
+fn look(
+    c: Coding,
+    tail: &[u8],
+    n: usize,
+    sequence: bool,
+    vs: &[u32],
+) -> Result<Option<usize>, Fault>
     requires { 1 ≤ length vs.now }
     ensures { result ≡ looked_of (find_asked sequence vs.now (items_in c tail.now)) (table_of c n tail.now) }
 {

@@ -98,10 +98,10 @@ module _ (s : List ℕ) (f : Font) where
   bare_sound e h = nothing_after h ∙ bare e
 
   -- up to a table, and the table
-  with_flag : (b : Bool) → f.table ≡ b → Ok (b , f) ≡ to_table (Ok f)
-  with_flag b e = ap (λ (x : Bool). Ok (x , f)) (sym e)
+  with_flag : (b : Bool) → f.table ≡ b → Ok (b, f) ≡ to_table (Ok f)
+  with_flag b e = ap (λ (x : Bool). Ok (x, f)) (sym e)
 
-  pub reached_table : f.table ≡ true → Ok (true , f) ≡ to_table (unless_table s f)
+  pub reached_table : f.table ≡ true → Ok (true, f) ≡ to_table (unless_table s f)
   unfolding unless_table
   reached_table e = with_flag true e ∙ ap to_table (let g : Ok f ≡ pick f.table (Ok f) (bare_of s f) = rw e in g)
 
@@ -112,7 +112,7 @@ module _ (s : List ℕ) (f : Font) where
   pub reached_trailing : f.table ≡ false → f.end < length s → Err (refusal Trailing f.end) ≡ to_table (unless_table s f)
   reached_trailing e h = ap to_table (bytes_after h ∙ unless_bare e)
 
-  pub reached_end : f.table ≡ false → length s ≤ f.end → Ok (false , f) ≡ to_table (unless_table s f)
+  pub reached_end : f.table ≡ false → length s ≤ f.end → Ok (false, f) ≡ to_table (unless_table s f)
   reached_end e h = with_flag false e ∙ ap to_table (nothing_after h ∙ unless_bare e)
 
   pub tabled_by : (b : Bool) → f.table ≡ b → (a : Result (Unit {0}) Refusal) → a ≡ pick b (table_tail s f) (Ok tt) → passed f a ≡ tabled s f
@@ -165,9 +165,9 @@ module _ (s : List ℕ) where
       go (Ok f) = sym (in_two s f)
       go (Err r) = refl
 
-came : (y : Result Font Refusal) (t : Bool) (f : Font) → Ok (t , f) ≡ to_table y → (y ≡ Ok f) × (f.table ≡ t)
+came : (y : Result Font Refusal) (t : Bool) (f : Font) → Ok (t, f) ≡ to_table y → (y ≡ Ok f) × (f.table ≡ t)
 came (Ok g) t f e =
-    let p : ◌≡◌ {A = Bool × Font} (t , f) (g.table , g) = cc in
+    let p : ◌≡◌ {A = Bool × Font} (t, f) (g.table, g) = cc in
     let h : f ≡ g = ap (λ (x : Bool × Font). x.1) p in
     (ap Ok (sym h), ap (λ (x : Font). x.table) h ∙ sym (ap (λ (x : Bool × Font). x.0) p))
 came (Err r) t f e = let z : ◌≡◌ {A = ℕ} 0 1 = cc in absurd (omega arith)
@@ -178,10 +178,10 @@ came_refused (Err q) r e = let h : q ≡ r = cc in ap Err h
 
 -- what a call that came to the table, and then checked it, knows of the font
 module _ (s : List ℕ) where
-  pub came_to : (t : Bool) (f : Font) → Ok (t , f) ≡ to_table (through_bare s) → through_bare s ≡ Ok f
+  pub came_to : (t : Bool) (f : Font) → Ok (t, f) ≡ to_table (through_bare s) → through_bare s ≡ Ok f
   came_to t f e = (came (through_bare s) t f e).0
 
-  pub checked_by : (t : Bool) (f : Font) → Ok (t , f) ≡ to_table (through_bare s) → (a : Result (Unit {0}) Refusal) → a ≡ pick t (table_tail s f) (Ok tt) → passed f a ≡ check_of s
+  pub checked_by : (t : Bool) (f : Font) → Ok (t, f) ≡ to_table (through_bare s) → (a : Result (Unit {0}) Refusal) → a ≡ pick t (table_tail s f) (Ok tt) → passed f a ≡ check_of s
   checked_by t f e a q = let w = came (through_bare s) t f e in tabled_by s f t w.1 a q ∙ table_after s (Ok f) w.0
 
   pub refused_by : (r : Refusal) → Err r ≡ to_table (through_bare s) → Err r ≡ check_of s
@@ -213,7 +213,7 @@ greatest_gives h w f g e = sound_same f g (passes _ _ _ g (passes _ _ _ g e).1).
 
 scanned_gives : (f g : Font) (x : Result (ℕ × ℕ) ℕ) → scanned f x ≡ Ok g → f ≡ g
 scanned_gives f g (Err i) e = absurd (never _ g e)
-scanned_gives f g (Ok (h , w)) e = greatest_gives h w f g e
+scanned_gives f g (Ok (h, w)) e = greatest_gives h w f g e
 
 entries_gives : (s : List ℕ) → Gives (entries_of s)
 unfolding entries_of
@@ -275,17 +275,17 @@ module _ (s : List ℕ) (f : Font) where
     placed e = body_placed (passed_entries e).0
 
   -- its entries say its greatest height and width
-  right : (x : Result (ℕ × ℕ) ℕ) → scanned f x ≡ Ok f → x ≡ Ok (f.height , f.width)
+  right : (x : Result (ℕ × ℕ) ℕ) → scanned f x ≡ Ok f → x ≡ Ok (f.height, f.width)
   unfolding greatest_of
   right (Err i) e = absurd (never _ f e)
-  right (Ok (h , w)) e =
+  right (Ok (h, w)) e =
       let a = passes _ _ _ f e in
       let b = passes _ _ _ f a.1 in
       let eh : f.height ≡ h = eqb-true _ _ (not-false _ a.0) in
       let ew : f.width ≡ w = eqb-true _ _ (not-false _ b.0) in
-      λ i. Ok ((sym eh i) , (sym ew i))
+      λ i. Ok ((sym eh i), (sym ew i))
 
-  pub scan_right : f.kind ≡ Vfont2 → through_entries s ≡ Ok f → scan_of s f.size f.entries f.count 0 0 0 ≡ Ok (f.height , f.width)
+  pub scan_right : f.kind ≡ Vfont2 → through_entries s ≡ Ok f → scan_of s f.size f.entries f.count 0 0 0 ≡ Ok (f.height, f.width)
   scan_right q e = right _ (entries_of_lem s f Vfont2 q ∙ (passed_entries e).1)
 
 -- what a call above knows of an answer
@@ -300,7 +300,7 @@ module _ (s : List ℕ) (byte : get_or s 3 0 < 256) where
 
   pub reached_placed : (x : Result (Bool × Font) Refusal) → x ≡ to_table (through_bare s) → ToTablePlaced s x
   unfolding through_bare
-  reached_placed (Ok (t , f)) e = placed s f byte (then_sound (through_entries s) (unless_table s) (unless_gives s) f (came_to s t f e)).0
+  reached_placed (Ok (t, f)) e = placed s f byte (then_sound (through_entries s) (unless_table s) (unless_gives s) f (came_to s t f e)).0
   reached_placed (Err r) e = tt
 
   pub checked_placed : (x : Result Font Refusal) → x ≡ check_of s → CheckedPlaced s x

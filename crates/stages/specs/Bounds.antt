@@ -9,5 +9,5 @@ CheckedPlaced s (Ok f) = Placed s f
 CheckedPlaced s (Err r) = Unit {0}
 
 abbrev pub ToTablePlaced : List ℕ → Result (Bool × Font) Refusal → Type 0
-ToTablePlaced s (Ok (t , f)) = Placed s f
+ToTablePlaced s (Ok (t, f)) = Placed s f
 ToTablePlaced s (Err r) = Unit {0}

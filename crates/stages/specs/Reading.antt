@@ -37,7 +37,7 @@ greatest_of f h w =
 -- 9: "a vfont2 entry breaks a rule", place "first such entry's start", and its number
 abbrev pub scanned : Font → Result (ℕ × ℕ) ℕ → Result Font Refusal
 scanned f (Err i) = Err (refusal_at Entry (entry_at f.entries i) i)
-scanned f (Ok (h , w)) = greatest_of f h w
+scanned f (Ok (h, w)) = greatest_of f h w
 
 abbrev pub kind_entries : List ℕ → Font → Kind → Result Font Refusal
 kind_entries s f Psf1 = Ok f
@@ -100,7 +100,7 @@ through_bare s = and_then (through_entries s) (unless_table s)
 
 -- the same, with whether there is a table still to be checked
 abbrev pub to_table : Result Font Refusal → Result (Bool × Font) Refusal
-to_table (Ok f) = Ok (f.table , f)
+to_table (Ok f) = Ok (f.table, f)
 to_table (Err r) = Err r
 
 -- refusals 1 to 12, or what the font is

@@ -102,11 +102,7 @@ fn check_dispatch(file: &[u8], f: Font) -> Result<Font, Refusal>
     let s = entries::scan_entries(file, f.size, f.count, f.entries);
     match s {
         Ok((h, w)) => check_greatest(f, h, w),
-        Err(i) => Err(refusal::refuse_at(
-            Reason::Entry,
-            f.entries + i * Vfont2::ENTRY_LEN,
-            i,
-        )),
+        Err(i) => Err(refusal::refuse_at(Reason::Entry, f.entries + i * Vfont2::ENTRY_LEN, i)),
     }
 }
 

@@ -59,7 +59,7 @@ one_key v h = sym (key_itself v h ∙ utf8_key_lem Utf8 v refl)
 module _ (s : List ℕ) (i k : ℕ) where
   by_length : (r : Result (ℕ × ℕ) Malformed) (l : ℕ) → StepSays Utf8 s i (step_of 1 i (as_token r)) → l ≡ plain_len k r →
       (l ≡ 0 → Other ≡ plain_of Utf8 k (step_of 1 i (as_token r))) × ((l ≡ 0 → ⊥) → PlainValue (i + l) ≡ plain_of Utf8 k (step_of 1 i (as_token r)))
-  by_length (Ok (v , m)) l w e = rw (utf8_key_lem Utf8 v refl) at (go (eqb (utf8_key v) k) e)
+  by_length (Ok (v, m)) l w e = rw (utf8_key_lem Utf8 v refl) at (go (eqb (utf8_key v) k) e)
     where
       go : (t : Bool) → l ≡ pick t 0 m →
           (l ≡ 0 → Other ≡ pick t Other (PlainValue (i + m))) × ((l ≡ 0 → ⊥) → PlainValue (i + l) ≡ pick t Other (PlainValue (i + m)))
@@ -80,13 +80,13 @@ module _ (s : List ℕ) (i k : ℕ) where
 
 -- why a table is refused, by what the reader of a value says
 abbrev pub said : ℕ → ℕ → ℕ → Result (ℕ × ℕ) Malformed → Result (Unit {0}) Fault
-said e g i (Ok (v , l)) = Ok tt
+said e g i (Ok (v, l)) = Ok tt
 said e g i (Err ReadCut) = Err (TableCut e g)
 said e g i (Err (ReadBad k)) = Err (TableBad (i + k) g)
 
 module _ (e g i : ℕ) where
   said_so : (r : Result (ℕ × ℕ) Malformed) → NoValue (step_of 1 i (as_token r)) → said e g i r ≡ refused_of e g (step_of 1 i (as_token r))
-  said_so (Ok (v , l)) n = absurd n
+  said_so (Ok (v, l)) n = absurd n
   said_so (Err ReadCut) n = refl
   said_so (Err (ReadBad k)) n = refl
 

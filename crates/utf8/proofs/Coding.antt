@@ -29,7 +29,7 @@ First b Cut = Unit {0}
 First b (Bad k) = Unit {0}
 
 of_value : (b : ℕ) (x : Result (ℕ × ℕ) Malformed) → b < 254 → First b (as_token x)
-of_value b (Ok (v , l)) h = h
+of_value b (Ok (v, l)) h = h
 of_value b (Err ReadCut) h = tt
 of_value b (Err (ReadBad k)) h = tt
 

@@ -22,24 +22,24 @@ module _ (s : List ℕ) (k lo hi v : ℕ) where
   unfolding conts
   cut l = rw (drop_of_length-le s l)
 
-  turn : k < length s → conts 1 lo hi v k (drop k s) ≡ pick (within lo hi (get_or s k 0)) (Ok ((v * 64 + (get_or s k 0 - 0x80)) , (k + 1))) (Err (Bad k))
+  turn : k < length s → conts 1 lo hi v k (drop k s) ≡ pick (within lo hi (get_or s k 0)) (Ok ((v * 64 + (get_or s k 0 - 0x80)), (k + 1))) (Err (Bad k))
   unfolding conts
   turn l = rw (drop-cons s k 0 l)
 
   pub outside : k < length s → within lo hi (get_or s k 0) ≡ false → Err (Bad k) ≡ conts 1 lo hi v k (drop k s)
   outside l w = sym (turn l ∙ rw w)
 
-  pub inside : k < length s → within lo hi (get_or s k 0) ≡ true → (u : ℕ) → u ≡ v * 64 + (get_or s k 0 - 0x80) → Ok (u , (k + 1)) ≡ conts 1 lo hi v k (drop k s)
+  pub inside : k < length s → within lo hi (get_or s k 0) ≡ true → (u : ℕ) → u ≡ v * 64 + (get_or s k 0 - 0x80) → Ok (u, (k + 1)) ≡ conts 1 lo hi v k (drop k s)
   inside l w u e = sym (turn l ∙ rw (w, e))
 
 -- no byte
-pub reached : (lo hi v k : ℕ) (s : List ℕ) → conts 0 lo hi v k s ≡ Ok (v , k)
+pub reached : (lo hi v k : ℕ) (s : List ℕ) → conts 0 lo hi v k s ≡ Ok (v, k)
 unfolding conts
 reached lo hi v k s = refl
 
 -- what follows a value
 abbrev next : Result (ℕ × ℕ) Malformed → (ℕ → ℕ → Result (ℕ × ℕ) Malformed) → Result (ℕ × ℕ) Malformed
-next (Ok (w , l)) f = f w l
+next (Ok (w, l)) f = f w l
 next (Err t) f = Err t
 
 -- m + 2 bytes are m + 1, and one more
@@ -50,7 +50,7 @@ split zero lo hi v k (b ∷ t) = go (within lo hi b)
   where
     go : (x : Bool) →
         pick x (conts 1 0x80 0xBF (v * 64 + (b - 0x80)) (k + 1) t) (Err (Bad k))
-        ≡ next (pick x (Ok ((v * 64 + (b - 0x80)) , (k + 1))) (Err (Bad k))) (λ w l. conts 1 0x80 0xBF w l t)
+        ≡ next (pick x (Ok ((v * 64 + (b - 0x80)), (k + 1))) (Err (Bad k))) (λ w l. conts 1 0x80 0xBF w l t)
     go true = refl
     go false = refl
 split (suc m) lo hi v k (b ∷ t) = go (within lo hi b) (split m 0x80 0xBF (v * 64 + (b - 0x80)) (k + 1) t)
@@ -65,7 +65,7 @@ split (suc m) lo hi v k (b ∷ t) = go (within lo hi b) (split m 0x80 0xBF (v * 
 
 -- the same by what the bytes before gave, at a place of the whole list
 module _ (s : List ℕ) (m k lo hi v : ℕ) where
-  pub then_value : (w l : ℕ) → Ok (w , l) ≡ conts (suc m) lo hi v k (drop k s) → l ≡ k + suc m →
+  pub then_value : (w l : ℕ) → Ok (w, l) ≡ conts (suc m) lo hi v k (drop k s) → l ≡ k + suc m →
       (r : Result (ℕ × ℕ) Malformed) → r ≡ conts 1 0x80 0xBF w (k + suc m) (drop (k + suc m) s) → r ≡ conts (suc (suc m)) lo hi v k (drop k s)
   then_value w l e q r p =
       let d : drop (suc m) (drop k s) ≡ drop (k + suc m) s = drop-drop (suc m) k s in
@@ -76,7 +76,7 @@ module _ (s : List ℕ) (m k lo hi v : ℕ) where
 
 -- a greater bound
 pub reached_low : (a b k : ℕ) (r : Result (ℕ × ℕ) Malformed) → a ≤ b → Reached a k r → Reached b k r
-reached_low a b k (Ok (v , l)) h p = (omega (arith, p.0), p.1)
+reached_low a b k (Ok (v, l)) h p = (omega (arith, p.0), p.1)
 reached_low a b k (Err t) h p = tt
 
 -- what the test of bounds says

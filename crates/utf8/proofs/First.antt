@@ -79,21 +79,21 @@ pub ascii : (s : List ℕ) → 0 < length s → get_or s 0 0 < 128 → TokenValu
 unfolding conts
 ascii s h k =
     let m : get_or s 0 0 ≡ get_or s 0 0 % 128 = omega arith in
-    let r : Ok ((get_or s 0 0) , 1) ≡ read_value s = permitted_value 0 (get_or s 0 0) 1 (low (get_or s 0 0) (omega arith)) ∙ long_value s h _ (row_1 (get_or s 0 0) (omega arith) k) 0 refl (get_or s 0 0) m in
+    let r : Ok ((get_or s 0 0), 1) ≡ read_value s = permitted_value 0 (get_or s 0 0) 1 (low (get_or s 0 0) (omega arith)) ∙ long_value s h _ (row_1 (get_or s 0 0) (omega arith) k) 0 refl (get_or s 0 0) m in
     ap as_token r ∙ no_mark s h (λ z. absurd (omega arith)) (λ z. absurd (omega arith))
 
 -- a token that is no mark was read as a value
-pub back_value : (x : Result (ℕ × ℕ) Malformed) (v l : ℕ) → as_token x ≡ TokenValue v l → x ≡ Ok (v , l)
-back_value (Ok (w , k)) v l e = let p : w ≡ v = cc in let q : k ≡ l = cc in rw (p, q)
+pub back_value : (x : Result (ℕ × ℕ) Malformed) (v l : ℕ) → as_token x ≡ TokenValue v l → x ≡ Ok (v, l)
+back_value (Ok (w, k)) v l e = let p : w ≡ v = cc in let q : k ≡ l = cc in rw (p, q)
 back_value (Err Cut) v l e = let z : ◌≡◌ {A = ℕ} 0 1 = cc in absurd (omega arith)
 back_value (Err (Bad j)) v l e = let z : ◌≡◌ {A = ℕ} 0 1 = cc in absurd (omega arith)
 
 pub back_cut : (x : Result (ℕ × ℕ) Malformed) → as_token x ≡ TokenCut → x ≡ Err Cut
-back_cut (Ok (w , k)) e = let z : ◌≡◌ {A = ℕ} 0 1 = cc in absurd (omega arith)
+back_cut (Ok (w, k)) e = let z : ◌≡◌ {A = ℕ} 0 1 = cc in absurd (omega arith)
 back_cut (Err Cut) e = refl
 back_cut (Err (Bad j)) e = let z : ◌≡◌ {A = ℕ} 0 1 = cc in absurd (omega arith)
 
 pub back_bad : (x : Result (ℕ × ℕ) Malformed) (k : ℕ) → as_token x ≡ TokenBad k → x ≡ Err (Bad k)
-back_bad (Ok (w , j)) k e = let z : ◌≡◌ {A = ℕ} 0 1 = cc in absurd (omega arith)
+back_bad (Ok (w, j)) k e = let z : ◌≡◌ {A = ℕ} 0 1 = cc in absurd (omega arith)
 back_bad (Err Cut) k e = let z : ◌≡◌ {A = ℕ} 0 1 = cc in absurd (omega arith)
 back_bad (Err (Bad j)) k e = let p : j ≡ k = cc in rw p

@@ -156,7 +156,7 @@ module _ (key : ℕ) (s : List ℕ) (at b lo hi : ℕ) where
     fourth g h = ap (permitted_at 3) (sym (goes s (at + 3) i 0 128 191 ((b % (lead_of b).modulus * 64 + (get_or s (at + 1) 0 - 0x80)) * 64 + (get_or s (at + 2) 0 - 0x80)) 3 g h (at + 4) (omega arith))) ∙ third 1 p (omega arith) (w.0, w.1) w.2 w.3
 
   -- the whole value, with z its last byte, of l bytes
-  module _ (j v l u z : ℕ) (q : v ≡ u * 64 + (z - 128)) (g : 2 ≤ u) (w : (128 ≤ z) × (z ≤ 191)) (e : permitted_at j (Ok (v , l)) ≡ read_value (drop at s)) (h : at + l ≤ length s) where
+  module _ (j v l u z : ℕ) (q : v ≡ u * 64 + (z - 128)) (g : 2 ≤ u) (w : (128 ≤ z) × (z ≤ 191)) (e : permitted_at j (Ok (v, l)) ≡ read_value (drop at s)) (h : at + l ≤ length s) where
     whole_met : z ≡ key → Told key s at 0
     whole_met k = (key_met key j v l z (ap utf8_key q ∙ key_last u z g w.0 (omega (arith, w.1))) k ∙ ap (plain_len key) e, omega arith)
 
@@ -172,9 +172,9 @@ module _ (key : ℕ) (s : List ℕ) (at b lo hi : ℕ) where
     two_asks : (194 ≤ b) × (b < 224) × (128 ≤ get_or s (at + 1) 0) × (get_or s (at + 1) 0 ≤ 191)
     two_asks = let k = row_two b h p.2 in omega (arith, k.from, k.to, k.low, k.high, p.3, p.4, w.0, w.1)
 
-    two_read : permitted_at 1 (Ok ((b % 32 * 64 + (get_or s (at + 1) 0 - 128)) , 2)) ≡ read_value (drop at s)
+    two_read : permitted_at 1 (Ok ((b % 32 * 64 + (get_or s (at + 1) 0 - 128)), 2)) ≡ read_value (drop at s)
     two_read =
-        subst (λ (m : ℕ). permitted_at 1 (Ok ((b % m * 64 + (get_or s (at + 1) 0 - 128)) , 2)) ≡ read_value (drop at s)) (row_two b h p.2).by
+        subst (λ (m : ℕ). permitted_at 1 (Ok ((b % m * 64 + (get_or s (at + 1) 0 - 128)), 2)) ≡ read_value (drop at s)) (row_two b h p.2).by
         (ap (permitted_at 1) (sym (reached 128 191 (b % (lead_of b).modulus * 64 + (get_or s (at + 1) 0 - 128)) 2 (drop (at + 2) s))) ∙ second 0 p i w.0 w.1)
 
     pub two_met : get_or s (at + 1) 0 ≡ key → Told key s at 0
@@ -194,9 +194,9 @@ module _ (key : ℕ) (s : List ℕ) (at b lo hi : ℕ) where
     three_some : 2 ≤ b % 16 * 64 + (get_or s (at + 1) 0 - 128)
     three_some = let k = row_three b h p.2 in omega (arith, k.some, p.3, w.0)
 
-    three_read : permitted_at 2 (Ok (((b % 16 * 64 + (get_or s (at + 1) 0 - 128)) * 64 + (get_or s (at + 2) 0 - 128)) , 3)) ≡ read_value (drop at s)
+    three_read : permitted_at 2 (Ok (((b % 16 * 64 + (get_or s (at + 1) 0 - 128)) * 64 + (get_or s (at + 2) 0 - 128)), 3)) ≡ read_value (drop at s)
     three_read =
-        subst (λ (m : ℕ). permitted_at 2 (Ok (((b % m * 64 + (get_or s (at + 1) 0 - 128)) * 64 + (get_or s (at + 2) 0 - 128)) , 3)) ≡ read_value (drop at s)) (row_three b h p.2).by
+        subst (λ (m : ℕ). permitted_at 2 (Ok (((b % m * 64 + (get_or s (at + 1) 0 - 128)) * 64 + (get_or s (at + 2) 0 - 128)), 3)) ≡ read_value (drop at s)) (row_three b h p.2).by
         (ap (permitted_at 2) (sym (reached 128 191 ((b % (lead_of b).modulus * 64 + (get_or s (at + 1) 0 - 128)) * 64 + (get_or s (at + 2) 0 - 128)) 3 (drop (at + 3) s))) ∙ third 0 p i (w.0, w.1) w.2 w.3)
 
     pub three_met : get_or s (at + 2) 0 ≡ key → Told key s at 0
@@ -212,9 +212,9 @@ module _ (key : ℕ) (s : List ℕ) (at b lo hi : ℕ) where
         × (16 ≤ b % 8 * 64 + (get_or s (at + 1) 0 - 128))
     four_asks = let k = row_four b h p.2 in omega (arith, k.from, k.to, k.low, k.high, k.some, p.3, p.4, w.0, w.1, w.2, w.3, w.4, w.5)
 
-    four_read : permitted_at 3 (Ok ((((b % 8 * 64 + (get_or s (at + 1) 0 - 128)) * 64 + (get_or s (at + 2) 0 - 128)) * 64 + (get_or s (at + 3) 0 - 128)) , 4)) ≡ read_value (drop at s)
+    four_read : permitted_at 3 (Ok ((((b % 8 * 64 + (get_or s (at + 1) 0 - 128)) * 64 + (get_or s (at + 2) 0 - 128)) * 64 + (get_or s (at + 3) 0 - 128)), 4)) ≡ read_value (drop at s)
     four_read =
-        subst (λ (m : ℕ). permitted_at 3 (Ok ((((b % m * 64 + (get_or s (at + 1) 0 - 128)) * 64 + (get_or s (at + 2) 0 - 128)) * 64 + (get_or s (at + 3) 0 - 128)) , 4)) ≡ read_value (drop at s)) (row_four b h p.2).by
+        subst (λ (m : ℕ). permitted_at 3 (Ok ((((b % m * 64 + (get_or s (at + 1) 0 - 128)) * 64 + (get_or s (at + 2) 0 - 128)) * 64 + (get_or s (at + 3) 0 - 128)), 4)) ≡ read_value (drop at s)) (row_four b h p.2).by
         (ap (permitted_at 3) (sym (reached 128 191 (((b % (lead_of b).modulus * 64 + (get_or s (at + 1) 0 - 128)) * 64 + (get_or s (at + 2) 0 - 128)) * 64 + (get_or s (at + 3) 0 - 128)) 4 (drop (at + 4) s))) ∙ fourth p i (w.0, w.1, w.2, w.3) w.4 w.5)
 
     pub four_met : get_or s (at + 3) 0 ≡ key → Told key s at 0

@@ -44,19 +44,19 @@ mark_bad s h b e g k = sym (no_value s h (lead_row 0 1 128 191) (row_y (get_or s
 
 -- the length of what was read, by its last byte z
 module _ (key j v l z : ℕ) (e : utf8_key v ≡ z) where
-  pub key_met : z ≡ key → 0 ≡ plain_len key (permitted_at j (Ok (v , l)))
+  pub key_met : z ≡ key → 0 ≡ plain_len key (permitted_at j (Ok (v, l)))
   unfolding permitted_at
   key_met q = go (is_noncharacter v)
     where
-      go : (t : Bool) → 0 ≡ plain_len key (pick t (Err (Bad j)) (Ok (v , l)))
+      go : (t : Bool) → 0 ≡ plain_len key (pick t (Err (Bad j)) (Ok (v, l)))
       go true = refl
       go false = rw (eq-eqb (utf8_key v) key (e ∙ q))
 
-  pub key_other : (z ≡ key → ⊥) → pick (is_noncharacter v) 0 l ≡ plain_len key (permitted_at j (Ok (v , l)))
+  pub key_other : (z ≡ key → ⊥) → pick (is_noncharacter v) 0 l ≡ plain_len key (permitted_at j (Ok (v, l)))
   unfolding permitted_at
   key_other n = go (is_noncharacter v)
     where
-      go : (t : Bool) → pick t 0 l ≡ plain_len key (pick t (Err (Bad j)) (Ok (v , l)))
+      go : (t : Bool) → pick t 0 l ≡ plain_len key (pick t (Err (Bad j)) (Ok (v, l)))
       go true = refl
       go false = rw (ne_eqb (utf8_key v) key (λ q. n (sym e ∙ q)))
 

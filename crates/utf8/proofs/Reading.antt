@@ -32,20 +32,20 @@ record Took (n lo hi v k : ℕ) (s : List ℕ) (w l : ℕ) : Type 0 where
   same : s ≡ byte ∷ rest
   low : lo ≤ byte
   high : byte ≤ hi
-  then : conts n 0x80 0xBF (v * 64 + (byte - 0x80)) (k + 1) rest ≡ Ok (w , l)
+  then : conts n 0x80 0xBF (v * 64 + (byte - 0x80)) (k + 1) rest ≡ Ok (w, l)
 
-took : (n lo hi v k : ℕ) (s : List ℕ) (w l : ℕ) → conts (suc n) lo hi v k s ≡ Ok (w , l) → Took n lo hi v k s w l
+took : (n lo hi v k : ℕ) (s : List ℕ) (w l : ℕ) → conts (suc n) lo hi v k s ≡ Ok (w, l) → Took n lo hi v k s w l
 unfolding conts
 took n lo hi v k [] w l e = let z : ◌≡◌ {A = ℕ} 0 1 = cc in absurd (omega arith)
 took n lo hi v k (b ∷ s) w l e = go (leb lo b) refl (leb b hi) refl e
   where
     go : (x : Bool) → leb lo b ≡ x → (y : Bool) → leb b hi ≡ y →
-        pick (x && y) (conts n 0x80 0xBF (v * 64 + (b - 0x80)) (k + 1) s) (Err (Bad k)) ≡ Ok (w , l) → Took n lo hi v k (b ∷ s) w l
+        pick (x && y) (conts n 0x80 0xBF (v * 64 + (b - 0x80)) (k + 1) s) (Err (Bad k)) ≡ Ok (w, l) → Took n lo hi v k (b ∷ s) w l
     go true p true q f = record { byte = b; rest = s; same = refl; low = leb-true lo b p; high = leb-true b hi q; then = f }
     go true p false q f = let z : ◌≡◌ {A = ℕ} 0 1 = cc in absurd (omega arith)
     go false p y q f = let z : ◌≡◌ {A = ℕ} 0 1 = cc in absurd (omega arith)
 
-last : (lo hi v k : ℕ) (s : List ℕ) (w l : ℕ) → conts 0 lo hi v k s ≡ Ok (w , l) → (w ≡ v) × (l ≡ k)
+last : (lo hi v k : ℕ) (s : List ℕ) (w l : ℕ) → conts 0 lo hi v k s ≡ Ok (w, l) → (w ≡ v) × (l ≡ k)
 unfolding conts
 last lo hi v k s w l e = let p = pair_same v w k l e in (sym p.0, sym p.1)
 
@@ -58,13 +58,13 @@ Written s v l = Utf8Value v × (l ≡ length (utf8_bytes v)) × (s ≡ utf8_byte
 written : (x s : List ℕ) (v l : ℕ) → utf8_bytes v ≡ x → l ≡ length x → Scalar v → Formed (x ++ s) v l
 written x s v l e n u = (u, rw e n, rw (e, drop_at x s l (sym n)))
 
-back1 : (b : ℕ) (t : List ℕ) (v l lo hi : ℕ) → b < 0x80 → conts 0 lo hi (b % 128) 1 t ≡ Ok (v , l) → Formed (b ∷ t) v l
+back1 : (b : ℕ) (t : List ℕ) (v l lo hi : ℕ) → b < 0x80 → conts 0 lo hi (b % 128) 1 t ≡ Ok (v, l) → Formed (b ∷ t) v l
 back1 b t v l lo hi h e =
     let f = last lo hi (b % 128) 1 t v l e in
     let q : v ≡ b = omega (arith, f.0) in
     written (b ∷ []) t v l (bytes1 v (omega arith) ∙ ap (λ (x : ℕ). x ∷ []) q) f.1 (inl (omega arith))
 
-back2 : (b : ℕ) (t : List ℕ) (v l : ℕ) → 0xC2 ≤ b → b < 0xE0 → conts 1 0x80 0xBF (b % 32) 1 t ≡ Ok (v , l) → Formed (b ∷ t) v l
+back2 : (b : ℕ) (t : List ℕ) (v l : ℕ) → 0xC2 ≤ b → b < 0xE0 → conts 1 0x80 0xBF (b % 32) 1 t ≡ Ok (v, l) → Formed (b ∷ t) v l
 back2 b t v l g h e =
     let k = took 0 0x80 0xBF (b % 32) 1 t v l e in
     let f = last 0x80 0xBF (b % 32 * 64 + (k.byte - 0x80)) 2 k.rest v l k.then in
@@ -85,7 +85,7 @@ record Took3 (lo hi x : ℕ) (t : List ℕ) (v l : ℕ) : Type 0 where
   value : v ≡ (x * 64 + (c - 0x80)) * 64 + (d - 0x80)
   long : l ≡ 3
 
-took3 : (lo hi x : ℕ) (t : List ℕ) (v l : ℕ) → conts 2 lo hi x 1 t ≡ Ok (v , l) → Took3 lo hi x t v l
+took3 : (lo hi x : ℕ) (t : List ℕ) (v l : ℕ) → conts 2 lo hi x 1 t ≡ Ok (v, l) → Took3 lo hi x t v l
 took3 lo hi x t v l e =
     let j = took 1 lo hi x 1 t v l e in
     let k = took 0 0x80 0xBF (x * 64 + (j.byte - 0x80)) 2 j.rest v l j.then in
@@ -124,7 +124,7 @@ record Took4 (lo hi x : ℕ) (t : List ℕ) (v l : ℕ) : Type 0 where
   value : v ≡ ((x * 64 + (c - 0x80)) * 64 + (d - 0x80)) * 64 + (f - 0x80)
   long : l ≡ 4
 
-took4 : (lo hi x : ℕ) (t : List ℕ) (v l : ℕ) → conts 3 lo hi x 1 t ≡ Ok (v , l) → Took4 lo hi x t v l
+took4 : (lo hi x : ℕ) (t : List ℕ) (v l : ℕ) → conts 3 lo hi x 1 t ≡ Ok (v, l) → Took4 lo hi x t v l
 took4 lo hi x t v l e =
     let i = took 2 lo hi x 1 t v l e in
     let j = took 1 0x80 0xBF (x * 64 + (i.byte - 0x80)) 2 i.rest v l i.then in
@@ -158,7 +158,7 @@ back4 b t v l lo hi k g h i j m u =
 
 -- from the first byte's lead_row
 module _ (b : ℕ) (t : List ℕ) (v l : ℕ) (e : read_utf8 (b ∷ t) ≡ TokenValue v l) (h : b < 254) where
-  by_row : (r : Lead) → r ≡ lead_of b → (r.len ≡ 0 → ⊥) → conts (r.len - 1) r.lo r.hi (b % r.modulus) 1 t ≡ Ok (v , l)
+  by_row : (r : Lead) → r ≡ lead_of b → (r.len ≡ 0 → ⊥) → conts (r.len - 1) r.lo r.hi (b % r.modulus) 1 t ≡ Ok (v, l)
   by_row r q z = (value_permitted (r.len - 1) _ v l (back_value _ v l (as_value (b ∷ t) (omega arith) (λ p. omega arith) (λ p. omega arith) r q z ∙ e))).0
 
   no_row : (r : Lead) → r ≡ lead_of b → r.len ≡ 0 → Formed (b ∷ t) v l
@@ -210,7 +210,7 @@ module _ (b : ℕ) (t : List ℕ) (v l : ℕ) (e : read_utf8 (b ∷ t) ≡ Token
   unfolding read_value
   none = go (eqb (lead_of b).len 0) (back_value (read_value (b ∷ t)) v l (no_mark (b ∷ t) (omega arith) (λ p. omega arith) (λ p. omega arith) ∙ e))
     where
-      go : (x : Bool) → pick x (Err (Bad 0)) (permitted_at ((lead_of b).len - 1) (conts ((lead_of b).len - 1) (lead_of b).lo (lead_of b).hi (b % (lead_of b).modulus) 1 t)) ≡ Ok (v , l) → Noncharacter v → ⊥
+      go : (x : Bool) → pick x (Err (Bad 0)) (permitted_at ((lead_of b).len - 1) (conts ((lead_of b).len - 1) (lead_of b).lo (lead_of b).hi (b % (lead_of b).modulus) 1 t)) ≡ Ok (v, l) → Noncharacter v → ⊥
       go true f = let z : ◌≡◌ {A = ℕ} 0 1 = cc in absurd (omega arith)
       go false f = (value_permitted ((lead_of b).len - 1) _ v l f).1
 

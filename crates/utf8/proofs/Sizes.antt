@@ -17,7 +17,7 @@ use Rattle.token.specs.declared.Malformed.TheVariants.{Cut, Bad}
 
 -- a value ends at e, and no place is outside the list
 abbrev Ends : ℕ → ℕ → Result (ℕ × ℕ) Malformed → Type 0
-Ends e m (Ok (v , l)) = (l ≡ e) × (e ≤ m)
+Ends e m (Ok (v, l)) = (l ≡ e) × (e ≤ m)
 Ends e m (Err Cut) = Unit {0}
 Ends e m (Err (Bad j)) = j < m
 
@@ -32,7 +32,7 @@ conts_sized (suc n) lo hi v k (b ∷ s) m e q l =
 
 permitted_sized : (k m : ℕ) (r : Result (ℕ × ℕ) Malformed) → Ends (suc k) m r → Sized 1 m (as_token (permitted_at k r))
 unfolding permitted_at
-permitted_sized k m (Ok (v , l)) h =
+permitted_sized k m (Ok (v, l)) h =
     by_test (λ (x : Result (ℕ × ℕ) Malformed). Sized 1 m (as_token x)) (is_noncharacter v) _ _ (λ _. omega (arith, h.1)) (λ _. (omega (arith, h.0), omega (arith, h.0, h.1)))
 permitted_sized k m (Err Cut) h = tt
 permitted_sized k m (Err (Bad j)) h = h
@@ -50,13 +50,13 @@ read_sized (b ∷ s) =
 
 -- the place of a wrong byte is within the list
 abbrev pub Within : ℕ → Result (ℕ × ℕ) Malformed → Type 0
-Within m (Ok (v , l)) = Unit {0}
+Within m (Ok (v, l)) = Unit {0}
 Within m (Err Cut) = Unit {0}
 Within m (Err (Bad j)) = j < m
 
 permitted_within : (k m : ℕ) (r : Result (ℕ × ℕ) Malformed) → Ends (suc k) m r → Within m (permitted_at k r)
 unfolding permitted_at
-permitted_within k m (Ok (v , l)) h = by_test (Within m) (is_noncharacter v) _ _ (λ _. omega (arith, h.0, h.1)) (λ _. tt)
+permitted_within k m (Ok (v, l)) h = by_test (Within m) (is_noncharacter v) _ _ (λ _. omega (arith, h.0, h.1)) (λ _. tt)
 permitted_within k m (Err Cut) h = tt
 permitted_within k m (Err (Bad j)) h = h
 

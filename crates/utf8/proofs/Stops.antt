@@ -44,7 +44,7 @@ two_low b h e = rw (eq-eqb (lead_of b).len 2 e) at (eqb→eq (pick (eqb (lead_of
 record Grown (n lo hi v k : ℕ) (s : List ℕ) : Type 0 where
   more : List ℕ
   value : ℕ
-  reads : conts n lo hi v k (s ++ more) ≡ Ok (value , (k + length (s ++ more)))
+  reads : conts n lo hi v k (s ++ more) ≡ Ok (value, (k + length (s ++ more)))
   -- the last byte's bits are 0, so the value is no noncharacter
   round : 1 ≤ n → (n ≡ 1 → lo ≡ 0x80) → value % 64 ≡ 0
 
@@ -63,7 +63,7 @@ fill (suc (suc n)) lo hi v k h =
     record {
       more = lo ∷ r.more;
       value = r.value;
-      reads = further (suc n) lo hi v k lo r.more (omega arith) h ∙ r.reads ∙ ap (λ (m : ℕ). Ok (r.value , m)) (sym e);
+      reads = further (suc n) lo hi v k lo r.more (omega arith) h ∙ r.reads ∙ ap (λ (m : ℕ). Ok (r.value, m)) (sym e);
       round = λ p q. r.round (omega arith) (λ _. refl);
     }
 
@@ -82,7 +82,7 @@ grow (suc n) lo hi v k (b ∷ s) h e = go (leb lo b) refl (leb b hi) refl e (gro
         record {
           more = r.more;
           value = r.value;
-          reads = further n lo hi v k b (s ++ r.more) (leb-true lo b p) (leb-true b hi q) ∙ r.reads ∙ ap (λ (m : ℕ). Ok (r.value , m)) (sym e);
+          reads = further n lo hi v k b (s ++ r.more) (leb-true lo b p) (leb-true b hi q) ∙ r.reads ∙ ap (λ (m : ℕ). Ok (r.value, m)) (sym e);
           round = λ _ _. r.round (omega arith) (λ _. refl);
         }
     go true p false q f ih = let z : ◌≡◌ {A = ℕ} 0 1 = cc in absurd (omega arith)
@@ -117,17 +117,17 @@ stopped (suc n) lo hi v k (b ∷ s) j e = go (within lo hi b) refl e (stopped n 
 -- a value that is all there: it stays whatever follows, and without its last byte it is cut
 record Whole (n lo hi v k : ℕ) (s : List ℕ) (w l : ℕ) : Type 0 where
   within_list : n ≤ length s
-  kept : (x : List ℕ) → conts n lo hi v k (take n s ++ x) ≡ Ok (w , l)
+  kept : (x : List ℕ) → conts n lo hi v k (take n s ++ x) ≡ Ok (w, l)
   cut : (m : ℕ) → n ≡ suc m → conts n lo hi v k (take m s) ≡ Err Cut
 
-whole : (n lo hi v k : ℕ) (s : List ℕ) (w l : ℕ) → conts n lo hi v k s ≡ Ok (w , l) → Whole n lo hi v k s w l
+whole : (n lo hi v k : ℕ) (s : List ℕ) (w l : ℕ) → conts n lo hi v k s ≡ Ok (w, l) → Whole n lo hi v k s w l
 unfolding conts
 whole zero lo hi v k s w l e = record { within_list = omega arith; kept = λ x. e; cut = λ m q. absurd (omega arith) }
 whole (suc n) lo hi v k [] w l e = let z : ◌≡◌ {A = ℕ} 0 1 = cc in absurd (omega arith)
 whole (suc n) lo hi v k (b ∷ s) w l e = go (within lo hi b) refl e (whole n 0x80 0xBF (v * 64 + (b - 0x80)) (k + 1) s w l)
   where
-    go : (x : Bool) → within lo hi b ≡ x → pick x (conts n 0x80 0xBF (v * 64 + (b - 0x80)) (k + 1) s) (Err (Bad k)) ≡ Ok (w , l) →
-        (conts n 0x80 0xBF (v * 64 + (b - 0x80)) (k + 1) s ≡ Ok (w , l) → Whole n 0x80 0xBF (v * 64 + (b - 0x80)) (k + 1) s w l) → Whole (suc n) lo hi v k (b ∷ s) w l
+    go : (x : Bool) → within lo hi b ≡ x → pick x (conts n 0x80 0xBF (v * 64 + (b - 0x80)) (k + 1) s) (Err (Bad k)) ≡ Ok (w, l) →
+        (conts n 0x80 0xBF (v * 64 + (b - 0x80)) (k + 1) s ≡ Ok (w, l) → Whole n 0x80 0xBF (v * 64 + (b - 0x80)) (k + 1) s w l) → Whole (suc n) lo hi v k (b ∷ s) w l
     go true p f ih = let r = ih f in record { within_list = omega (arith, r.within_list); kept = λ x. rw p (r.kept x); cut = cut_at r }
       where
         cut_at : Whole n 0x80 0xBF (v * 64 + (b - 0x80)) (k + 1) s w l → (m : ℕ) → suc n ≡ suc m → conts (suc n) lo hi v k (take m (b ∷ s)) ≡ Err Cut
@@ -178,7 +178,7 @@ bad_at b t k e = go (eqb b 0xFE) refl (eqb b 0xFF) refl (eqb (lead_of b).len 0) 
         (0, sym w, omega arith, refl, λ x. rw (p, q, r, w))
     go false p false q false r f = by (bad_permitted ((lead_of b).len - 1) (inner b t) k (back_bad _ k f))
       where
-        by : (inner b t ≡ Err (Bad k)) ⊎ ((v l : ℕ) × (inner b t ≡ Ok (v , l)) × Noncharacter v × (k ≡ (lead_of b).len - 1)) → BadAt b t k
+        by : (inner b t ≡ Err (Bad k)) ⊎ ((v l : ℕ) × (inner b t ≡ Ok (v, l)) × Noncharacter v × (k ≡ (lead_of b).len - 1)) → BadAt b t k
         by (inl g) =
             let u = stopped ((lead_of b).len - 1) (lead_of b).lo (lead_of b).hi (b % (lead_of b).modulus) 1 t k g in
             (suc u.good, omega (arith, u.place), omega (arith, u.within_list), rw (p, q, r) (ap (token b) u.cut), λ x. rw (p, q, r) (ap (token b) (u.never x)))

@@ -46,17 +46,17 @@ further n lo hi v k b s g h = rw (le-leb lo b g, le-leb b hi h)
 
 -- a value of n bytes, read
 module _ (b : ℕ) (h : b < 254) (m lo hi : ℕ) where
-  read1 : (s : List ℕ) (v : ℕ) → v ≡ b % m → lead_row 1 m lo hi ≡ lead_of b → read_utf8 (b ∷ s) ≡ as_token (permitted_at 0 (Ok (v , 1)))
+  read1 : (s : List ℕ) (v : ℕ) → v ≡ b % m → lead_row 1 m lo hi ≡ lead_of b → read_utf8 (b ∷ s) ≡ as_token (permitted_at 0 (Ok (v, 1)))
   read1 s v w e = sym (as_value (b ∷ s) (omega arith) (λ p. omega arith) (λ p. omega arith) (lead_row 1 m lo hi) e (λ p. omega arith)) ∙ ap (λ (x : Result (ℕ × ℕ) Malformed). as_token (permitted_at 0 x)) (reached lo hi (b % m) 1 s) ∙ rw w
 
-  read2 : (c : ℕ) (s : List ℕ) (v : ℕ) → v ≡ b % m * 64 + (c - 0x80) → lead_row 2 m lo hi ≡ lead_of b → lo ≤ c → c ≤ hi → read_utf8 (b ∷ c ∷ s) ≡ as_token (permitted_at 1 (Ok (v , 2)))
+  read2 : (c : ℕ) (s : List ℕ) (v : ℕ) → v ≡ b % m * 64 + (c - 0x80) → lead_row 2 m lo hi ≡ lead_of b → lo ≤ c → c ≤ hi → read_utf8 (b ∷ c ∷ s) ≡ as_token (permitted_at 1 (Ok (v, 2)))
   read2 c s v w e p q =
       sym (as_value (b ∷ c ∷ s) (omega arith) (λ p. omega arith) (λ p. omega arith) (lead_row 2 m lo hi) e (λ p. omega arith))
       ∙ ap (λ (x : Result (ℕ × ℕ) Malformed). as_token (permitted_at 1 x)) (further 0 lo hi (b % m) 1 c s p q
       ∙ reached 0x80 0xBF (b % m * 64 + (c - 0x80)) 2 s) ∙ rw w
 
   read3 : (c d : ℕ) (s : List ℕ) (v : ℕ) → v ≡ (b % m * 64 + (c - 0x80)) * 64 + (d - 0x80) → lead_row 3 m lo hi ≡ lead_of b → lo ≤ c → c ≤ hi → 0x80 ≤ d → d ≤ 0xBF →
-      read_utf8 (b ∷ c ∷ d ∷ s) ≡ as_token (permitted_at 2 (Ok (v , 3)))
+      read_utf8 (b ∷ c ∷ d ∷ s) ≡ as_token (permitted_at 2 (Ok (v, 3)))
   read3 c d s v w e p q p' q' =
       sym (as_value (b ∷ c ∷ d ∷ s) (omega arith) (λ p. omega arith) (λ p. omega arith) (lead_row 3 m lo hi) e (λ p. omega arith))
       ∙ ap (λ (x : Result (ℕ × ℕ) Malformed). as_token (permitted_at 2 x)) (further 1 lo hi (b % m) 1 c (d ∷ s) p q
@@ -64,7 +64,7 @@ module _ (b : ℕ) (h : b < 254) (m lo hi : ℕ) where
       ∙ reached 0x80 0xBF ((b % m * 64 + (c - 0x80)) * 64 + (d - 0x80)) 3 s) ∙ rw w
 
   read4 : (c d f : ℕ) (s : List ℕ) (v : ℕ) → v ≡ ((b % m * 64 + (c - 0x80)) * 64 + (d - 0x80)) * 64 + (f - 0x80) → lead_row 4 m lo hi ≡ lead_of b → lo ≤ c → c ≤ hi → 0x80 ≤ d → d ≤ 0xBF → 0x80 ≤ f → f ≤ 0xBF →
-      read_utf8 (b ∷ c ∷ d ∷ f ∷ s) ≡ as_token (permitted_at 3 (Ok (v , 4)))
+      read_utf8 (b ∷ c ∷ d ∷ f ∷ s) ≡ as_token (permitted_at 3 (Ok (v, 4)))
   read4 c d f s v w e p q p' q' p'' q'' =
       sym (as_value (b ∷ c ∷ d ∷ f ∷ s) (omega arith) (λ p. omega arith) (λ p. omega arith) (lead_row 4 m lo hi) e (λ p. omega arith))
       ∙ ap (λ (x : Result (ℕ × ℕ) Malformed). as_token (permitted_at 3 x)) (further 2 lo hi (b % m) 1 c (d ∷ f ∷ s) p q
@@ -74,7 +74,7 @@ module _ (b : ℕ) (h : b < 254) (m lo hi : ℕ) where
 
 -- the bytes of v are read as v, but for noncharacters
 abbrev Reads : ℕ → List ℕ → Type 0
-Reads v s = read_utf8 (utf8_bytes v ++ s) ≡ as_token (permitted_at (length (utf8_bytes v) - 1) (Ok (v , (length (utf8_bytes v)))))
+Reads v s = read_utf8 (utf8_bytes v ++ s) ≡ as_token (permitted_at (length (utf8_bytes v) - 1) (Ok (v, (length (utf8_bytes v)))))
 
 -- a scalar value of each length, written and read
 two : (v : ℕ) (s : List ℕ) → 0x80 ≤ v → v < 0x800 → Reads v s
@@ -89,11 +89,11 @@ three v s g h u = rw (bytes3 v g h) (by (below v 0x1000) (below v 0xD000) (below
     b = 0xE0 + v / 4096
 
     at : (lo hi : ℕ) → lead_row 3 16 lo hi ≡ lead_of (0xE0 + v / 4096) → lo ≤ 0x80 + v / 64 % 64 → 0x80 + v / 64 % 64 ≤ hi →
-        read_utf8 ((0xE0 + v / 4096) ∷ (0x80 + v / 64 % 64) ∷ (0x80 + v % 64) ∷ s) ≡ as_token (permitted_at 2 (Ok (v , 3)))
+        read_utf8 ((0xE0 + v / 4096) ∷ (0x80 + v / 64 % 64) ∷ (0x80 + v % 64) ∷ s) ≡ as_token (permitted_at 2 (Ok (v, 3)))
     at lo hi e p q = read3 (0xE0 + v / 4096) (omega arith) 16 lo hi (0x80 + v / 64 % 64) (0x80 + v % 64) s v (omega arith) e p q (omega arith) (omega arith)
 
     by : (v < 0x1000) ⊎ (0x1000 ≤ v) → (v < 0xD000) ⊎ (0xD000 ≤ v) → (v < 0xE000) ⊎ (0xE000 ≤ v) → (v < 0xD800) ⊎ (0xE000 ≤ v) →
-        read_utf8 ((0xE0 + v / 4096) ∷ (0x80 + v / 64 % 64) ∷ (0x80 + v % 64) ∷ s) ≡ as_token (permitted_at 2 (Ok (v , 3)))
+        read_utf8 ((0xE0 + v / 4096) ∷ (0x80 + v / 64 % 64) ∷ (0x80 + v % 64) ∷ s) ≡ as_token (permitted_at 2 (Ok (v, 3)))
     by (inl x) y z w = at 0xA0 0xBF (row_3a _ (omega arith) (omega arith)) (omega arith) (omega arith)
     by (inr x) (inl y) z w = at 0x80 0xBF (row_3b _ (omega arith) (omega arith)) (omega arith) (omega arith)
     by (inr x) (inr y) (inl z) (inl w) = at 0x80 0x9F (row_3c _ (omega arith) (omega arith)) (omega arith) (omega arith)
@@ -104,7 +104,7 @@ four : (v : ℕ) (s : List ℕ) → 0x10000 ≤ v → v < 0x110000 → Reads v s
 four v s g h = rw (bytes4 v g) (by (below v 0x40000) (below v 0x100000))
   where
     at : (lo hi : ℕ) → lead_row 4 8 lo hi ≡ lead_of (0xF0 + v / 262144) → lo ≤ 0x80 + v / 4096 % 64 → 0x80 + v / 4096 % 64 ≤ hi →
-        read_utf8 ((0xF0 + v / 262144) ∷ (0x80 + v / 4096 % 64) ∷ (0x80 + v / 64 % 64) ∷ (0x80 + v % 64) ∷ s) ≡ as_token (permitted_at 3 (Ok (v , 4)))
+        read_utf8 ((0xF0 + v / 262144) ∷ (0x80 + v / 4096 % 64) ∷ (0x80 + v / 64 % 64) ∷ (0x80 + v % 64) ∷ s) ≡ as_token (permitted_at 3 (Ok (v, 4)))
     at lo hi e p q =
         let x : v / 4096 ≡ v / 64 / 64 = omega arith in
         let y : v / 262144 ≡ v / 4096 / 64 = omega arith in
@@ -112,7 +112,7 @@ four v s g h = rw (bytes4 v g) (by (below v 0x40000) (below v 0x100000))
         read4 (0xF0 + v / 262144) (omega arith) 8 lo hi (0x80 + v / 4096 % 64) (0x80 + v / 64 % 64) (0x80 + v % 64) s v (omega arith) e p q (omega arith) (omega arith) (omega arith) (omega arith)
 
     by : (v < 0x40000) ⊎ (0x40000 ≤ v) → (v < 0x100000) ⊎ (0x100000 ≤ v) →
-        read_utf8 ((0xF0 + v / 262144) ∷ (0x80 + v / 4096 % 64) ∷ (0x80 + v / 64 % 64) ∷ (0x80 + v % 64) ∷ s) ≡ as_token (permitted_at 3 (Ok (v , 4)))
+        read_utf8 ((0xF0 + v / 262144) ∷ (0x80 + v / 4096 % 64) ∷ (0x80 + v / 64 % 64) ∷ (0x80 + v % 64) ∷ s) ≡ as_token (permitted_at 3 (Ok (v, 4)))
     by (inl x) y = at 0x90 0xBF (row_4a _ (omega arith) (omega arith)) (omega arith) (omega arith)
     by (inr x) (inl y) = at 0x80 0xBF (row_4b _ (omega arith) (omega arith)) (omega arith) (omega arith)
     by (inr x) (inr y) = at 0x80 0x8F (row_4c _ (omega arith) (omega arith)) (omega arith) (omega arith)

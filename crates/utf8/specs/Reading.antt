@@ -37,13 +37,13 @@ lead_of b =
 
 -- the bytes after the first: n more, the next within lo and hi; v so far, k bytes taken
 unfoldable pub conts : ℕ → ℕ → ℕ → ℕ → ℕ → List ℕ → Result (ℕ × ℕ) Malformed
-conts zero lo hi v k s = Ok (v , k)
+conts zero lo hi v k s = Ok (v, k)
 conts (suc n) lo hi v k [] = Err Cut
 conts (suc n) lo hi v k (b ∷ s) = pick (within lo hi b) (conts n 0x80 0xBF (v * 64 + (b - 0x80)) (k + 1) s) (Err (Bad k))
 
 -- a noncharacter is no value: it is bad at k
 unfoldable pub permitted_at : ℕ → Result (ℕ × ℕ) Malformed → Result (ℕ × ℕ) Malformed
-permitted_at k (Ok (v , l)) = pick (is_noncharacter v) (Err (Bad k)) (Ok (v , l))
+permitted_at k (Ok (v, l)) = pick (is_noncharacter v) (Err (Bad k)) (Ok (v, l))
 permitted_at k (Err t) = Err t
 
 -- the value in front; a noncharacter is bad at its last byte
@@ -59,13 +59,13 @@ utf8_key v = pick (ltb v 0x80) v (0x80 + v % 64)
 
 -- how many bytes a value has that was read; 0 where there is none, or its key is k
 abbrev pub plain_len : ℕ → Result (ℕ × ℕ) Malformed → ℕ
-plain_len k (Ok (v , l)) = pick (eqb (utf8_key v) k) 0 l
+plain_len k (Ok (v, l)) = pick (eqb (utf8_key v) k) 0 l
 plain_len k (Err Cut) = 0
 plain_len k (Err (Bad j)) = 0
 
 -- what was read, as a token
 abbrev pub as_token : Result (ℕ × ℕ) Malformed → Token
-as_token (Ok (v , l)) = TokenValue v l
+as_token (Ok (v, l)) = TokenValue v l
 as_token (Err Cut) = TokenCut
 as_token (Err (Bad k)) = TokenBad k
 

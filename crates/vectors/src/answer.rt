@@ -1,6 +1,6 @@
 // What the calls answer, as a line says it.
 
-ghost use Rattle.std.specs.Prelude.{ForOk};
+ghost use Rattle.std.specs.Result.{ForOk};
 
 use bitmap::Part;
 use entries::Metrics;

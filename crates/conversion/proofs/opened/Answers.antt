@@ -6,6 +6,7 @@ use Rattle.header.specs.contracts.Kind.{the_type}
 use Rattle.header.specs.declared.Kind.{Kind}
 use Rattle.conversion.specs.Reading.{same_kind}
 use Rattle.conversion.proofs.Cases as cases
+use borrow.Author.Rules.{rules}
 use Rattle.conversion.proofs.opened.Goals as goal
 use Rattle.std.specs.Prelude.{Err}
 

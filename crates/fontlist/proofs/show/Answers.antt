@@ -5,7 +5,7 @@ use Rattle.listing.proofs.Meaning.{listed_inside}
 use Rattle.fontlist.proofs.show.Goals as goal
 
 pub slice_bounds-write_all-end : goal.slice_bounds-write_all-end
-slice_bounds-write_all-end g c = let h : c.in-Wrote.n ≤ length c.args.out.now = listed_inside _ _ _ (sym c.in-Wrote.ensures.equal.0) in omega arith
+slice_bounds-write_all-end g c = let h : c.in-Ok.n ≤ length c.args.out.now = listed_inside _ _ _ (sym c.in-Ok.ensures.equal.0) in omega arith
 
-pub slice_bounds-write_all-end-in-Wrote : goal.slice_bounds-write_all-end-in-Wrote
-slice_bounds-write_all-end-in-Wrote g c = let h : c.in-Wrote.n ≤ length c.args.out.now = listed_inside _ _ _ (sym c.in-Wrote.ensures.equal.0) in sym (length-take-le _ _ (omega arith))
+pub slice_bounds-write_all-end-in-Ok : goal.slice_bounds-write_all-end-in-Ok
+slice_bounds-write_all-end-in-Ok g c = let h : c.in-Ok.n ≤ length c.args.out.now = listed_inside _ _ _ (sym c.in-Ok.ensures.equal.0) in sym (length-take-le _ _ (omega arith))
