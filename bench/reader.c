@@ -12,10 +12,10 @@
 #include <time.h>
 
 #define COUNT 4096
-/* the answer and the bytes as the compiled library passes them: variant 0 is a value */
-struct read { uint8_t variant; uint32_t value; size_t length; };
+/* the answer, a Result of a pair, as the compiled library passes it: variant 0 is a value and its length */
+struct read { uint64_t variant; uint32_t value; size_t length; };
 struct bytes { const uint8_t *first; size_t length; };
-void reader(struct read *answer, const struct bytes *s);
+void reader(struct read *answer, const uint8_t *first, size_t length);
 
 static uint8_t written[4 * COUNT];
 static struct bytes part[COUNT]; /* from each value on */
@@ -38,7 +38,7 @@ static void read_all(void) {
     struct read r;
     uint32_t sum = 0;
     for (size_t i = 0; i < COUNT; i++) {
-        reader(&r, part + i);
+        reader(&r, part[i].first, part[i].length);
         sum += r.value;
     }
     kept = sum;
@@ -58,7 +58,7 @@ int main(int argc, char **argv) {
     }
     for (size_t i = 0; i < COUNT; i++) {
         struct read r = {9, 0, 0};
-        reader(&r, part + i);
+        reader(&r, part[i].first, part[i].length);
         if (r.variant || r.value != value(i) || r.length != each) return 1;
     }
     double best = 1e9;
