@@ -10,7 +10,7 @@ use unfinished::Held;
 use vfont2::Vfont2;
 
 // What the entries so far say: the place of the first that breaks a rule, 0 while there is none, and the greatest numbers of rows and
-// columns.
+// columns. Numbers alone, since they stand in the record that C keeps (`loader::Loader`): an Option there could be none.
 #[repr(C)]
 #[derive(Clone, Copy)]
 pub struct Sums {

@@ -19,7 +19,7 @@ pub const LIMIT: usize = 4194304;
 pub struct Frames {
     // the pieces so far
     pub loader: Loader,
-    // the line that is not ended: its first characters, and how many there are, 129 for more than 128
+    // the line that is not ended: its first characters, in an array, since nothing is allocated; and how many there are, 129 for more than 128
     // (stays: this count stops one past its limit as the other two do, and an Option, which each character would have to open, is no plainer)
     pub line: [u8; 128],
     pub len: usize,
@@ -46,7 +46,7 @@ impl From<Refusal> for Failure {
     }
 }
 
-// A line of output: so many bytes, which stand in front with zeros behind them.
+// A line of output: so many bytes, which stand in front with zeros behind them: an array, since nothing is allocated.
 #[derive(Clone, Copy)]
 pub struct Output {
     pub len: usize,

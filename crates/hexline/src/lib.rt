@@ -5,7 +5,7 @@
 ghost use Rattle.std.specs.Prelude.{◌≡◌, ◌≤◌, ◌<◌, length, IfSome};
 ghost use Rattle.hexline.specs.Reading.{hex_value, pair_value, frame_of};
 
-// A frame of so many bytes, which stand in front with zeros behind them.
+// A frame of so many bytes, which stand in front with zeros behind them: an array, since nothing is allocated.
 #[derive(Clone, Copy)]
 pub struct Frame {
     pub len: usize,

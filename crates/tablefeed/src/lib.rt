@@ -12,7 +12,8 @@ use table::Step;
 use unfinished::Held;
 
 // How far a table has been read: the descriptions complete, 1 just after a start mark (else 0); 0, or the number of the refusal that it has
-// met; and its place in the file, or that of the first byte that is read with those that follow.
+// met; and its place in the file, or that of the first byte that is read with those that follow. Numbers alone, since they stand in the record
+// that C keeps (`loader::Loader`): a bool or an enum there could be none.
 #[repr(C)]
 #[derive(Clone, Copy)]
 pub struct Standing {

@@ -4,7 +4,8 @@
 ghost use Rattle.std.specs.Prelude.{◌≡◌, [], ◌++◌, ◌+◌, ◌≤◌, length};
 ghost use Rattle.unfinished.specs.Reading.{held_bytes, held_of, put_of};
 
-// Bytes that are still to be read with those that follow: the first `len` of `bytes`.
+// Bytes that are still to be read with those that follow: the first `len` of `bytes`. An array and a length, since they stand in the record
+// that C keeps (`loader::Loader`).
 #[repr(C)]
 #[derive(Clone, Copy)]
 pub struct Held {
