@@ -8,12 +8,20 @@ use native.Mathlib.Numerals.{add-one}
 use lib.Dec.{eqb}
 use lib.ListN.{length, length-append}
 use borrow.Author.Tests.{eq-eqb, ne_eqb}
+use denote.Enum.Declared.{tag_of}
+use mir.Val.{bool_byte}
+use Rattle.std.specs.Prelude.{Option, Some, None}
+use Rattle.std.specs.Option.{is_some}
 use Rattle.base.specs.Reading.{when}
 use Rattle.base.proofs.Tests.{by_when}
 use Rattle.coding.specs.declared.Coding.{Coding}
 use Rattle.descriptions.specs.declared.Ends.{Ends}
 use Rattle.descriptions.specs.Reading.{same_at, end_at, ends_of}
 use Rattle.descriptions.proofs.Stepping.{no_steps, none_first}
+use Rattle.glyphs.specs.declared.Difference.{Difference}
+use Rattle.glyphs.specs.declared.Difference.TheVariants.{First, Second, Metrics, Pixels, Items, Table}
+use Rattle.glyphs.specs.contracts.Difference.{the_type}
+use Rattle.glyphs.specs.Reading.{kind_number}
 use Rattle.differences.specs.Meaning.{numbers}
 use Rattle.differences.specs.Reading.{pair_of, glyph_pairs, item_kind, common_from, rest_from}
 
@@ -61,6 +69,32 @@ two_numbers k g n = ap numbers (one_pair k g n)
 pub none_left : (ps : List (ℕ × ℕ)) → ps ≡ [] → numbers ps ≡ []
 unfolding numbers
 none_left ps e = ap numbers e
+
+-- a difference's number is its cast, and never 0
+cast_is : (d : Difference) → tag_of the_type d + 1 ≡ kind_number (Some d)
+cast_is First = refl
+cast_is Second = refl
+cast_is Metrics = refl
+cast_is Pixels = refl
+cast_is Items = refl
+cast_is Table = refl
+
+pub none_is : (k : Option Difference) → is_some k ≡ false → kind_number k ≡ 0
+none_is None e = refl
+none_is (Some d) e = cc
+
+pub some_is : (k : Option Difference) → is_some k ≡ true → kind_number k ≡ 0 → ⊥
+some_is None e z = cc
+some_is (Some d) e z = absurd (omega (arith, cast_is d))
+
+-- a difference makes one pair, which is written as its cast and the glyph
+pub pairs_made : (k : Option Difference) (n : ℕ) → n ≡ bool_byte (is_some k) → (n ≡ length (pair_of (kind_number k) 0)) × (n ≤ 1)
+pairs_made None n e = (e ∙ sym (ap length (no_pair 0 0 refl)), omega arith)
+pairs_made (Some d) n e = (e ∙ sym (ap length (one_pair (kind_number (Some d)) 0 (some_is (Some d) refl))), omega arith)
+
+pub cast_numbers : (k : Option Difference) (d : Difference) (g : ℕ) → k ≡ Some d → numbers (pair_of (kind_number k) g) ≡ (tag_of the_type d + 1) ∷ g ∷ []
+cast_numbers k d g e =
+    two_numbers (kind_number k) g (some_is k (ap is_some e)) ∙ ap (λ (x : ℕ). x ∷ g ∷ []) (ap kind_number e ∙ sym (cast_is d))
 
 -- codings that are known by other names
 pub coded_as : (κ : ℕ → ℕ) (c c' : Coding) (s : List ℕ) (d d' : Coding) (t : List ℕ) (n g x y : ℕ) → c ≡ c' → d ≡ d' → common_from κ c s d t n g x y ≡ common_from κ c' s d' t n g x y

@@ -2,15 +2,16 @@
 // specs/Meaning.antt (pairs as numbers), specs/Reading.antt; what they mean is said in the crate `laws` (proofs/Differences.antt).
 #![tactic(auto)]
 
-ghost use Rattle.std.specs.Prelude.{◌≡◌, ℕ, ◌+◌, ◌-◌, ◌*◌, ◌≤◌, ◌<◌, min, max, length};
+ghost use Rattle.std.specs.Prelude.{◌≡◌, ℕ, ◌+◌, ◌-◌, ◌*◌, ◌≤◌, ◌<◌, min, max, length, Some};
 ghost use Rattle.base.specs.Reading.{over};
 ghost use Rattle.header.specs.Bounds.{Placed};
 ghost use Rattle.stages.specs.Meaning.{coding_of};
-ghost use Rattle.glyphs.specs.Reading.{glyph_kind};
+ghost use Rattle.glyphs.specs.Reading.{glyph_kind, kind_number};
 ghost use Rattle.differences.specs.Meaning.{numbers};
 ghost use Rattle.differences.specs.Reading.{pair_of, glyph_pairs, table_kind, item_kind, only_kind, common_from, rest_from, compared_start, pairs_of, fitted, compared_with, found_with, compare_answer, left_by, compare_into};
 ghost use Rattle.stages.specs.Reading.{check_of};
 
+use glyphs::Difference;
 use header::Font;
 use refusal::{Reason, Refusal};
 
@@ -22,70 +23,68 @@ pub enum Uncompared {
     Neither(Refusal),
 }
 
-// 6 where just one font has a table, else 0.
-fn table_kind(a: bool, b: bool) -> u32
-    ensures { result ≡ table_kind a b }
+// `Table` where just one font has a table, else none.
+fn table_kind(a: bool, b: bool) -> Option<Difference>
+    ensures { kind_number result ≡ table_kind a b }
 {
     if a {
         if b {
-            return 0;
+            return None;
         }
-        return 6;
+        return Some(Difference::Table);
     }
     if b {
-        return 6;
+        return Some(Difference::Table);
     }
-    0
+    None
 }
 
-// 5 where two descriptions differ, else 0.
-fn item_kind(same: bool) -> u32
-    ensures { result ≡ item_kind same }
+// `Items` where two descriptions differ, else none.
+fn item_kind(same: bool) -> Option<Difference>
+    ensures { kind_number result ≡ item_kind same }
 {
     if same {
-        return 0;
+        return None;
     }
-    5
+    Some(Difference::Items)
 }
 
-// 2 for glyphs that only the second of two fonts has, else 1.
-fn only_kind(n: usize, m: usize) -> u32
-    ensures { result ≡ only_kind n m }
+// `Second` for glyphs that only the second of two fonts has, else `First`.
+fn only_kind(n: usize, m: usize) -> Difference
+    ensures { kind_number (Some result) ≡ only_kind n m }
 {
     if n < m {
-        return 2;
+        return Difference::Second;
     }
-    1
+    Difference::First
 }
 
-// How many pairs a kind makes: none for 0.
-fn pair_count(k: u32) -> usize
-    ensures { (result ≡ length (pair_of k 0)) × (result ≤ 1) }
+// How many pairs a difference makes: none where there is none.
+#[tactic(auto, using(crate::proofs::Pairs::pairs_made))]
+fn pair_count(k: Option<Difference>) -> usize
+    ensures { (result ≡ length (pair_of (kind_number k) 0)) × (result ≤ 1) }
 {
-    if k == 0 {
-        return 0;
-    }
-    1
+    usize::from(k.is_some())
 }
 
-// The pair of a kind and a glyph to the front, and how many numbers that is: none for kind 0. Asks for a glyph's number and for room: each
-// caller has counted.
-fn put_pair(k: u32, g: usize, out: &mut [u32]) -> usize
-    requires { (g ≤ 4096) × (length (numbers (pair_of k g)) ≤ length out.old) }
-    ensures { (result ≡ length (numbers (pair_of k g))) × (result ≤ 2) × (out.new ≡ over (numbers (pair_of k g)) out.old) }
+// The pair of a difference and a glyph to the front, and how many numbers that is: none for no difference. Asks for a glyph's number and for
+// room: each caller has counted.
+fn put_pair(k: Option<Difference>, g: usize, out: &mut [u32]) -> usize
+    requires { (g ≤ 4096) × (length (numbers (pair_of (kind_number k) g)) ≤ length out.old) }
+    ensures { (result ≡ length (numbers (pair_of (kind_number k) g))) × (result ≤ 2) × (out.new ≡ over (numbers (pair_of (kind_number k) g)) out.old) }
 {
-    if k == 0 {
+    let Some(d) = k else {
         return 0;
-    }
-    out[0] = k;
+    };
+    out[0] = d as u32;
     out[1] = g as u32;
     2
 }
 
-// The pairs of a glyph, of two kinds, to the front, and how many numbers that is. Asks for the same.
-fn put_glyph(k: u32, j: u32, g: usize, out: &mut [u32]) -> usize
-    requires { (g ≤ 4096) × (length (numbers (glyph_pairs k j g)) ≤ length out.old) }
-    ensures { (result ≡ length (numbers (glyph_pairs k j g))) × (result ≤ 4) × (out.new ≡ over (numbers (glyph_pairs k j g)) out.old) }
+// The pairs of a glyph, of two differences, to the front, and how many numbers that is. Asks for the same.
+fn put_glyph(k: Option<Difference>, j: Option<Difference>, g: usize, out: &mut [u32]) -> usize
+    requires { (g ≤ 4096) × (length (numbers (glyph_pairs (kind_number k) (kind_number j) g)) ≤ length out.old) }
+    ensures { (result ≡ length (numbers (glyph_pairs (kind_number k) (kind_number j) g))) × (result ≤ 4) × (out.new ≡ over (numbers (glyph_pairs (kind_number k) (kind_number j) g)) out.old) }
 {
     let at = put_pair(k, g, &mut out[0..]);
     at + put_pair(j, g, &mut out[at..])
@@ -148,15 +147,15 @@ fn put_common(
     at
 }
 
-// The pairs of kind r for `count` glyphs from glyph `from` on, to the front, and how many numbers that is. Asks for glyphs' numbers and for
-// room.
-fn put_rest(r: u32, count: usize, from: usize, out: &mut [u32]) -> usize
-    requires { (from + count ≤ 4096) × (length (numbers (rest_from r count from)) ≤ length out.old) }
-    ensures { (result ≡ length (numbers (rest_from r count from))) × (result ≤ 8192) × (out.new ≡ over (numbers (rest_from r count from)) out.old) }
+// The pairs of difference r for `count` glyphs from glyph `from` on, to the front, and how many numbers that is. Asks for glyphs' numbers and
+// for room.
+fn put_rest(r: Difference, count: usize, from: usize, out: &mut [u32]) -> usize
+    requires { (from + count ≤ 4096) × (length (numbers (rest_from (kind_number (Some r)) count from)) ≤ length out.old) }
+    ensures { (result ≡ length (numbers (rest_from (kind_number (Some r)) count from))) × (result ≤ 8192) × (out.new ≡ over (numbers (rest_from (kind_number (Some r)) count from)) out.old) }
 {
     let mut at: usize = 0;
     for i in 0..count {
-        at += put_pair(r, from + i, &mut out[at..]);
+        at += put_pair(Some(r), from + i, &mut out[at..]);
     }
     at
 }
@@ -167,7 +166,7 @@ fn compared_start(len: usize, f: Font, h: Font) -> usize
     requires { f.end ≤ len }
     ensures { (result ≡ compared_start len f h) × (result ≤ len) }
 {
-    if table_kind(f.table, h.table) == 0 {
+    if table_kind(f.table, h.table).is_none() {
         return f.end;
     }
     len

@@ -1,5 +1,5 @@
 -- How glyph g of two fonts differs: its metrics, as the numbers of 16 bits that a vfont2 entry has, and its pixels.
-use Rattle.std.specs.Prelude.{ℕ, ◌+◌, Bool, false, List, eqb, take, drop, Result, Ok, Err}
+use Rattle.std.specs.Prelude.{ℕ, ◌+◌, Bool, false, List, eqb, take, drop, Result, Ok, Err, Option, Some, None}
 use Rattle.base.specs.Meaning.{le16}
 use Rattle.base.specs.Reading.{when}
 use Rattle.header.specs.declared.Kind.{Kind}
@@ -10,6 +10,8 @@ use Rattle.bitmap.specs.declared.Bitmap.{Bitmap}
 use Rattle.bitmap.specs.Reading.{bitmap_of}
 use Rattle.pixels.specs.Reading.{same_pixels}
 use Rattle.glyphs.specs.declared.Words.{Words}
+use Rattle.glyphs.specs.declared.Difference.{Difference}
+use Rattle.glyphs.specs.declared.Difference.TheVariants.{First, Second, Metrics, Pixels, Items, Table}
 use Rattle.refusal.specs.declared.Refusal.{Refusal}
 
 -- "(height, 0, 0, width, width)"
@@ -49,3 +51,13 @@ located_kind s f o h g (Err r) (Err r') = 0
 -- how glyph g differs: 3, 4, or 0 where it does not
 unfoldable pub glyph_kind : List ℕ → Font → List ℕ → Font → ℕ → ℕ
 glyph_kind s f o h g = located_kind s f o h g (bitmap_of s f g) (bitmap_of o h g)
+
+-- a difference's number; 0 for none
+abbrev pub kind_number : Option Difference → ℕ
+kind_number None = 0
+kind_number (Some First) = 1
+kind_number (Some Second) = 2
+kind_number (Some Metrics) = 3
+kind_number (Some Pixels) = 4
+kind_number (Some Items) = 5
+kind_number (Some Table) = 6

@@ -7,7 +7,7 @@ use native.Mathlib.Omega.{arith}
 use lib.ListN.{length}
 use Rattle.base.specs.Reading.{over}
 use Rattle.base.proofs.Written.{Written, begins_as, room, goes_on, ends, ends_at}
-use Rattle.glyphs.specs.Reading.{glyph_kind}
+use Rattle.glyphs.specs.Reading.{glyph_kind, kind_number}
 use Rattle.differences.specs.Meaning.{numbers}
 use Rattle.differences.specs.Reading.{glyph_pairs, common_from}
 use Rattle.differences.proofs.Pairs.{numbers_next, common_end, none_left, coded_as}
@@ -25,7 +25,7 @@ loop-g-init c = let z : c.args.n ≡ c.args.n - 0 = omega arith in
 pub put_glyph-at-requires : goal.put_glyph-at-requires
 put_glyph-at-requires c = let l = c.loop-g in
     let e = c.compare-e in
-    (omega (arith, c.loop-g-test.true, c.requires.0.2, c.requires.2), room _ (numbers (glyph_pairs c.compare-kind.result c.item_kind.result l.g)) _ _ _ l.at (subst (λ (y : List ℕ). Written (numbers (common_from (glyph_kind c.args.a.now c.args.f c.args.b.now c.args.h) c.coding_of-c.result c.args.s.now c.coding_of-d.result c.args.t.now c.args.n 0 0 0)) c.args.out.now l.at l.out y) (numbers_next (glyph_kind c.args.a.now c.args.f c.args.b.now c.args.h) c.coding_of-c.result c.args.s.now c.coding_of-d.result c.args.t.now c.args.n l.g l.x l.y _ _ e.result c.loop-g-test.true c.compare-kind.ensures e.ensures.equal c.item_kind.ensures) l.invariant.3))
+    (omega (arith, c.loop-g-test.true, c.requires.0.2, c.requires.2), room _ (numbers (glyph_pairs (kind_number c.compare-kind.result) (kind_number c.item_kind.result) l.g)) _ _ _ l.at (subst (λ (y : List ℕ). Written (numbers (common_from (glyph_kind c.args.a.now c.args.f c.args.b.now c.args.h) c.coding_of-c.result c.args.s.now c.coding_of-d.result c.args.t.now c.args.n 0 0 0)) c.args.out.now l.at l.out y) (numbers_next (glyph_kind c.args.a.now c.args.f c.args.b.now c.args.h) c.coding_of-c.result c.args.s.now c.coding_of-d.result c.args.t.now c.args.n l.g l.x l.y _ _ e.result c.loop-g-test.true c.compare-kind.ensures e.ensures.equal c.item_kind.ensures) l.invariant.3))
 
 pub loop-g-preserved : goal.loop-g-preserved
 loop-g-preserved c = let l = c.loop-g in
