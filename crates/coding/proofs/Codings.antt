@@ -41,8 +41,8 @@ growing Utf8 = growing_utf8
 growing Ucs2 = growing_ucs2
 
 -- a token is no longer than the bytes that it is read from
-pub token_sized : (c : Coding) (s : List ℕ) → Sized (mark_len c) (length s) (read_token c s)
-unfolding read_token mark_len
+pub token_sized : (c : Coding) (s : List ℕ) → Sized (length s) (read_token c s)
+unfolding read_token
 token_sized Utf8 s = utf8-sizes.read_sized s
 token_sized Ucs2 s = ucs2-sizes.read_sized s
 

@@ -1,13 +1,13 @@
 -- How a token is read in each coding.
 use Rattle.std.specs.Prelude.{List, ℕ, ◌%◌, Bool}
-use Rattle.token.specs.declared.Token.{Token}
+use Rattle.token.specs.Reading.{Step}
 use Rattle.utf8.specs.Reading.{read_utf8, is_utf8_value, utf8_key}
 use Rattle.ucs2.specs.Reading.{read_ucs2, is_word}
 use Rattle.coding.specs.declared.Coding.{Coding}
 use Rattle.coding.specs.declared.Coding.TheVariants.{Utf8, Ucs2}
 
 -- the token at the front of a list of bytes
-unfoldable pub read_token : Coding → List ℕ → Token
+unfoldable pub read_token : Coding → List ℕ → Step
 read_token Utf8 s = read_utf8 s
 read_token Ucs2 s = read_ucs2 s
 

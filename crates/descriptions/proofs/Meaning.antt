@@ -12,13 +12,13 @@ use Rattle.base.proofs.Tests as tests
 use Rattle.coding.specs.declared.Coding.{Coding}
 use Rattle.table.specs.declared.Item.{Item}
 use Rattle.table.specs.declared.Item.TheVariants.{Single, Start, Value, End}
-use Rattle.table.specs.declared.Step.{Step}
 use Rattle.table.specs.Meaning.{Seq, Desc, each, seqs, items_of, items, item_bytes, bytes, OfCoding, encode, Readable}
 use Rattle.table.specs.Reading.{steps_from}
 use Rattle.table.proofs.Stepping.{step_for, item_front}
 use Rattle.table.proofs.EndToEnd.{described_append, encode_cons, of_left, of_right}
 use Rattle.descriptions.specs.Reading.{code_of, next_of, same_steps, end_from, same_at, end_at}
 use Rattle.descriptions.proofs.Stepping.{end_here, end_later, other_step, same_later, same_here}
+use Rattle.token.specs.Reading.{Step}
 
 -- items from a place of a description on, inside a sequence or before the first one: singles before the first start mark, values behind it,
 -- and the end mark last

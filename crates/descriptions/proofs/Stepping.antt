@@ -8,30 +8,32 @@ use lib.ListN.{length, drop_of_length-le}
 use borrow.Author.Tests.{eq-eqb, ne_eqb}
 use Rattle.base.specs.Reading.{when}
 use Rattle.coding.specs.declared.Coding.{Coding}
-use Rattle.table.specs.declared.Step.{Step}
-use Rattle.table.specs.declared.Step.TheVariants.{Value as StepValue, Start as StepStart, End as StepEnd, Cut as StepCut, Bad as StepBad}
 use Rattle.table.specs.Reading.{steps_from, steps_at}
 use Rattle.table.specs.Bounds.{StepSays}
 use Rattle.descriptions.specs.declared.Ends.{Ends}
 use Rattle.descriptions.specs.Reading.{code_of, next_of, same_steps, end_from, same_at, end_at, ends_of}
+use Rattle.token.specs.declared.Token.TheVariants.{Value as TokenValue, Start as TokenStart, End as TokenEnd}
+use Rattle.token.specs.declared.Malformed.TheVariants.{Cut, Bad}
+use Rattle.token.specs.Reading.{Step}
+use Rattle.std.specs.Prelude.{Ok, Err}
 
 -- a step that ends no description goes on within the list
 pub goes : (c : Coding) (s : List ℕ) (at : ℕ) (x : Step) → StepSays c s at x → (code_of x ≡ 0 → ⊥) →
     (at < next_of at x) × (next_of at x ≤ length s) × (steps_at c s at ≡ x ∷ steps_at c s (next_of at x))
-goes c s at (StepValue v next) w n = w
-goes c s at (StepStart next) w n = w
-goes c s at (StepEnd next) w n = absurd (n refl)
-goes c s at StepCut w n = absurd (n refl)
-goes c s at (StepBad k) w n = absurd (n refl)
+goes c s at (Ok (TokenValue v, next)) w n = w
+goes c s at (Ok (TokenStart, next)) w n = w
+goes c s at (Ok (TokenEnd, next)) w n = absurd (n refl)
+goes c s at (Err Cut) w n = absurd (n refl)
+goes c s at (Err (Bad k)) w n = absurd (n refl)
 
 -- a step that is read before the end of the list is the first of those from there on, and the place after it stands in the list
 pub front : (c : Coding) (s : List ℕ) (at : ℕ) (x : Step) → at < length s → StepSays c s at x →
     (next_of at x ≤ length s) × ((more : List Step) × (steps_at c s at ≡ x ∷ more))
-front c s at (StepValue v next) l w = (w.1, (steps_at c s next, w.2))
-front c s at (StepStart next) l w = (w.1, (steps_at c s next, w.2))
-front c s at (StepEnd next) l w = (w.1, (steps_at c s next, w.2))
-front c s at StepCut l w = (omega arith, ([], w l))
-front c s at (StepBad k) l w = (omega arith, ([], w.2))
+front c s at (Ok (TokenValue v, next)) l w = (w.1, (steps_at c s next, w.2))
+front c s at (Ok (TokenStart, next)) l w = (w.1, (steps_at c s next, w.2))
+front c s at (Ok (TokenEnd, next)) l w = (w.1, (steps_at c s next, w.2))
+front c s at (Err Cut) l w = (omega arith, ([], w l))
+front c s at (Err (Bad k)) l w = (omega arith, ([], w.2))
 
 -- no steps from the end on
 pub no_steps : (c : Coding) (s : List ℕ) (at : ℕ) → length s ≤ at → steps_at c s at ≡ []

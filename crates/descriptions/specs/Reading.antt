@@ -1,28 +1,29 @@
 -- Whether the descriptions that stand at two places have the same items, and where each ends: step by step, side by side. It holds on any
 -- tails, as far as they can be read.
-use Rattle.std.specs.Prelude.{Bool, true, false, List, [], ◌∷◌, ℕ, ◌+◌, eqb}
+use Rattle.std.specs.Prelude.{Bool, true, false, List, [], ◌∷◌, ℕ, ◌+◌, eqb, Ok, Err}
 use Rattle.base.specs.Reading.{when}
 use Rattle.coding.specs.declared.Coding.{Coding}
-use Rattle.table.specs.declared.Step.{Step}
-use Rattle.table.specs.declared.Step.TheVariants.{Value as StepValue, Start as StepStart, End as StepEnd, Cut as StepCut, Bad as StepBad}
 use Rattle.table.specs.Reading.{steps_at}
 use Rattle.descriptions.specs.declared.Ends.{Ends}
+use Rattle.token.specs.declared.Token.TheVariants.{Value as TokenValue, Start as TokenStart, End as TokenEnd}
+use Rattle.token.specs.declared.Malformed.TheVariants.{Cut, Bad}
+use Rattle.token.specs.Reading.{Step}
 
 -- a step as a number: 0 where a description ends, or reading does; 1 for a start mark; v + 2 for a value v
 abbrev pub code_of : Step → ℕ
-code_of (StepValue v next) = v + 2
-code_of (StepStart next) = 1
-code_of (StepEnd next) = 0
-code_of StepCut = 0
-code_of (StepBad k) = 0
+code_of (Ok (TokenValue v, next)) = v + 2
+code_of (Ok (TokenStart, next)) = 1
+code_of (Ok (TokenEnd, next)) = 0
+code_of (Err Cut) = 0
+code_of (Err (Bad k)) = 0
 
 -- the place after a step that stands at a place; that place, where reading stops
 abbrev pub next_of : ℕ → Step → ℕ
-next_of at (StepValue v next) = next
-next_of at (StepStart next) = next
-next_of at (StepEnd next) = next
-next_of at StepCut = at
-next_of at (StepBad k) = at
+next_of at (Ok (TokenValue v, next)) = next
+next_of at (Ok (TokenStart, next)) = next
+next_of at (Ok (TokenEnd, next)) = next
+next_of at (Err Cut) = at
+next_of at (Err (Bad k)) = at
 
 -- whether two lists of steps have the same values and marks up to the end of their first descriptions; nothing differs from no steps
 unfoldable pub same_steps : List Step → List Step → Bool

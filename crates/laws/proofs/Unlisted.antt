@@ -10,7 +10,6 @@ use Rattle.base.specs.Meaning.{Bytes}
 use Rattle.base.proofs.Parts.{bytes_take}
 use Rattle.base.proofs.Tests.{below}
 use Rattle.token.specs.Meaning.{Noncharacter}
-use Rattle.token.specs.declared.Token.TheVariants.{Bad as TokenBad}
 use Rattle.utf8.proofs.Writing as utf8-read
 use Rattle.ucs2.proofs.Coding as ucs2-read
 use Rattle.coding.specs.declared.Coding.{Coding}
@@ -37,12 +36,13 @@ use Rattle.laws.proofs.Listed.{no_value, listed_value, listed_sequence, item_val
 use Rattle.laws.proofs.Editing.{add_rows, drop_rows}
 use Rattle.std.specs.Prelude.{Ok, Err}
 use Rattle.table.specs.declared.Fault.TheVariants.{Bad}
+use Rattle.token.specs.declared.Malformed.TheVariants.{Bad}
 
 not-false : {b : Bool} → b ≡ true → b ≡ false → ⊥
 not-false p q = let z : ◌≡◌ {A = ℕ} 0 1 = cc in absurd (omega arith)
 
 -- a noncharacter of three or four bytes, or of two in PSF1, read: bad at its last byte
-pub bad_read : (c : Coding) (v : ℕ) → HasBytes c v → Noncharacter v → (x : List ℕ) → read_token c (value_bytes c v ++ x) ≡ TokenBad (length (value_bytes c v) - 1)
+pub bad_read : (c : Coding) (v : ℕ) → HasBytes c v → Noncharacter v → (x : List ℕ) → read_token c (value_bytes c v ++ x) ≡ Err (Bad (length (value_bytes c v) - 1))
 unfolding read_token value_bytes
 bad_read Utf8 v p n x = utf8-read.noncharacter_read v x p n
 bad_read Ucs2 v p n x = ucs2-read.noncharacter_read v x p n

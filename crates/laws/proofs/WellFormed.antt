@@ -9,7 +9,6 @@ use lib.ListN.{length, take, drop, take-append-drop}
 use lib.Seq.{take-append_seam}
 use Rattle.base.specs.Meaning.{Begins, Bytes}
 use Rattle.base.proofs.Tests.{below}
-use Rattle.token.specs.declared.Token.TheVariants.{Value}
 use Rattle.utf8.specs.Meaning.{Scalar, Utf8Value, utf8_bytes}
 use Rattle.laws.specs.Meaning.{In, WellFormed}
 use Rattle.utf8.specs.Reading.{read_value, read_utf8, as_token}

@@ -7,8 +7,6 @@ use native.Mathlib.Omega.{arith}
 use lib.ListN.{length, length-append}
 use Rattle.table.specs.declared.Item.{Item}
 use Rattle.table.specs.declared.Item.TheVariants.{Start, End}
-use Rattle.table.specs.declared.Step.{Step}
-use Rattle.table.specs.declared.Step.TheVariants.{Value as StepValue, Start as StepStart, End as StepEnd, Cut as StepCut, Bad as StepBad}
 use Rattle.table.specs.Reading.{value_item, step_items, steps_at}
 use Rattle.table.proofs.Telling.{told_value, told_start, told_end, told_cut, told_bad, told_past}
 use Rattle.coding.specs.declared.Coding.{Coding}
@@ -17,6 +15,10 @@ use Rattle.base.specs.Reading.{over}
 use Rattle.text.proofs.Putting.{Written, written_within, written_room, written_next}
 use Rattle.text.specs.Reading.{numeral}
 use Rattle.lines.specs.Reading.{item_text, piece_of, lines_of, table_text}
+use Rattle.token.specs.declared.Token.TheVariants.{Value as TokenValue, Start as TokenStart, End as TokenEnd}
+use Rattle.token.specs.declared.Malformed.TheVariants.{Cut, Bad}
+use Rattle.token.specs.Reading.{Step}
+use Rattle.std.specs.Prelude.{Ok, Err}
 
 module _ (fresh : Bool) (g : ℕ) (i : Item) where
   pub piece_fresh : fresh ≡ true → piece_of fresh g i ≡ numeral 10 g ++ item_text i
@@ -50,19 +52,19 @@ lines_none g fresh = refl
 
 -- and by the first step
 module _ (g : ℕ) (fresh inside : Bool) (xs ys : List Step) where
-  on_value : (v next : ℕ) → xs ≡ StepValue v next ∷ ys → lines_of g fresh (step_items inside xs) ≡ piece_of fresh g (value_item inside v) ++ lines_of g false (step_items inside ys)
+  on_value : (v next : ℕ) → xs ≡ Ok (TokenValue v, next) ∷ ys → lines_of g fresh (step_items inside xs) ≡ piece_of fresh g (value_item inside v) ++ lines_of g false (step_items inside ys)
   on_value v next e = ap (lines_of g fresh) (told_value inside xs ys v next e) ∙ lines_value g fresh inside v (step_items inside ys)
 
-  on_start : (next : ℕ) → xs ≡ StepStart next ∷ ys → lines_of g fresh (step_items inside xs) ≡ piece_of fresh g Start ++ lines_of g false (step_items true ys)
+  on_start : (next : ℕ) → xs ≡ Ok (TokenStart, next) ∷ ys → lines_of g fresh (step_items inside xs) ≡ piece_of fresh g Start ++ lines_of g false (step_items true ys)
   on_start next e = ap (lines_of g fresh) (told_start inside xs ys next e) ∙ lines_start g fresh (step_items true ys)
 
-  on_end : (next : ℕ) → xs ≡ StepEnd next ∷ ys → lines_of g fresh (step_items inside xs) ≡ piece_of fresh g End ++ lines_of (g + 1) true (step_items false ys)
+  on_end : (next : ℕ) → xs ≡ Ok (TokenEnd, next) ∷ ys → lines_of g fresh (step_items inside xs) ≡ piece_of fresh g End ++ lines_of (g + 1) true (step_items false ys)
   on_end next e = ap (lines_of g fresh) (told_end inside xs ys next e) ∙ lines_end g fresh (step_items false ys)
 
-  pub on_cut : xs ≡ StepCut ∷ ys → lines_of g fresh (step_items inside xs) ≡ []
+  pub on_cut : xs ≡ Err Cut ∷ ys → lines_of g fresh (step_items inside xs) ≡ []
   on_cut e = ap (lines_of g fresh) (told_cut inside xs ys e) ∙ lines_none g fresh
 
-  pub on_bad : (k : ℕ) → xs ≡ StepBad k ∷ ys → lines_of g fresh (step_items inside xs) ≡ []
+  pub on_bad : (k : ℕ) → xs ≡ Err (Bad k) ∷ ys → lines_of g fresh (step_items inside xs) ≡ []
   on_bad k e = ap (lines_of g fresh) (told_bad inside xs ys k e) ∙ lines_none g fresh
 
 pub on_past : (g : ℕ) (fresh inside : Bool) (c : Coding) (s : List ℕ) (at : ℕ) → length s ≤ at → lines_of g fresh (step_items inside (steps_at c s at)) ≡ []
@@ -79,7 +81,7 @@ pub length_none : (z : List ℕ) (n m : ℕ) → z ≡ [] → n + length z ≡ m
 length_none z n m e h = omega (arith, ap length e)
 
 -- one turn of the loops, by the step: n bytes are counted or written, and the lines of the steps xs are left
-module _ (g : ℕ) (fresh inside : Bool) (xs ys : List Step) (n : ℕ) (i : Item) (u : ℕ) (next : ℕ) (e : xs ≡ StepValue u next ∷ ys) (q : i ≡ value_item inside u) where
+module _ (g : ℕ) (fresh inside : Bool) (xs ys : List Step) (n : ℕ) (i : Item) (u : ℕ) (next : ℕ) (e : xs ≡ Ok (TokenValue u, next) ∷ ys) (q : i ≡ value_item inside u) where
   value_lines : lines_of g fresh (step_items inside xs) ≡ piece_of fresh g i ++ lines_of g false (step_items inside ys)
   value_lines = on_value g fresh inside xs ys u next e ∙ ap (λ (j : Item). piece_of fresh g j ++ lines_of g false (step_items inside ys)) (sym q)
 
@@ -97,7 +99,7 @@ module _ (g : ℕ) (fresh inside : Bool) (xs ys : List Step) (n : ℕ) (i : Item
         Written w o (put_mid n (length v - n) v zs) (n + l) (lines_of g false (step_items inside ys))
     value_next = written_next w o v n (lines_of g fresh (step_items inside xs)) s (piece_of fresh g i) (lines_of g false (step_items inside ys)) value_lines
 
-module _ (g : ℕ) (fresh inside : Bool) (xs ys : List Step) (n : ℕ) (next : ℕ) (e : xs ≡ StepStart next ∷ ys) where
+module _ (g : ℕ) (fresh inside : Bool) (xs ys : List Step) (n : ℕ) (next : ℕ) (e : xs ≡ Ok (TokenStart, next) ∷ ys) where
   start_lines : lines_of g fresh (step_items inside xs) ≡ piece_of fresh g Start ++ lines_of g false (step_items true ys)
   start_lines = on_start g fresh inside xs ys next e
 
@@ -115,7 +117,7 @@ module _ (g : ℕ) (fresh inside : Bool) (xs ys : List Step) (n : ℕ) (next : �
         Written w o (put_mid n (length v - n) v zs) (n + l) (lines_of g false (step_items true ys))
     start_next = written_next w o v n (lines_of g fresh (step_items inside xs)) s (piece_of fresh g Start) (lines_of g false (step_items true ys)) start_lines
 
-module _ (g : ℕ) (fresh inside : Bool) (xs ys : List Step) (n : ℕ) (next : ℕ) (e : xs ≡ StepEnd next ∷ ys) where
+module _ (g : ℕ) (fresh inside : Bool) (xs ys : List Step) (n : ℕ) (next : ℕ) (e : xs ≡ Ok (TokenEnd, next) ∷ ys) where
   end_lines : lines_of g fresh (step_items inside xs) ≡ piece_of fresh g End ++ lines_of (g + 1) true (step_items false ys)
   end_lines = on_end g fresh inside xs ys next e
 

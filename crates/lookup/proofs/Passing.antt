@@ -10,8 +10,6 @@ use Rattle.base.specs.Meaning.{pick}
 use Rattle.base.proofs.Tests.{nonzero}
 use Rattle.coding.specs.declared.Coding.{Coding}
 use Rattle.coding.specs.Reading.{key_of}
-use Rattle.table.specs.declared.Step.{Step}
-use Rattle.table.specs.declared.Step.TheVariants.{Value as StepValue, Start as StepStart, End as StepEnd, Cut as StepCut, Bad as StepBad}
 use types.Run.{OneOf}
 use denote.Enum.Declared.{tag_of}
 use Rattle.table.specs.contracts.Step.{the_type}
@@ -22,19 +20,22 @@ use Rattle.table.proofs.Skipping.{HaltedAt, phase_none, phase_value, next_phase}
 use Rattle.table.proofs.Halting.{ended_there, refused_there, left_after, halted_after, check_after, fresh_check}
 use Rattle.lookup.specs.Reading.{find_asked, looked_of, find_from, begins_at}
 use Rattle.lookup.proofs.Looking.{find_front, find_skip, found_or_next, looked_ended, looked_refused}
-use Rattle.std.specs.Prelude.{Result, Option, Some, None}
+use Rattle.std.specs.Prelude.{Result, Option, Some, None, Ok, Err}
 use Rattle.table.specs.declared.Fault.{Fault}
+use Rattle.token.specs.declared.Token.TheVariants.{Value as TokenValue, Start as TokenStart, End as TokenEnd}
+use Rattle.token.specs.declared.Malformed.TheVariants.{Cut, Bad}
+use Rattle.token.specs.Reading.{Step}
 
 -- a step of another kind than a value's
 pub no_value : (x : Step) → OneOf (1 ∷ 2 ∷ 3 ∷ 4 ∷ []) (tag_of the_type x) → NoValue x
-no_value (StepValue v next) (inl h) = omega arith
-no_value (StepValue v next) (inr (inl h)) = omega arith
-no_value (StepValue v next) (inr (inr (inl h))) = omega arith
-no_value (StepValue v next) (inr (inr (inr h))) = omega arith
-no_value (StepStart next) h = tt
-no_value (StepEnd next) h = tt
-no_value StepCut h = tt
-no_value (StepBad k) h = tt
+no_value (Ok (TokenValue v, next)) (inl h) = omega arith
+no_value (Ok (TokenValue v, next)) (inr (inl h)) = omega arith
+no_value (Ok (TokenValue v, next)) (inr (inr (inl h))) = omega arith
+no_value (Ok (TokenValue v, next)) (inr (inr (inr h))) = omega arith
+no_value (Ok (TokenStart, next)) h = tt
+no_value (Ok (TokenEnd, next)) h = tt
+no_value (Err Cut) h = tt
+no_value (Err (Bad k)) h = tt
 
 module _ (c : Coding) (s : List ℕ) (n : ℕ) (q : Bool) (vs : List ℕ) where
   -- what holds at a cursor: it stands in the table, and the check and what is found go on from there
@@ -106,7 +107,7 @@ module _ (c : Coding) (s : List ℕ) (n : ℕ) (q : Bool) (vs : List ℕ) where
         ∙ w.2)
 
     -- at a value
-    module _ (z : left ≡ 0 → ⊥) (b : length s * 1 < 9223372036854775808) (v next : ℕ) (o : (at < next) × (next ≤ length s) × (steps_at c s at ≡ StepValue v next ∷ steps_at c s next)) where
+    module _ (z : left ≡ 0 → ⊥) (b : length s * 1 < 9223372036854775808) (v next : ℕ) (o : (at < next) × (next ≤ length s) × (steps_at c s at ≡ Ok (TokenValue v, next) ∷ steps_at c s next)) where
       stands_next : Stands s (cursor_of next left start)
       stands_next = (o.1, go w.0.1)
         where
@@ -122,7 +123,7 @@ module _ (c : Coding) (s : List ℕ) (n : ℕ) (q : Bool) (vs : List ℕ) where
       check_next =
           ap (λ (p : Phase). check_steps (length s) (n - left) left (is_opened p) next (steps_at c s next)) (sym next_is)
           ∙ ap (λ (t : Bool). check_steps (length s) (n - left) left t next (steps_at c s next)) (next_phase (phase_of start at))
-          ∙ sym (nonzero (λ (m : ℕ). check_steps (length s) (n - left) m (is_opened (phase_of start at)) at (StepValue v next ∷ steps_at c s next) ≡ check_steps (length s) (n - left) m false next (steps_at c s next)) (λ m. refl) left z)
+          ∙ sym (nonzero (λ (m : ℕ). check_steps (length s) (n - left) m (is_opened (phase_of start at)) at (Ok (TokenValue v, next) ∷ steps_at c s next) ≡ check_steps (length s) (n - left) m false next (steps_at c s next)) (λ m. refl) left z)
           ∙ sym (ap (check_steps (length s) (n - left) left (is_opened (phase_of start at)) at) o.2)
           ∙ w.2
 

@@ -3,12 +3,13 @@ use Rattle.std.specs.Prelude.{List, [], ◌∷◌, ℕ, zero, suc, ◌+◌, Bool
 use Rattle.table.specs.declared.Item.{Item}
 use Rattle.base.specs.Meaning.{pick}
 use Rattle.table.specs.declared.Item.TheVariants.{Single, Start, Value, End}
-use Rattle.table.specs.declared.Step.{Step}
-use Rattle.table.specs.declared.Step.TheVariants.{Value as StepValue, Start as StepStart, End as StepEnd, Cut as StepCut, Bad as StepBad}
 use Rattle.table.specs.Reading.{step_items, table_place}
 use Rattle.table.specs.Skipping.{Phase, singles, opened, filled, is_opened, is_inside}
 use Rattle.table.specs.declared.Fault.{Fault}
 use Rattle.table.specs.declared.Fault.TheVariants.{Cut as TableCut, Bad as TableBad, Trailing}
+use Rattle.token.specs.declared.Token.TheVariants.{Value as TokenValue, Start as TokenStart, End as TokenEnd}
+use Rattle.token.specs.declared.Malformed.TheVariants.{Cut, Bad}
+use Rattle.token.specs.Reading.{Step}
 
 -- item k of description g
 unfoldable pub item_at : ℕ → ℕ → List Item → Option Item
@@ -87,14 +88,14 @@ find_from true vs g p xs = find_sequence_from vs g (is_opened p) vs (step_items 
 -- whether steps are exactly the values vs, and then a mark
 unfoldable pub sequence_in : List ℕ → List Step → Bool
 sequence_in vs [] = false
-sequence_in [] (StepValue w next ∷ xs) = false
-sequence_in (v ∷ vs) (StepValue w next ∷ xs) = pick (eqb v w) (sequence_in vs xs) false
-sequence_in [] (StepStart next ∷ xs) = true
-sequence_in (v ∷ vs) (StepStart next ∷ xs) = false
-sequence_in [] (StepEnd next ∷ xs) = true
-sequence_in (v ∷ vs) (StepEnd next ∷ xs) = false
-sequence_in vs (StepCut ∷ xs) = false
-sequence_in vs (StepBad k ∷ xs) = false
+sequence_in [] (Ok (TokenValue w, next) ∷ xs) = false
+sequence_in (v ∷ vs) (Ok (TokenValue w, next) ∷ xs) = pick (eqb v w) (sequence_in vs xs) false
+sequence_in [] (Ok (TokenStart, next) ∷ xs) = true
+sequence_in (v ∷ vs) (Ok (TokenStart, next) ∷ xs) = false
+sequence_in [] (Ok (TokenEnd, next) ∷ xs) = true
+sequence_in (v ∷ vs) (Ok (TokenEnd, next) ∷ xs) = false
+sequence_in vs (Err Cut ∷ xs) = false
+sequence_in vs (Err (Bad k) ∷ xs) = false
 
 -- whether what is asked for begins with the value w, the first of the steps xs, in a phase
 abbrev pub begins_at : Bool → List ℕ → Phase → ℕ → List Step → Bool

@@ -1,31 +1,32 @@
 -- Where a single stands in a table, step by step: past the descriptions before its glyph's, then among that one's singles.
-use Rattle.std.specs.Prelude.{List, [], ◌∷◌, ℕ, zero, suc, eqb}
+use Rattle.std.specs.Prelude.{List, [], ◌∷◌, ℕ, zero, suc, eqb, Ok, Err}
 use Rattle.base.specs.Meaning.{pick}
 use Rattle.coding.specs.declared.Coding.{Coding}
-use Rattle.table.specs.declared.Step.{Step}
-use Rattle.table.specs.declared.Step.TheVariants.{Value as StepValue, Start as StepStart, End as StepEnd, Cut as StepCut, Bad as StepBad}
 use Rattle.table.specs.Reading.{steps_at}
 use Rattle.mapping.specs.declared.Mapping.{Mapping}
 use Rattle.mapping.specs.declared.Mapping.TheVariants.{Listed, Unlisted}
+use Rattle.token.specs.declared.Token.TheVariants.{Value as TokenValue, Start as TokenStart, End as TokenEnd}
+use Rattle.token.specs.declared.Malformed.TheVariants.{Cut, Bad}
+use Rattle.token.specs.Reading.{Step}
 
 -- the place after g descriptions, on steps from a place on; where they stop, if that is before
 unfoldable pub place_after : ℕ → ℕ → List Step → ℕ
 place_after zero at xs = at
 place_after (suc g) at [] = at
-place_after (suc g) at (StepValue v next ∷ xs) = place_after (suc g) next xs
-place_after (suc g) at (StepStart next ∷ xs) = place_after (suc g) next xs
-place_after (suc g) at (StepEnd next ∷ xs) = place_after g next xs
-place_after (suc g) at (StepCut ∷ xs) = at
-place_after (suc g) at (StepBad k ∷ xs) = at
+place_after (suc g) at (Ok (TokenValue v, next) ∷ xs) = place_after (suc g) next xs
+place_after (suc g) at (Ok (TokenStart, next) ∷ xs) = place_after (suc g) next xs
+place_after (suc g) at (Ok (TokenEnd, next) ∷ xs) = place_after g next xs
+place_after (suc g) at (Err Cut ∷ xs) = at
+place_after (suc g) at (Err (Bad k) ∷ xs) = at
 
 -- the first v among the values up to the next mark, on steps from a place on: its place and the place after it; else that mark's place
 unfoldable pub single_from : ℕ → ℕ → List Step → Mapping
 single_from v at [] = Unlisted at
-single_from v at (StepValue w next ∷ xs) = pick (eqb w v) (Listed at next) (single_from v next xs)
-single_from v at (StepStart next ∷ xs) = Unlisted at
-single_from v at (StepEnd next ∷ xs) = Unlisted at
-single_from v at (StepCut ∷ xs) = Unlisted at
-single_from v at (StepBad k ∷ xs) = Unlisted at
+single_from v at (Ok (TokenValue w, next) ∷ xs) = pick (eqb w v) (Listed at next) (single_from v next xs)
+single_from v at (Ok (TokenStart, next) ∷ xs) = Unlisted at
+single_from v at (Ok (TokenEnd, next) ∷ xs) = Unlisted at
+single_from v at (Err Cut ∷ xs) = Unlisted at
+single_from v at (Err (Bad k) ∷ xs) = Unlisted at
 
 -- where description g of a tail starts
 unfoldable pub description_at : Coding → ℕ → List ℕ → ℕ

@@ -9,8 +9,6 @@ use lib.ListN.{length, take, drop, length-append, length-drop}
 use lib.Seq.{take-append-add, take-append-le, take_at, length-take-le}
 use Rattle.base.specs.Meaning.{Bytes}
 use Rattle.base.proofs.Parts.{bytes_drop, bytes_take}
-use Rattle.token.specs.declared.Token.{Token}
-use Rattle.token.specs.declared.Token.TheVariants.{Value as TokenValue, Start as TokenStart, End as TokenEnd, Cut as TokenCut, Bad as TokenBad}
 use Rattle.token.proofs.Stopping.{Begun}
 use Rattle.coding.specs.declared.Coding.{Coding}
 use Rattle.coding.specs.Reading.{read_token, mark_len}
@@ -18,8 +16,6 @@ use Rattle.coding.specs.Meaning.{ValueOf, value_bytes, start_bytes, end_bytes}
 use Rattle.coding.proofs.Codings.{coded, stopping, mark_small}
 use Rattle.table.specs.declared.Item.{Item}
 use Rattle.table.specs.declared.Item.TheVariants.{Single, Start, Value, End}
-use Rattle.table.specs.declared.Step.{Step}
-use Rattle.table.specs.declared.Step.TheVariants.{Start as StepStart, End as StepEnd, Cut as StepCut, Bad as StepBad}
 use Rattle.table.specs.Reading.{ends_in, step_of, steps_from, check_steps}
 use Rattle.table.specs.Meaning.{item_bytes, bytes, OfCoding}
 use Rattle.table.specs.Skipping.{Phase, singles, opened, filled, is_opened}
@@ -29,6 +25,10 @@ use Rattle.table.proofs.Moves.{ended, ended_more, Move, single, first_value, oth
 use Rattle.std.specs.Prelude.{Result, Ok, Err}
 use Rattle.table.specs.declared.Fault.{Fault}
 use Rattle.table.specs.declared.Fault.TheVariants.{Cut as TableCut, Bad as TableBad, Trailing}
+use Rattle.token.specs.declared.Token.TheVariants.{Value as TokenValue, Start as TokenStart, End as TokenEnd}
+use Rattle.token.specs.declared.Token.{Token}
+use Rattle.token.specs.declared.Malformed.TheVariants.{Cut, Bad}
+use Rattle.token.specs.Reading.{Step}
 
 -- as many end marks as descriptions are left
 abbrev ends : ℕ → List Item
@@ -148,7 +148,7 @@ module _ (c : Coding) where
   begun_more n filled s b = begun_by n filled filled (Value b.value) s b refl (other_value c n b.value b.of) (ends_accepted n)
 
   -- a step that ends the check at once
-  at_once : (g n : ℕ) (p : Phase) (at : ℕ) (z : List ℕ) (w : Step) (a : Result (Unit {0}) Fault) → 1 ≤ length z → step_of (mark_len c) at (read_token c z) ≡ w →
+  at_once : (g n : ℕ) (p : Phase) (at : ℕ) (z : List ℕ) (w : Step) (a : Result (Unit {0}) Fault) → 1 ≤ length z → step_of at (read_token c z) ≡ w →
       ((xs : List Step) → check_steps (at + length z) g (suc n) (is_opened p) at (w ∷ xs) ≡ a) → walk g (suc n) p at z ≡ a
   at_once g n p at [] w a h e f = absurd (omega arith)
   at_once g n p at (b ∷ t) w a h e f = ap (check_steps (at + length (b ∷ t)) g (suc n) (is_opened p) at) (first c at b t w e) ∙ f _
@@ -169,53 +169,57 @@ module _ (c : Coding) where
       }))
 
   -- a start or end mark, read where a value has to stand
-  bad_mark : (g n at : ℕ) (x y : List ℕ) (t : Token) (w : Step) → length x ≡ mark_len c → read_token c (x ++ y) ≡ t → step_of (mark_len c) at t ≡ w →
-      ((e : ℕ) (xs : List Step) → check_steps e g (suc n) true at (w ∷ xs) ≡ Err (TableBad (at + mark_len c - 1) g)) → walk g (suc n) opened at (x ++ y) ≡ Err (TableBad (at + (mark_len c - 1)) g)
-  bad_mark g n at x y t w lx e q f =
+  bad_mark : (g n at : ℕ) (x y : List ℕ) (t : Token) → length x ≡ mark_len c → read_token c (x ++ y) ≡ Ok (t, length x) →
+      ((e : ℕ) (xs : List Step) → check_steps e g (suc n) true at (Ok (t, at + length x) ∷ xs) ≡ Err (TableBad (at + length x - 1) g)) → walk g (suc n) opened at (x ++ y) ≡ Err (TableBad (at + (mark_len c - 1)) g)
+  bad_mark g n at x y t lx e f =
       let m = (mark_small c).0 in
-      let l : at + mark_len c - 1 ≡ at + (mark_len c - 1) = omega arith in
-      at_once g n opened at (x ++ y) w (Err (TableBad (at + (mark_len c - 1)) g)) (omega (arith, length-append x y)) (ap (step_of (mark_len c) at) e ∙ q) (λ xs. f (at + length (x ++ y)) xs ∙ ap (λ (k : ℕ). Err (TableBad k g)) l)
+      let l : at + length x - 1 ≡ at + (mark_len c - 1) = omega arith in
+      at_once g n opened at (x ++ y) (Ok (t, at + length x)) (Err (TableBad (at + (mark_len c - 1)) g)) (omega (arith, length-append x y)) (ap (step_of at) e) (λ xs. f (at + length (x ++ y)) xs ∙ ap (λ (k : ℕ). Err (TableBad k g)) l)
 
   module _ (s : List ℕ) (h : 1 ≤ length s) (y : Bytes s) (ih : (t : List ℕ) → length t < length s → Bytes t → (g n : ℕ) (p : Phase) (at : ℕ) → Told g n p at t) (g n at : ℕ) where
     rest : (l : ℕ) → 1 ≤ l → (g n : ℕ) (p : Phase) (at : ℕ) → Told g n p at (drop l s)
     rest l i g n p at = ih (drop l s) (omega (arith, length-drop l s)) (bytes_drop l s y) g n p at
 
-    by_value : (p p' : Phase) (i : Item) (v l : ℕ) → Move c (suc n) p (suc n) p' i → item_bytes c i ≡ value_bytes c v → read_token c s ≡ TokenValue v l → Told g (suc n) p at s
+    by_value : (p p' : Phase) (i : Item) (v l : ℕ) → Move c (suc n) p (suc n) p' i → item_bytes c i ≡ value_bytes c v → read_token c s ≡ Ok (TokenValue v, l) → Told g (suc n) p at s
     by_value p p' i v l m b q =
         let w = (coded c).read_value_lem s y v l q in
         go_on (suc n) p (suc n) p' i m s l g at (w.2 ∙ ap (λ (x : List ℕ). x ++ drop l s) (sym b))
         (rest l (omega (arith, w.1, (coded c).value_some v w.0)) (ended i g) (suc n) p' (at + length (item_bytes c i)))
 
-    by_start : (p : Phase) → Move c (suc n) p (suc n) opened Start → read_token c s ≡ TokenStart → Told g (suc n) p at s
-    by_start p m q =
-        go_on (suc n) p (suc n) opened Start m s (mark_len c) g at ((coded c).read_start s y q) (rest (mark_len c) (mark_small c).0 g (suc n) opened (at + length (start_bytes c)))
+    by_start : (p : Phase) → Move c (suc n) p (suc n) opened Start → (l : ℕ) → read_token c s ≡ Ok (TokenStart, l) → Told g (suc n) p at s
+    by_start p m l q =
+        let w = (coded c).read_start s y l q in
+        go_on (suc n) p (suc n) opened Start m s l g at w.1 (rest l (omega (arith, w.0, (coded c).start_long, (mark_small c).0)) g (suc n) opened (at + length (start_bytes c)))
 
-    by_end : (p : Phase) → Move c (suc n) p n singles End → read_token c s ≡ TokenEnd → Told g (suc n) p at s
-    by_end p m q =
-        go_on (suc n) p n singles End m s (mark_len c) g at ((coded c).read_end s y q) (rest (mark_len c) (mark_small c).0 (suc g) n singles (at + length (end_bytes c)))
+    by_end : (p : Phase) → Move c (suc n) p n singles End → (l : ℕ) → read_token c s ≡ Ok (TokenEnd, l) → Told g (suc n) p at s
+    by_end p m l q =
+        let w = (coded c).read_end s y l q in
+        go_on (suc n) p n singles End m s l g at w.1 (rest l (omega (arith, w.0, (coded c).end_long, (mark_small c).0)) (suc g) n singles (at + length (end_bytes c)))
 
-    told : (p : Phase) (t : Token) → read_token c s ≡ t → Told g (suc n) p at s
+    told : (p : Phase) (t : Step) → read_token c s ≡ t → Told g (suc n) p at s
     unfolding check_steps
-    told singles (TokenValue v l) q = by_value singles singles (Single v) v l (single c n v ((coded c).read_value_lem s y v l q).0) refl q
-    told opened (TokenValue v l) q = by_value opened filled (Value v) v l (first_value c n v ((coded c).read_value_lem s y v l q).0) refl q
-    told filled (TokenValue v l) q = by_value filled filled (Value v) v l (other_value c n v ((coded c).read_value_lem s y v l q).0) refl q
-    told singles TokenStart q = by_start singles (first_start c n) q
-    told filled TokenStart q = by_start filled (other_start c n) q
-    told singles TokenEnd q = by_end singles (end_singles c n) q
-    told filled TokenEnd q = by_end filled (end_sequences c n) q
-    told opened TokenStart q =
-        marked g n at (start_bytes c) s (coded c).start_long (λ z. bad_mark g n at (start_bytes c) z TokenStart (StepStart (at + mark_len c)) (coded c).start_long ((coded c).start_read z) refl (λ e xs. refl))
-        (stopping c).start_begun ((coded c).read_start s y q)
-    told opened TokenEnd q =
-        marked g n at (end_bytes c) s (coded c).end_long (λ z. bad_mark g n at (end_bytes c) z TokenEnd (StepEnd (at + mark_len c)) (coded c).end_long ((coded c).end_read z) refl (λ e xs. refl))
-        (stopping c).end_begun ((coded c).read_end s y q)
-    told p TokenCut q =
-        subst (λ (a : Result (Unit {0}) Fault). Says g (suc n) p at s a) (sym (at_once g n p at s StepCut (Err (TableCut (at + length s) g)) h (ap (step_of (mark_len c) at) q) (λ xs. refl)))
+    told singles (Ok (TokenValue v, l)) q = by_value singles singles (Single v) v l (single c n v ((coded c).read_value_lem s y v l q).0) refl q
+    told opened (Ok (TokenValue v, l)) q = by_value opened filled (Value v) v l (first_value c n v ((coded c).read_value_lem s y v l q).0) refl q
+    told filled (Ok (TokenValue v, l)) q = by_value filled filled (Value v) v l (other_value c n v ((coded c).read_value_lem s y v l q).0) refl q
+    told singles (Ok (TokenStart, l)) q = by_start singles (first_start c n) l q
+    told filled (Ok (TokenStart, l)) q = by_start filled (other_start c n) l q
+    told singles (Ok (TokenEnd, l)) q = by_end singles (end_singles c n) l q
+    told filled (Ok (TokenEnd, l)) q = by_end filled (end_sequences c n) l q
+    told opened (Ok (TokenStart, l)) q =
+        let w = (coded c).read_start s y l q in
+        marked g n at (start_bytes c) s (coded c).start_long (λ z. bad_mark g n at (start_bytes c) z TokenStart (coded c).start_long ((coded c).start_read z) (λ e xs. refl))
+        (stopping c).start_begun (subst (λ (m : ℕ). s ≡ start_bytes c ++ drop m s) (w.0 ∙ (coded c).start_long) w.1)
+    told opened (Ok (TokenEnd, l)) q =
+        let w = (coded c).read_end s y l q in
+        marked g n at (end_bytes c) s (coded c).end_long (λ z. bad_mark g n at (end_bytes c) z TokenEnd (coded c).end_long ((coded c).end_read z) (λ e xs. refl))
+        (stopping c).end_begun (subst (λ (m : ℕ). s ≡ end_bytes c ++ drop m s) (w.0 ∙ (coded c).end_long) w.1)
+    told p (Err Cut) q =
+        subst (λ (a : Result (Unit {0}) Fault). Says g (suc n) p at s a) (sym (at_once g n p at s (Err Cut) (Err (TableCut (at + length s) g)) h (ap (step_of at) q) (λ xs. refl)))
         (refl, begun_more n p s ((stopping c).cut_begun s y q))
-    told p (TokenBad k) q =
+    told p (Err (Bad k)) q =
         let d = stopping c in
-        let b : (z : List ℕ) → 1 ≤ length z → read_token c z ≡ TokenBad k → walk g (suc n) p at z ≡ Err (TableBad (at + k) g) =
-        λ z l e. at_once g n p at z (StepBad (at + k)) (Err (TableBad (at + k) g)) l (ap (step_of (mark_len c) at) e) (λ xs. refl) in
+        let b : (z : List ℕ) → 1 ≤ length z → read_token c z ≡ Err (Bad k) → walk g (suc n) p at z ≡ Err (TableBad (at + k) g) =
+        λ z l e. at_once g n p at z (Err (Bad (at + k))) (Err (TableBad (at + k) g)) l (ap (step_of at) e) (λ xs. refl) in
         subst (λ (a : Result (Unit {0}) Fault). Says g (suc n) p at s a) (sym (b s h q))
         (record {
           good = k;
@@ -289,12 +293,12 @@ module _ (c : Coding) where
       ∙ same_cut l (ended_more x g is)
 
   -- a token that is bad, behind the items in front of an accepted one
-  pub bad_behind : (is : List Item) (i : Item) (js : List Item) (g n : ℕ) (p : Phase) (at : ℕ) (y : List ℕ) (k : ℕ) → 1 ≤ length y → read_token c y ≡ TokenBad k →
+  pub bad_behind : (is : List Item) (i : Item) (js : List Item) (g n : ℕ) (p : Phase) (at : ℕ) (y : List ℕ) (k : ℕ) → 1 ≤ length y → read_token c y ≡ Err (Bad k) →
       OfCoding c (is ++ (i ∷ js)) → Accepts n p (is ++ (i ∷ js)) → walk g n p at (bytes c is ++ y) ≡ Err (TableBad (at + length (bytes c is) + k) (g + ends_in is))
   unfolding check_steps
   bad_behind [] i js g zero p at y k h q o a = absurd a
   bad_behind [] i js g (suc n) p at y k h q o a =
-      at_once g n p at y (StepBad (at + k)) (Err (TableBad (at + k) g)) h (ap (step_of (mark_len c) at) q) (λ xs. refl) ∙ same_bad (omega arith) (omega arith)
+      at_once g n p at y (Err (Bad (at + k))) (Err (TableBad (at + k) g)) h (ap (step_of at) q) (λ xs. refl) ∙ same_bad (omega arith) (omega arith)
   bad_behind (x ∷ is) i js g n p at y k h q o a =
       let m = moved c n p x (is ++ (i ∷ js)) o a in
       let z = item_bytes c x in

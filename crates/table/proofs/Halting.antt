@@ -11,15 +11,16 @@ use Rattle.base.proofs.Tests.{below, same, nonzero}
 use Rattle.coding.specs.declared.Coding.{Coding}
 use Rattle.coding.specs.Reading.{no_key}
 use Rattle.coding.proofs.Codings.{no_key_lem}
-use Rattle.table.specs.declared.Step.{Step}
-use Rattle.table.specs.declared.Step.TheVariants.{Value as StepValue, Start as StepStart, End as StepEnd, Cut as StepCut, Bad as StepBad}
 use Rattle.table.specs.declared.Cursor.{Cursor}
 use Rattle.table.specs.Reading.{step_at, steps_from, steps_at, check_steps, table_of}
 use Rattle.table.specs.Skipping.{Phase, is_opened, Front, front, skipped, no_start, phase_of, cursor_of, front_at, Stands, ended_of, NoValue, refused_of, answer_at, check_front, check_at}
 use Rattle.table.proofs.Stepping.{step_says, says_first, past_end}
 use Rattle.table.proofs.Skipping.{check_skip, skip_left, skip_halts, Halted, HaltedAt, ended_trailing, ended_complete, phase_none}
-use Rattle.std.specs.Prelude.{Err}
+use Rattle.std.specs.Prelude.{Err, Ok}
 use Rattle.table.specs.declared.Fault.TheVariants.{Cut as TableCut}
+use Rattle.token.specs.declared.Token.TheVariants.{Value as TokenValue, Start as TokenStart, End as TokenEnd}
+use Rattle.token.specs.declared.Malformed.TheVariants.{Cut, Bad}
+use Rattle.token.specs.Reading.{Step}
 
 -- with no description left
 module _ (c : Coding) (s : List ℕ) (g : ℕ) (o : Bool) (at : ℕ) where
@@ -34,19 +35,19 @@ module _ (c : Coding) (s : List ℕ) (g : ℕ) (o : Bool) (at : ℕ) where
 -- no value stands where it ends with a description left
 module _ (c : Coding) where
   no_value_by : (p : Phase) (x : Step) (xs : List Step) → Halted c no_key p (x ∷ xs) → NoValue x
-  no_value_by p (StepValue v next) xs h = no_key_lem c v h
-  no_value_by p (StepStart next) xs h = tt
-  no_value_by p (StepEnd next) xs h = tt
-  no_value_by p StepCut xs h = tt
-  no_value_by p (StepBad k) xs h = tt
+  no_value_by p (Ok (TokenValue v, next)) xs h = no_key_lem c v h
+  no_value_by p (Ok (TokenStart, next)) xs h = tt
+  no_value_by p (Ok (TokenEnd, next)) xs h = tt
+  no_value_by p (Err Cut) xs h = tt
+  no_value_by p (Err (Bad k)) xs h = tt
 
   refused_by : (k e g n : ℕ) (p : Phase) (at : ℕ) (x : Step) (xs : List Step) → NoValue x → Halted c k p (x ∷ xs) → refused_of e g x ≡ check_steps e g (suc n) (is_opened p) at (x ∷ xs)
   unfolding check_steps
-  refused_by k e g n p at (StepValue v next) xs w h = absurd w
-  refused_by k e g n p at (StepStart next) xs w h = rw h
-  refused_by k e g n p at (StepEnd next) xs w h = rw h
-  refused_by k e g n p at StepCut xs w h = refl
-  refused_by k e g n p at (StepBad j) xs w h = refl
+  refused_by k e g n p at (Ok (TokenValue v, next)) xs w h = absurd w
+  refused_by k e g n p at (Ok (TokenStart, next)) xs w h = rw h
+  refused_by k e g n p at (Ok (TokenEnd, next)) xs w h = rw h
+  refused_by k e g n p at (Err Cut) xs w h = refl
+  refused_by k e g n p at (Err (Bad j)) xs w h = refl
 
   pub no_value_there : (s : List ℕ) (at : ℕ) (p : Phase) → Halted c no_key p (steps_at c s at) → NoValue (step_at c s at)
   no_value_there s at p h = go (below at (length s))

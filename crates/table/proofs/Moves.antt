@@ -8,12 +8,12 @@ use Rattle.coding.specs.declared.Coding.{Coding}
 use Rattle.coding.specs.Meaning.{ValueOf}
 use Rattle.table.specs.declared.Item.{Item}
 use Rattle.table.specs.declared.Item.TheVariants.{Single, Start, Value, End}
-use Rattle.table.specs.declared.Step.{Step}
 use Rattle.table.specs.Reading.{ends_in, value_item, step_items, check_steps}
 use Rattle.table.specs.Meaning.{OfCoding}
 use Rattle.table.specs.Skipping.{Phase, singles, opened, filled, is_opened, is_inside}
 use Rattle.table.proofs.Accepts.{Accepts}
 use Rattle.table.proofs.Stepping.{step_for}
+use Rattle.token.specs.Reading.{Step}
 
 -- the descriptions complete behind an item, of those complete in front of it
 abbrev pub ended : Item → ℕ → ℕ

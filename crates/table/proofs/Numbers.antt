@@ -11,8 +11,6 @@ use Rattle.base.specs.Meaning.{Bytes}
 use Rattle.base.proofs.Tests.{below}
 use Rattle.coding.specs.declared.Coding.{Coding}
 use Rattle.table.specs.declared.Item.{Item}
-use Rattle.table.specs.declared.Step.{Step}
-use Rattle.table.specs.declared.Step.TheVariants.{Value as StepValue, Start as StepStart, End as StepEnd, Cut as StepCut, Bad as StepBad}
 use Rattle.table.specs.Meaning.{Desc, items, bytes, OfCoding, encode, start_of, Readable, IsTable, Completable, Unfinished, BadAt, InGlyph}
 use Rattle.table.specs.Reading.{ends_in, steps_from, check_steps, table_of}
 use Rattle.table.proofs.EndToEnd.{bytes_of_append, items_append, encode_append, of_append, of_left, start_before, readable_before}
@@ -22,6 +20,9 @@ use Rattle.table.proofs.Answers.{same_cut}
 use Rattle.std.specs.Prelude.{Result, Ok, Err}
 use Rattle.table.specs.declared.Fault.{Fault}
 use Rattle.table.specs.declared.Fault.TheVariants.{Cut as TableCut, Bad as TableBad, Trailing}
+use Rattle.token.specs.declared.Token.TheVariants.{Value as TokenValue, Start as TokenStart, End as TokenEnd}
+use Rattle.token.specs.declared.Malformed.TheVariants.{Cut, Bad}
+use Rattle.token.specs.Reading.{Step}
 
 -- an answer that tells glyph h
 abbrev pub Tells : ℕ → Result (Unit {0}) Fault → Type 0
@@ -89,13 +90,13 @@ unfolding check_steps
 alike [] e g zero o at h q = absurd q
 alike [] e g (suc n) o at h q = stops [] e g n o at h q tt (λ m. refl)
 alike (x ∷ xs) e g zero o at h q = absurd q
-alike (StepValue v next ∷ xs) e g (suc n) o at h q = stays _ xs e g n o false at next h tt (λ m. refl) (alike xs e g (suc n) false next h q)
-alike (StepStart next ∷ xs) e g (suc n) true at h q = stops _ e g n true at h q tt (λ m. refl)
-alike (StepStart next ∷ xs) e g (suc n) false at h q = stays _ xs e g n false true at next h tt (λ m. refl) (alike xs e g (suc n) true next h q)
-alike (StepEnd next ∷ xs) e g (suc n) true at h q = stops _ e g n true at h q tt (λ m. refl)
-alike (StepEnd next ∷ xs) e g (suc n) false at h q = ends _ xs e g n false false at next h (λ m. refl) (alike xs e (suc g) n false next h q)
-alike (StepCut ∷ xs) e g (suc n) o at h q = stops _ e g n o at h q tt (λ m. refl)
-alike (StepBad k ∷ xs) e g (suc n) o at h q = stops _ e g n o at h q tt (λ m. refl)
+alike (Ok (TokenValue v, next) ∷ xs) e g (suc n) o at h q = stays _ xs e g n o false at next h tt (λ m. refl) (alike xs e g (suc n) false next h q)
+alike (Ok (TokenStart, next) ∷ xs) e g (suc n) true at h q = stops _ e g n true at h q tt (λ m. refl)
+alike (Ok (TokenStart, next) ∷ xs) e g (suc n) false at h q = stays _ xs e g n false true at next h tt (λ m. refl) (alike xs e g (suc n) true next h q)
+alike (Ok (TokenEnd, next) ∷ xs) e g (suc n) true at h q = stops _ e g n true at h q tt (λ m. refl)
+alike (Ok (TokenEnd, next) ∷ xs) e g (suc n) false at h q = ends _ xs e g n false false at next h (λ m. refl) (alike xs e (suc g) n false next h q)
+alike (Err Cut ∷ xs) e g (suc n) o at h q = stops _ e g n o at h q tt (λ m. refl)
+alike (Err (Bad k) ∷ xs) e g (suc n) o at h q = stops _ e g n o at h q tt (λ m. refl)
 
 -- so many descriptions without values
 abbrev bares : ℕ → List Desc

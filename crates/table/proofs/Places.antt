@@ -10,7 +10,6 @@ use lib.Seq.{take-take, take-length, drop-cons, length-take-le}
 use Rattle.base.specs.Meaning.{Bytes}
 use Rattle.base.proofs.Parts.{bytes_right}
 use Rattle.base.proofs.Tests.{below}
-use Rattle.token.specs.declared.Token.TheVariants.{Bad as TokenBad}
 use Rattle.coding.specs.declared.Coding.{Coding}
 use Rattle.coding.specs.Reading.{read_token}
 use Rattle.table.specs.declared.Item.{Item}
@@ -23,6 +22,7 @@ use Rattle.table.proofs.Reading.{items_bytes}
 use Rattle.std.specs.Prelude.{Result, Ok, Err}
 use Rattle.table.specs.declared.Fault.{Fault}
 use Rattle.table.specs.declared.Fault.TheVariants.{Cut as TableCut, Bad as TableBad, Trailing}
+use Rattle.token.specs.declared.Malformed.TheVariants.{Bad}
 
 module _ (c : Coding) (n : ℕ) where
   whole : (s : List ℕ) → walk c 0 n singles 0 s ≡ table_of c n s
@@ -37,7 +37,7 @@ module _ (c : Coding) (n : ℕ) where
 
   -- a token that is bad, behind them
   pub bad_token : (ds : List Desc) (is : List Item) (i : Item) (js : List Item) (y : List ℕ) (k : ℕ) → length ds ≡ n → Readable c ds → items ds ≡ is ++ (i ∷ js) →
-      1 ≤ length y → read_token c y ≡ TokenBad k → table_of c n (bytes c is ++ y) ≡ Err (TableBad (0 + length (bytes c is) + k) (0 + ends_in is))
+      1 ≤ length y → read_token c y ≡ Err (Bad k) → table_of c n (bytes c is ++ y) ≡ Err (TableBad (0 + length (bytes c is) + k) (0 + ends_in is))
   bad_token ds is i js y k q o e h t =
       sym (whole (bytes c is ++ y))
       ∙ bad_behind c is i js 0 n singles 0 y k h t (subst (OfCoding c) e o) (subst (Accepts n singles) e (subst (λ (m : ℕ). Accepts m singles (items ds)) q (accepts_items ds)))

@@ -12,8 +12,6 @@ use borrow.Author.Tests.{eq-eqb, ne_eqb}
 use Rattle.base.specs.Meaning.{pick}
 use Rattle.base.proofs.Parts.{rest_all}
 use Rattle.base.proofs.Tests.{by_test, below, same}
-use Rattle.token.specs.declared.Token.{Token}
-use Rattle.token.specs.declared.Token.TheVariants.{Value as TokenValue, Start as TokenStart, End as TokenEnd, Cut as TokenCut, Bad as TokenBad}
 use Rattle.utf8.specs.Reading.{read_value, as_token, utf8_key, plain_len}
 use Rattle.utf8.proofs.Plain.{mark_bad, key_itself}
 use Rattle.ucs2.specs.Reading.{is_word, read_ucs2}
@@ -21,8 +19,6 @@ use Rattle.coding.specs.declared.Coding.{Coding}
 use Rattle.coding.specs.declared.Coding.TheVariants.{Utf8, Ucs2}
 use Rattle.coding.specs.Reading.{key_of, mark_len, read_token}
 use Rattle.coding.proofs.Written.{utf8_key_lem}
-use Rattle.table.specs.declared.Step.{Step}
-use Rattle.table.specs.declared.Step.TheVariants.{Value as StepValue}
 use Rattle.table.specs.declared.Plain.{Plain}
 use Rattle.table.specs.declared.Plain.TheVariants.{Value as PlainValue, Other}
 use Rattle.table.specs.Reading.{step_of, step_at}
@@ -34,7 +30,9 @@ use Rattle.std.specs.Prelude.{Result, Ok, Err}
 use Rattle.table.specs.declared.Fault.{Fault}
 use Rattle.table.specs.declared.Fault.TheVariants.{Cut as TableCut, Bad as TableBad}
 use Rattle.token.specs.declared.Malformed.{Malformed}
-use Rattle.token.specs.declared.Malformed.TheVariants.{Cut as ReadCut, Bad as ReadBad}
+use Rattle.token.specs.declared.Malformed.TheVariants.{Cut, Bad}
+use Rattle.token.specs.declared.Token.TheVariants.{Value as TokenValue, Start as TokenStart, End as TokenEnd}
+use Rattle.token.specs.Reading.{Step}
 
 -- what plainly stands at a place is to be: the defined one, with what the step there says
 abbrev pub Plained : Coding → ℕ → List ℕ → ℕ → Plain → Type 0
@@ -45,10 +43,10 @@ plained c k s i x r w e = subst (λ (y : Step). (r ≡ plain_of c k y) × StepSa
 
 -- a value by its key
 module _ (k next : ℕ) where
-  pub with_key : (c : Coding) (v : ℕ) → key_of c v ≡ k → Other ≡ plain_of c k (StepValue v next)
+  pub with_key : (c : Coding) (v : ℕ) → key_of c v ≡ k → Other ≡ plain_of c k (Ok (TokenValue v, next))
   with_key c v e = rw (eq-eqb (key_of c v) k e)
 
-  pub without_key : (c : Coding) (v : ℕ) → (key_of c v ≡ k → ⊥) → PlainValue next ≡ plain_of c k (StepValue v next)
+  pub without_key : (c : Coding) (v : ℕ) → (key_of c v ≡ k → ⊥) → PlainValue next ≡ plain_of c k (Ok (TokenValue v, next))
   without_key c v e = rw (ne_eqb (key_of c v) k e)
 
 -- a value of one byte is its own key
@@ -57,19 +55,19 @@ one_key v h = sym (key_itself v h ∙ utf8_key_lem Utf8 v refl)
 
 -- a longer value of UTF-8, by its plain length
 module _ (s : List ℕ) (i k : ℕ) where
-  by_length : (r : Result (ℕ × ℕ) Malformed) (l : ℕ) → StepSays Utf8 s i (step_of 1 i (as_token r)) → l ≡ plain_len k r →
-      (l ≡ 0 → Other ≡ plain_of Utf8 k (step_of 1 i (as_token r))) × ((l ≡ 0 → ⊥) → PlainValue (i + l) ≡ plain_of Utf8 k (step_of 1 i (as_token r)))
+  by_length : (r : Result (ℕ × ℕ) Malformed) (l : ℕ) → StepSays Utf8 s i (step_of i (as_token r)) → l ≡ plain_len k r →
+      (l ≡ 0 → Other ≡ plain_of Utf8 k (step_of i (as_token r))) × ((l ≡ 0 → ⊥) → PlainValue (i + l) ≡ plain_of Utf8 k (step_of i (as_token r)))
   by_length (Ok (v, m)) l w e = rw (utf8_key_lem Utf8 v refl) at (go (eqb (utf8_key v) k) e)
     where
       go : (t : Bool) → l ≡ pick t 0 m →
           (l ≡ 0 → Other ≡ pick t Other (PlainValue (i + m))) × ((l ≡ 0 → ⊥) → PlainValue (i + l) ≡ pick t Other (PlainValue (i + m)))
       go true f = (λ _. refl, λ h. absurd (h f))
       go false f = (λ z. absurd (omega (arith, w.0)), λ _. ap (λ (x : ℕ). PlainValue (i + x)) f)
-  by_length (Err ReadCut) l w e = (λ _. refl, λ h. absurd (h e))
-  by_length (Err (ReadBad j)) l w e = (λ _. refl, λ h. absurd (h e))
+  by_length (Err Cut) l w e = (λ _. refl, λ h. absurd (h e))
+  by_length (Err (Bad j)) l w e = (λ _. refl, λ h. absurd (h e))
 
   module _ (h : i < length s) (a : get_or s i 0 ≡ 254 → ⊥) (b : get_or s i 0 ≡ 255 → ⊥) (l : ℕ) (e : l ≡ plain_len k (read_value (drop i s))) where
-    stepped_value : Stepped Utf8 s i (step_of 1 i (as_token (read_value (drop i s))))
+    stepped_value : Stepped Utf8 s i (step_of i (as_token (read_value (drop i s))))
     stepped_value = value_step s i h a b (read_value (drop i s)) (ap read_value (sym (rest_all s i)))
 
     pub length_none : l ≡ 0 → Plained Utf8 k s i Other
@@ -81,24 +79,24 @@ module _ (s : List ℕ) (i k : ℕ) where
 -- why a table is refused, by what the reader of a value says
 abbrev pub said : ℕ → ℕ → ℕ → Result (ℕ × ℕ) Malformed → Result (Unit {0}) Fault
 said e g i (Ok (v, l)) = Ok tt
-said e g i (Err ReadCut) = Err (TableCut e g)
-said e g i (Err (ReadBad k)) = Err (TableBad (i + k) g)
+said e g i (Err Cut) = Err (TableCut e g)
+said e g i (Err (Bad k)) = Err (TableBad (i + k) g)
 
 module _ (e g i : ℕ) where
-  said_so : (r : Result (ℕ × ℕ) Malformed) → NoValue (step_of 1 i (as_token r)) → said e g i r ≡ refused_of e g (step_of 1 i (as_token r))
+  said_so : (r : Result (ℕ × ℕ) Malformed) → NoValue (step_of i (as_token r)) → said e g i r ≡ refused_of e g (step_of i (as_token r))
   said_so (Ok (v, l)) n = absurd n
-  said_so (Err ReadCut) n = refl
-  said_so (Err (ReadBad k)) n = refl
+  said_so (Err Cut) n = refl
+  said_so (Err (Bad k)) n = refl
 
   -- a mark is bad at its only byte
-  mark_said : (r : Result (ℕ × ℕ) Malformed) (x : Step) → r ≡ Err (ReadBad 0) → Err (TableBad (i + 1 - 1) g) ≡ refused_of e g x → said e g i r ≡ refused_of e g x
+  mark_said : (r : Result (ℕ × ℕ) Malformed) (x : Step) → r ≡ Err (Bad 0) → Err (TableBad (i + 1 - 1) g) ≡ refused_of e g x → said e g i r ≡ refused_of e g x
   mark_said r x q f = let z : i + 0 ≡ i + 1 - 1 = omega arith in rw q (ap (λ (j : ℕ). Err (TableBad j g)) z ∙ f)
 
 module _ (s : List ℕ) (g i : ℕ) (n : NoValue (step_at Utf8 s i)) where
   utf8_within : i < length s → said (length s) g i (read_value (drop i s)) ≡ refused_of (length s) g (step_at Utf8 s i)
   utf8_within h = by_mark (same (get_or s i 0) 254) (same (get_or s i 0) 255)
     where
-      mark : (get_or s i 0 ≡ 254) ⊎ (get_or s i 0 ≡ 255) → read_value (drop i s) ≡ Err (ReadBad 0)
+      mark : (get_or s i 0 ≡ 254) ⊎ (get_or s i 0 ≡ 255) → read_value (drop i s) ≡ Err (Bad 0)
       mark (inl q) = rw (drop-cons s i 0 h) (mark_bad (get_or s i 0 ∷ drop (suc i) s) (omega arith) 254 q (omega arith) (omega arith))
       mark (inr q) = rw (drop-cons s i 0 h) (mark_bad (get_or s i 0 ∷ drop (suc i) s) (omega arith) 255 q (omega arith) (omega arith))
 
@@ -118,12 +116,12 @@ module _ (s : List ℕ) (g i : ℕ) (n : NoValue (step_at Utf8 s i)) where
       go (inr l) = ap (λ (t : List ℕ). said (length s) g i (read_value t)) (drop_of_length-le s l) ∙ ap (refused_of (length s) g) (past_end Utf8 s i l).0
 
 -- a token of two bytes that is no value: cut where one is missing, else bad at the second
-abbrev InTwo : Token → Type 0
-InTwo (TokenValue v l) = Unit {0}
-InTwo TokenStart = Unit {0}
-InTwo TokenEnd = Unit {0}
-InTwo TokenCut = ⊥
-InTwo (TokenBad k) = k ≡ 1
+abbrev InTwo : Step → Type 0
+InTwo (Ok (TokenValue v, l)) = Unit {0}
+InTwo (Ok (TokenStart, l)) = l ≡ 2
+InTwo (Ok (TokenEnd, l)) = l ≡ 2
+InTwo (Err Cut) = ⊥
+InTwo (Err (Bad k)) = k ≡ 1
 
 in_two : (s : List ℕ) → 2 ≤ length s → InTwo (read_ucs2 s)
 unfolding read_ucs2
@@ -132,9 +130,9 @@ in_two (a ∷ []) h = absurd (omega arith)
 in_two (a ∷ (b ∷ s)) h =
     by_test InTwo (is_word (a + 256 * b)) _ _ (λ _. tt) (λ _.
     by_test InTwo (ltb (a + 256 * b) 0xFFFE) _ _ (λ _. refl) (λ _.
-    by_test InTwo (eqb (a + 256 * b) 0xFFFE) _ _ (λ _. tt) (λ _. tt)))
+    by_test InTwo (eqb (a + 256 * b) 0xFFFE) _ _ (λ _. refl) (λ _. refl)))
 
-in_one : (s : List ℕ) → length s < 2 → read_ucs2 s ≡ TokenCut
+in_one : (s : List ℕ) → length s < 2 → read_ucs2 s ≡ Err Cut
 unfolding read_ucs2
 in_one [] h = refl
 in_one (a ∷ []) h = refl
@@ -146,12 +144,12 @@ module _ (s : List ℕ) (g i : ℕ) where
   ucs2_cut h = let n = length-drop i s in rw (in_one (drop i s) (omega arith))
 
   pub ucs2_bad : 2 ≤ length s - i → NoValue (step_at Ucs2 s i) → Err (TableBad (i + 1) g) ≡ refused_of (length s) g (step_at Ucs2 s i)
-  unfolding read_token mark_len
+  unfolding read_token
   ucs2_bad h n = let m = length-drop i s in go (read_ucs2 (drop i s)) (in_two (drop i s) (omega arith)) n
     where
-      go : (t : Token) → InTwo t → NoValue (step_of 2 i t) → Err (TableBad (i + 1) g) ≡ refused_of (length s) g (step_of 2 i t)
-      go (TokenValue v l) w n = absurd n
-      go TokenStart w n = let z : i + 1 ≡ i + 2 - 1 = omega arith in ap (λ (j : ℕ). Err (TableBad j g)) z
-      go TokenEnd w n = let z : i + 1 ≡ i + 2 - 1 = omega arith in ap (λ (j : ℕ). Err (TableBad j g)) z
-      go TokenCut w n = absurd w
-      go (TokenBad k) w n = rw w
+      go : (t : Step) → InTwo t → NoValue (step_of i t) → Err (TableBad (i + 1) g) ≡ refused_of (length s) g (step_of i t)
+      go (Ok (TokenValue v, l)) w n = absurd n
+      go (Ok (TokenStart, l)) w n = let z : i + 1 ≡ i + l - 1 = omega arith in ap (λ (j : ℕ). Err (TableBad j g)) z
+      go (Ok (TokenEnd, l)) w n = let z : i + 1 ≡ i + l - 1 = omega arith in ap (λ (j : ℕ). Err (TableBad j g)) z
+      go (Err Cut) w n = absurd w
+      go (Err (Bad k)) w n = rw w

@@ -6,28 +6,30 @@ use Prim.Native.Nat.{ℕ, ◌≤◌}
 use lib.ListN.{length, drop_of_length-le}
 use Rattle.coding.specs.declared.Coding.{Coding}
 use Rattle.table.specs.declared.Item.TheVariants.{Start, End}
-use Rattle.table.specs.declared.Step.{Step}
-use Rattle.table.specs.declared.Step.TheVariants.{Value as StepValue, Start as StepStart, End as StepEnd, Cut as StepCut, Bad as StepBad}
 use Rattle.table.specs.Reading.{steps_from, steps_at, value_item, step_items}
+use Rattle.token.specs.declared.Token.TheVariants.{Value as TokenValue, Start as TokenStart, End as TokenEnd}
+use Rattle.token.specs.declared.Malformed.TheVariants.{Cut, Bad}
+use Rattle.token.specs.Reading.{Step}
+use Rattle.std.specs.Prelude.{Ok, Err}
 
 module _ (i : Bool) (xs ys : List Step) where
-  pub told_value : (v next : ℕ) → xs ≡ StepValue v next ∷ ys → step_items i xs ≡ value_item i v ∷ step_items i ys
+  pub told_value : (v next : ℕ) → xs ≡ Ok (TokenValue v, next) ∷ ys → step_items i xs ≡ value_item i v ∷ step_items i ys
   unfolding step_items
   told_value v next e = rw e
 
-  pub told_start : (next : ℕ) → xs ≡ StepStart next ∷ ys → step_items i xs ≡ Start ∷ step_items true ys
+  pub told_start : (next : ℕ) → xs ≡ Ok (TokenStart, next) ∷ ys → step_items i xs ≡ Start ∷ step_items true ys
   unfolding step_items
   told_start next e = rw e
 
-  pub told_end : (next : ℕ) → xs ≡ StepEnd next ∷ ys → step_items i xs ≡ End ∷ step_items false ys
+  pub told_end : (next : ℕ) → xs ≡ Ok (TokenEnd, next) ∷ ys → step_items i xs ≡ End ∷ step_items false ys
   unfolding step_items
   told_end next e = rw e
 
-  pub told_cut : xs ≡ StepCut ∷ ys → step_items i xs ≡ []
+  pub told_cut : xs ≡ Err Cut ∷ ys → step_items i xs ≡ []
   unfolding step_items
   told_cut e = rw e
 
-  pub told_bad : (k : ℕ) → xs ≡ StepBad k ∷ ys → step_items i xs ≡ []
+  pub told_bad : (k : ℕ) → xs ≡ Err (Bad k) ∷ ys → step_items i xs ≡ []
   unfolding step_items
   told_bad k e = rw e
 

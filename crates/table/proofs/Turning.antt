@@ -6,7 +6,6 @@ use Prim.Native.Nat.{ℕ, suc, ◌-◌, ◌*◌, ◌≤◌, ◌<◌}
 use native.Mathlib.Omega.{arith}
 use lib.ListN.{length, drop_of_length-le}
 use Rattle.coding.specs.declared.Coding.{Coding}
-use Rattle.table.specs.declared.Step.TheVariants.{Value as StepValue, Start as StepStart, End as StepEnd}
 use Rattle.table.specs.declared.Cursor.{Cursor}
 use Rattle.table.specs.declared.Plain.TheVariants.{Value as PlainValue, Start as PlainStart, End as PlainEnd, Other}
 use Rattle.table.specs.Reading.{step_at, steps_from, steps_at}
@@ -14,6 +13,8 @@ use Rattle.table.specs.Bounds.{StepSays}
 use Rattle.table.specs.Skipping.{Phase, plain_of, Front, front, skip_from, no_start, phase_of, cursor_of, front_at, Stands}
 use Rattle.table.proofs.Stepping.{says_first}
 use Rattle.table.proofs.Skipping.{ValueAt, plain_value, plain_start, plain_end, skip_other, skip_value, skip_start, halt_start, skip_end, skip_last, halt_end, skip_past, phase_none, phase_here, phase_opened, phase_other, phase_value}
+use Rattle.token.specs.declared.Token.TheVariants.{Value as TokenValue, Start as TokenStart, End as TokenEnd}
+use Rattle.std.specs.Prelude.{Ok}
 
 module _ (c : Coding) (s : List ℕ) (k : ℕ) where
   -- how far it is gone from a cursor on
@@ -43,7 +44,7 @@ module _ (c : Coding) (s : List ℕ) (k : ℕ) where
         value_there : ValueAt c k (step_at c s at) next
         value_there = plain_value c k (step_at c s at) next e
 
-        value_says : StepSays c s at (StepValue value_there.value next)
+        value_says : StepSays c s at (Ok (TokenValue value_there.value, next))
         value_says = subst (StepSays c s at) value_there.step w
 
         value_on : (at < next) × (next ≤ length s)
@@ -64,7 +65,7 @@ module _ (c : Coding) (s : List ℕ) (k : ℕ) where
 
       -- a start mark
       module _ (next : ℕ) (e : PlainStart next ≡ plain_of c k (step_at c s at)) where
-        start_says : StepSays c s at (StepStart next)
+        start_says : StepSays c s at (Ok (TokenStart, next))
         start_says = subst (StepSays c s at) (plain_start c k (step_at c s at) next e) w
 
         start_on : (at < next) × (next ≤ length s)
@@ -85,7 +86,7 @@ module _ (c : Coding) (s : List ℕ) (k : ℕ) where
 
       -- an end mark
       module _ (next : ℕ) (e : PlainEnd next ≡ plain_of c k (step_at c s at)) where
-        end_says : StepSays c s at (StepEnd next)
+        end_says : StepSays c s at (Ok (TokenEnd, next))
         end_says = subst (StepSays c s at) (plain_end c k (step_at c s at) next e) w
 
         end_on : (at < next) × (next ≤ length s)
@@ -95,14 +96,14 @@ module _ (c : Coding) (s : List ℕ) (k : ℕ) where
         end_over o z =
             let y : left - 1 ≡ suc (left - 1 - 1) = omega arith in
             sym (ap (skip_from c k (left - 1) (phase_of start at) at) end_says.2
-            ∙ ap (λ (n : ℕ). skip_from c k n (phase_of start at) at (StepEnd next ∷ steps_at c s next)) y
+            ∙ ap (λ (n : ℕ). skip_from c k n (phase_of start at) at (Ok (TokenEnd, next) ∷ steps_at c s next)) y
             ∙ skip_end c k at (steps_at c s next) (left - 1 - 1) (phase_of start at) next (phase_other start at o)
             ∙ ap (λ (p : Phase). skip_from c k (left - 1 - 1) p next (steps_at c s next)) (sym (phase_none next)))
 
         ends_last : (start ≡ at → ⊥) → left - 1 ≡ 0 → front_at c s (cursor_of next 0 no_start) ≡ over at left start
         ends_last o z =
             sym (ap (skip_from c k (left - 1) (phase_of start at) at) end_says.2
-            ∙ ap (λ (n : ℕ). skip_from c k n (phase_of start at) at (StepEnd next ∷ steps_at c s next)) z
+            ∙ ap (λ (n : ℕ). skip_from c k n (phase_of start at) at (Ok (TokenEnd, next) ∷ steps_at c s next)) z
             ∙ skip_last c k at (steps_at c s next) (phase_of start at) next (phase_other start at o)
             ∙ ap (λ (p : Phase). front 0 p next (steps_at c s next)) (sym (phase_none next)))
 

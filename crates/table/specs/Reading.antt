@@ -2,43 +2,36 @@
 -- step by step.
 use Rattle.std.specs.Prelude.{Bool, true, false, List, [], ◌∷◌, ℕ, zero, suc, ◌-◌, ◌+◌, length, drop, Result, Ok, Err}
 use Rattle.coding.specs.declared.Coding.{Coding}
-use Rattle.table.specs.declared.Step.{Step}
-use Rattle.table.specs.declared.Step.TheVariants.{Value as StepValue, Start as StepStart, End as StepEnd, Cut as StepCut, Bad as StepBad}
 use Rattle.table.specs.declared.Item.{Item}
 use Rattle.table.specs.declared.Item.TheVariants.{Single, Start, Value, End}
-use Rattle.token.specs.declared.Token.{Token}
-use Rattle.token.specs.declared.Token.TheVariants.{Value as TokenValue, Start as TokenStart, End as TokenEnd, Cut as TokenCut, Bad as TokenBad}
-use Rattle.coding.specs.Reading.{read_token, mark_len}
+use Rattle.coding.specs.Reading.{read_token}
 use Rattle.table.specs.declared.Fault.{Fault}
 use Rattle.table.specs.declared.Fault.TheVariants.{Cut as TableCut, Bad as TableBad, Trailing}
+use Rattle.token.specs.declared.Token.TheVariants.{Value as TokenValue, Start as TokenStart, End as TokenEnd}
+use Rattle.token.specs.declared.Malformed.TheVariants.{Cut, Bad}
+use Rattle.token.specs.Reading.{Step, behind}
 
--- the step that a token at a place makes, where marks are m bytes long
-abbrev pub step_of : ℕ → ℕ → Token → Step
-step_of m at (TokenValue v l) = StepValue v (at + l)
-step_of m at TokenStart = StepStart (at + m)
-step_of m at TokenEnd = StepEnd (at + m)
-step_of m at TokenCut = StepCut
-step_of m at (TokenBad k) = StepBad (at + k)
+-- what was read at a place, its places counted from the front
+abbrev pub step_of : ℕ → Step → Step
+step_of at (Ok (t, l)) = Ok (t, at + l)
+step_of at (Err m) = Err (behind at m)
 
 -- the step from a place on
 abbrev pub step_at : Coding → List ℕ → ℕ → Step
-step_at c s at = step_of (mark_len c) at (read_token c (drop at s))
+step_at c s at = step_of at (read_token c (drop at s))
 
 -- what stands from the place after a step on; nothing where reading stops
 abbrev pub after_step : Step → (ℕ → List Step) → List Step
-after_step (StepValue v next) f = f next
-after_step (StepStart next) f = f next
-after_step (StepEnd next) f = f next
-after_step StepCut f = []
-after_step (StepBad k) f = []
+after_step (Ok (t, next)) f = f next
+after_step (Err m) f = []
 
 -- the steps of a list of bytes that stands at a place, where so many of its bytes belong to the step before
 unfoldable pub steps_from : Coding → ℕ → ℕ → List ℕ → List Step
 steps_from c at k [] = []
 steps_from c at (suc k) (b ∷ s) = steps_from c (suc at) k s
 steps_from c at zero (b ∷ s) =
-    step_of (mark_len c) at (read_token c (b ∷ s))
-    ∷ after_step (step_of (mark_len c) at (read_token c (b ∷ s))) (λ next. steps_from c (suc at) (next - suc at) s)
+    step_of at (read_token c (b ∷ s))
+    ∷ after_step (step_of at (read_token c (b ∷ s))) (λ next. steps_from c (suc at) (next - suc at) s)
 
 -- all steps from a place of a list on
 abbrev pub steps_at : Coding → List ℕ → ℕ → List Step
@@ -52,11 +45,10 @@ value_item true v = Value v
 -- steps as items
 unfoldable pub step_items : Bool → List Step → List Item
 step_items inside [] = []
-step_items inside (StepValue v next ∷ xs) = value_item inside v ∷ step_items inside xs
-step_items inside (StepStart next ∷ xs) = Start ∷ step_items true xs
-step_items inside (StepEnd next ∷ xs) = End ∷ step_items false xs
-step_items inside (StepCut ∷ xs) = []
-step_items inside (StepBad k ∷ xs) = []
+step_items inside (Ok (TokenValue v, next) ∷ xs) = value_item inside v ∷ step_items inside xs
+step_items inside (Ok (TokenStart, next) ∷ xs) = Start ∷ step_items true xs
+step_items inside (Ok (TokenEnd, next) ∷ xs) = End ∷ step_items false xs
+step_items inside (Err m ∷ xs) = []
 
 -- the items that a list of bytes is, as far as it can be read
 abbrev pub items_in : Coding → List ℕ → List Item
@@ -79,13 +71,13 @@ at_end g (suc n) at = Err (TableCut at g)
 unfoldable pub check_steps : ℕ → ℕ → ℕ → Bool → ℕ → List Step → Result (Unit {0}) Fault
 check_steps e g n opened at [] = at_end g n at
 check_steps e g zero opened at (x ∷ xs) = Err (Trailing at)
-check_steps e g (suc n) opened at (StepValue v next ∷ xs) = check_steps e g (suc n) false next xs
-check_steps e g (suc n) true at (StepStart next ∷ xs) = Err (TableBad (next - 1) g)
-check_steps e g (suc n) false at (StepStart next ∷ xs) = check_steps e g (suc n) true next xs
-check_steps e g (suc n) true at (StepEnd next ∷ xs) = Err (TableBad (next - 1) g)
-check_steps e g (suc n) false at (StepEnd next ∷ xs) = check_steps e (suc g) n false next xs
-check_steps e g (suc n) opened at (StepCut ∷ xs) = Err (TableCut e g)
-check_steps e g (suc n) opened at (StepBad k ∷ xs) = Err (TableBad k g)
+check_steps e g (suc n) opened at (Ok (TokenValue v, next) ∷ xs) = check_steps e g (suc n) false next xs
+check_steps e g (suc n) true at (Ok (TokenStart, next) ∷ xs) = Err (TableBad (next - 1) g)
+check_steps e g (suc n) false at (Ok (TokenStart, next) ∷ xs) = check_steps e g (suc n) true next xs
+check_steps e g (suc n) true at (Ok (TokenEnd, next) ∷ xs) = Err (TableBad (next - 1) g)
+check_steps e g (suc n) false at (Ok (TokenEnd, next) ∷ xs) = check_steps e (suc g) n false next xs
+check_steps e g (suc n) opened at (Err Cut ∷ xs) = Err (TableCut e g)
+check_steps e g (suc n) opened at (Err (Bad k) ∷ xs) = Err (TableBad k g)
 
 -- the answer on a tail that must be n descriptions
 abbrev pub table_of : Coding → ℕ → List ℕ → Result (Unit {0}) Fault

@@ -3,14 +3,15 @@ use Rattle.std.specs.Prelude.{◌≡◌, Bool, true, false, ◌⊎◌, List, [],
 use Rattle.base.specs.Meaning.{pick}
 use Rattle.coding.specs.declared.Coding.{Coding}
 use Rattle.coding.specs.Reading.{key_of}
-use Rattle.table.specs.declared.Step.{Step}
-use Rattle.table.specs.declared.Step.TheVariants.{Value as StepValue, Start as StepStart, End as StepEnd, Cut as StepCut, Bad as StepBad}
 use Rattle.table.specs.declared.Plain.{Plain}
 use Rattle.table.specs.declared.Plain.TheVariants.{Value as PlainValue, Start as PlainStart, End as PlainEnd, Other}
 use Rattle.table.specs.declared.Cursor.{Cursor}
 use Rattle.table.specs.Reading.{step_at, steps_at, check_steps}
 use Rattle.table.specs.declared.Fault.{Fault}
 use Rattle.table.specs.declared.Fault.TheVariants.{Cut as TableCut, Bad as TableBad, Trailing}
+use Rattle.token.specs.declared.Token.TheVariants.{Value as TokenValue, Start as TokenStart, End as TokenEnd}
+use Rattle.token.specs.declared.Malformed.TheVariants.{Cut, Bad}
+use Rattle.token.specs.Reading.{Step}
 
 -- where in a description: among its singles, just after a start mark, or in a sequence with a value
 pub data Phase : Type 0 where
@@ -38,11 +39,10 @@ after_value filled = filled
 
 -- what plainly stands there: a step without its value, but for a value with the key k and where nothing can be read
 abbrev pub plain_of : Coding → ℕ → Step → Plain
-plain_of c k (StepValue v next) = pick (eqb (key_of c v) k) Other (PlainValue next)
-plain_of c k (StepStart next) = PlainStart next
-plain_of c k (StepEnd next) = PlainEnd next
-plain_of c k StepCut = Other
-plain_of c k (StepBad j) = Other
+plain_of c k (Ok (TokenValue v, next)) = pick (eqb (key_of c v) k) Other (PlainValue next)
+plain_of c k (Ok (TokenStart, next)) = PlainStart next
+plain_of c k (Ok (TokenEnd, next)) = PlainEnd next
+plain_of c k (Err m) = Other
 
 -- how far reading has come: the descriptions still to end, the phase, the place, and the steps from there on
 pub record Front : Type 0 where
@@ -58,17 +58,16 @@ front n p i xs = record { left = n; phase = p; at = i; rest = xs }
 -- description
 unfoldable pub skip_from : Coding → ℕ → ℕ → Phase → ℕ → List Step → Front
 skip_from c k n p at [] = front (suc n) p at []
-skip_from c k n p at (StepValue v next ∷ xs) = pick (eqb (key_of c v) k) (front (suc n) p at (StepValue v next ∷ xs)) (skip_from c k n (after_value p) next xs)
-skip_from c k n singles at (StepStart next ∷ xs) = skip_from c k n opened next xs
-skip_from c k n opened at (StepStart next ∷ xs) = front (suc n) opened at (StepStart next ∷ xs)
-skip_from c k n filled at (StepStart next ∷ xs) = skip_from c k n opened next xs
-skip_from c k n opened at (StepEnd next ∷ xs) = front (suc n) opened at (StepEnd next ∷ xs)
-skip_from c k zero singles at (StepEnd next ∷ xs) = front 0 singles next xs
-skip_from c k zero filled at (StepEnd next ∷ xs) = front 0 singles next xs
-skip_from c k (suc n) singles at (StepEnd next ∷ xs) = skip_from c k n singles next xs
-skip_from c k (suc n) filled at (StepEnd next ∷ xs) = skip_from c k n singles next xs
-skip_from c k n p at (StepCut ∷ xs) = front (suc n) p at (StepCut ∷ xs)
-skip_from c k n p at (StepBad j ∷ xs) = front (suc n) p at (StepBad j ∷ xs)
+skip_from c k n p at (Ok (TokenValue v, next) ∷ xs) = pick (eqb (key_of c v) k) (front (suc n) p at (Ok (TokenValue v, next) ∷ xs)) (skip_from c k n (after_value p) next xs)
+skip_from c k n singles at (Ok (TokenStart, next) ∷ xs) = skip_from c k n opened next xs
+skip_from c k n opened at (Ok (TokenStart, next) ∷ xs) = front (suc n) opened at (Ok (TokenStart, next) ∷ xs)
+skip_from c k n filled at (Ok (TokenStart, next) ∷ xs) = skip_from c k n opened next xs
+skip_from c k n opened at (Ok (TokenEnd, next) ∷ xs) = front (suc n) opened at (Ok (TokenEnd, next) ∷ xs)
+skip_from c k zero singles at (Ok (TokenEnd, next) ∷ xs) = front 0 singles next xs
+skip_from c k zero filled at (Ok (TokenEnd, next) ∷ xs) = front 0 singles next xs
+skip_from c k (suc n) singles at (Ok (TokenEnd, next) ∷ xs) = skip_from c k n singles next xs
+skip_from c k (suc n) filled at (Ok (TokenEnd, next) ∷ xs) = skip_from c k n singles next xs
+skip_from c k n p at (Err m ∷ xs) = front (suc n) p at (Err m ∷ xs)
 
 -- from a front on, with a description still to end
 abbrev pub skipped : Coding → ℕ → Front → Front
@@ -99,19 +98,18 @@ ended_of e at = pick (ltb at e) (Err (Trailing at)) (Ok tt)
 
 -- no value stands there
 abbrev pub NoValue : Step → Type 0
-NoValue (StepValue v next) = ⊥
-NoValue (StepStart next) = Unit {0}
-NoValue (StepEnd next) = Unit {0}
-NoValue StepCut = Unit {0}
-NoValue (StepBad k) = Unit {0}
+NoValue (Ok (TokenValue v, next)) = ⊥
+NoValue (Ok (TokenStart, next)) = Unit {0}
+NoValue (Ok (TokenEnd, next)) = Unit {0}
+NoValue (Err m) = Unit {0}
 
 -- the answer at a step where a value must stand, of bytes that end at e, with g descriptions complete
 abbrev pub refused_of : ℕ → ℕ → Step → Result (Unit {0}) Fault
-refused_of e g (StepValue v next) = Ok tt
-refused_of e g (StepStart next) = Err (TableBad (next - 1) g)
-refused_of e g (StepEnd next) = Err (TableBad (next - 1) g)
-refused_of e g StepCut = Err (TableCut e g)
-refused_of e g (StepBad k) = Err (TableBad k g)
+refused_of e g (Ok (TokenValue v, next)) = Ok tt
+refused_of e g (Ok (TokenStart, next)) = Err (TableBad (next - 1) g)
+refused_of e g (Ok (TokenEnd, next)) = Err (TableBad (next - 1) g)
+refused_of e g (Err Cut) = Err (TableCut e g)
+refused_of e g (Err (Bad k)) = Err (TableBad k g)
 
 -- the answer at a cursor, where no value stands or no description is left
 abbrev pub answer_at : Coding → List ℕ → ℕ → Cursor → Result (Unit {0}) Fault

@@ -2,16 +2,16 @@
 // specs/Reading.antt (its items one by one, and what the check answers), specs/Skipping.antt (going over it without its values).
 #![tactic(auto)]
 
-ghost use Rattle.std.specs.Prelude.{◌≡◌, ◌-◌, ◌≤◌, ◌<◌, length};
+ghost use Rattle.std.specs.Prelude.{◌≡◌, ◌-◌, ◌≤◌, ◌<◌, length, Ok};
 ghost use Rattle.coding.specs.declared.Coding.TheVariants.{Utf8, Ucs2};
 ghost use Rattle.coding.specs.Reading.{no_key};
-ghost use Rattle.table.specs.declared.Step.TheVariants.{Value as StepValue};
+ghost use Rattle.token.specs.declared.Token.TheVariants.{Value as TokenValue};
 ghost use Rattle.table.specs.Reading.{step_of, step_at, value_item, table_of};
 ghost use Rattle.table.specs.Bounds.{StepFits, StepSays};
 ghost use Rattle.table.specs.Skipping.{plain_of, cursor_of, Stands, front_at, skipped, ended_of, NoValue, refused_of, answer_at, check_at};
 
 use coding::Coding;
-use token::{Malformed, Token};
+use token::{Malformed, Step, Token};
 
 // What stands in a description, one after the other: a single value, a start mark, a value in a sequence, the end mark.
 #[derive(Clone, Copy, Debug, PartialEq, Eq)]
@@ -22,28 +22,14 @@ pub enum Item {
     End,
 }
 
-// What stands at a place of a tail, and the place after it; Cut where it is not all there, Bad with the first wrong place.
-#[derive(Clone, Copy, Debug, PartialEq, Eq)]
-pub enum Step {
-    Value(u32, usize),
-    Start(usize),
-    End(usize),
-    Cut,
-    Bad(usize),
-}
-
-// The step that a token at a place makes, where marks are so many bytes long. Asks that the place after it is a number: it stands within
-// the bytes that the token was read from.
-fn step_of(mark: usize, at: usize, t: Token) -> Step
-    requires { StepFits (step_of mark at t) }
-    ensures { result ≡ step_of mark at t }
+// What was read at a place, its places counted from the front. Asks that these are numbers: they stand within the bytes that it was read from.
+fn step_of(at: usize, r: Step) -> Step
+    requires { StepFits (step_of at r) }
+    ensures { result ≡ step_of at r }
 {
-    match t {
-        Token::Value(v, l) => Step::Value(v, at + l),
-        Token::Start => Step::Start(at + mark),
-        Token::End => Step::End(at + mark),
-        Token::Cut => Step::Cut,
-        Token::Bad(k) => Step::Bad(at + k),
+    match r {
+        Ok((t, l)) => Ok((t, at + l)),
+        Err(m) => Err(m.behind(at)),
     }
 }
 
@@ -52,25 +38,22 @@ fn utf8_step(s: &[u8], at: usize) -> Step
     ensures { (result ≡ step_at Utf8 s.now at) × StepSays Utf8 s.now at result }
 {
     if s.len() <= at {
-        return Step::Cut;
+        return Err(Malformed::Cut);
     }
     let b = s[at];
     if b < 0x80 {
-        return Step::Value(base::wide(b), at + 1);
+        return Ok((Token::Value(base::wide(b)), at + 1));
     }
     if b == 0xFF {
-        return Step::End(at + 1);
+        return Ok((Token::End, at + 1));
     }
     if b == 0xFE {
-        return Step::Start(at + 1);
+        return Ok((Token::Start, at + 1));
     }
     let r = utf8::read_value(&s[at..]);
     match r {
-        Ok((v, l)) => Step::Value(v, at + l),
-        Err(t) => match t {
-            Malformed::Cut => Step::Cut,
-            Malformed::Bad(k) => Step::Bad(at + k),
-        },
+        Ok((v, l)) => Ok((Token::Value(v), at + l)),
+        Err(m) => Err(m.behind(at)),
     }
 }
 
@@ -79,13 +62,13 @@ fn ucs2_step(s: &[u8], at: usize) -> Step
     ensures { (result ≡ step_at Ucs2 s.now at) × StepSays Ucs2 s.now at result }
 {
     if s.len() <= at {
-        return Step::Cut;
+        return Err(Malformed::Cut);
     }
-    let t = ucs2::read_ucs2(&s[at..]);
-    step_of(2, at, t)
+    let r = ucs2::read_ucs2(&s[at..]);
+    step_of(at, r)
 }
 
-// The step from a place on; Cut from the end on. The place after it is past `at` and within the bytes. It is small enough for the compiler to
+// The step from a place on; `Cut` from the end on. The place after it is past `at` and within the bytes. It is small enough for the compiler to
 // put into every loop that takes it: values of one byte and marks, and all of PSF1, are read there, and only a longer value of UTF-8 costs a call
 // (docs/DECISIONS.md, "Speed").
 pub fn step_at(c: Coding, s: &[u8], at: usize) -> Step
@@ -153,7 +136,7 @@ fn utf8_plain(s: &[u8], at: usize, key: u32) -> Plain
 
 // A value of two bytes by its key.
 fn word_plain(key: u32, v: u32, next: usize) -> Plain
-    ensures { result ≡ plain_of Ucs2 key (StepValue v next) }
+    ensures { result ≡ plain_of Ucs2 key (Ok (TokenValue v, next)) }
 {
     if coding::key_of(Coding::Ucs2, v) == key {
         return Plain::Other;
@@ -166,13 +149,13 @@ fn ucs2_plain(s: &[u8], at: usize, key: u32) -> Plain
     requires { at < length s.now }
     ensures { (result ≡ plain_of Ucs2 key (step_at Ucs2 s.now at)) × StepSays Ucs2 s.now at (step_at Ucs2 s.now at) }
 {
-    let t = ucs2_step(s, at);
+    let Ok((t, next)) = ucs2_step(s, at) else {
+        return Plain::Other;
+    };
     match t {
-        Step::Value(v, next) => word_plain(key, v, next),
-        Step::Start(next) => Plain::Start(next),
-        Step::End(next) => Plain::End(next),
-        Step::Cut => Plain::Other,
-        Step::Bad(_) => Plain::Other,
+        Token::Value(v) => word_plain(key, v, next),
+        Token::Start => Plain::Start(next),
+        Token::End => Plain::End(next),
     }
 }
 

@@ -11,8 +11,6 @@ use lib.Seq.{drop-append-le, drop-drop, drop-nil}
 use borrow.Author.Tests.{ne_eqb}
 use Rattle.base.specs.Meaning.{pick}
 use Rattle.base.proofs.Tests.{same}
-use Rattle.token.specs.declared.Token.{Token}
-use Rattle.token.specs.declared.Token.TheVariants.{Value, Start, End, Cut, Bad}
 use Rattle.coding.specs.declared.Coding.{Coding}
 use Rattle.coding.specs.Reading.{read_token, mark_len}
 use Rattle.coding.proofs.Codings.{growing}
@@ -23,6 +21,8 @@ use Rattle.tablefeed.proofs.Turns.{Turn, On, Stop, Wait, turn_of, run_on, check_
 use Rattle.std.specs.Prelude.{Result, Err}
 use Rattle.table.specs.declared.Fault.{Fault}
 use Rattle.table.specs.declared.Fault.TheVariants.{Bad as TableBad, Trailing}
+use Rattle.token.specs.declared.Token.{Token}
+use Rattle.token.specs.declared.Malformed.TheVariants.{Cut, Bad}
 
 -- the same with its place d further on
 abbrev pub moved : ℕ → Run → Run

@@ -7,21 +7,21 @@ use Prim.Native.Nat.{ℕ, suc, ◌+◌, ◌-◌, ◌≤◌, ◌<◌}
 use native.Mathlib.Omega.{arith}
 use lib.ListN.{length, take, drop, take-append-drop}
 use lib.Seq.{length-take-le}
-use Rattle.token.specs.declared.Token.{Token}
-use Rattle.token.specs.declared.Token.TheVariants.{Value, Start, End, Cut, Bad}
 use Rattle.token.proofs.Sized.{Sized}
 use Rattle.coding.specs.declared.Coding.{Coding}
 use Rattle.coding.specs.Reading.{read_token, mark_len}
 use Rattle.coding.proofs.Codings.{token_sized, mark_small, growing}
-use Rattle.table.specs.declared.Step.{Step}
-use Rattle.table.specs.declared.Step.TheVariants.{Value as StepValue, Start as StepStart, End as StepEnd, Cut as StepCut, Bad as StepBad}
 use Rattle.table.specs.Reading.{step_of, after_step, steps_from, check_steps}
 use Rattle.table.proofs.Stepping.{first, front}
 use Rattle.tablefeed.specs.declared.Run.{Run}
 use Rattle.tablefeed.specs.Reading.{going, stopped, run_of}
-use Rattle.std.specs.Prelude.{Result, Err}
+use Rattle.std.specs.Prelude.{Result, Err, Ok}
 use Rattle.table.specs.declared.Fault.{Fault}
 use Rattle.table.specs.declared.Fault.TheVariants.{Cut as TableCut, Bad as TableBad}
+use Rattle.token.specs.declared.Token.TheVariants.{Value as TokenValue, Start as TokenStart, End as TokenEnd}
+use Rattle.token.specs.declared.Token.{Token}
+use Rattle.token.specs.declared.Malformed.TheVariants.{Cut, Bad}
+use Rattle.token.specs.Reading.{Step}
 
 -- on with so many descriptions complete and to come, just after a start mark or not, behind l bytes; or stopped after k bytes
 pub data Turn : Type 0 where
@@ -80,31 +80,31 @@ module _ (c : Coding) where
         × TurnIn (length q) (turn_of (mark_len c) g n o x)
     unfolding run_of check_steps
     by o (Value v l) e z =
-        let w = whole at q l (StepValue v (at + l)) z.0 z.1 (ap (step_of (mark_len c) at) e) (λ f. refl) in
+        let w = whole at q l (Ok (TokenValue v, (at + l))) z.0 z.1 (ap (step_of (mark_len c) at) e) (λ f. refl) in
         (rw w, λ k. rw w, z)
     by true Start e z =
         let m = mark_small c in
-        let w = whole at q (mark_len c) (StepStart (at + mark_len c)) m.0 z (ap (step_of (mark_len c) at) e) (λ f. refl) in
+        let w = whole at q (mark_len c) (Ok (TokenStart, (at + mark_len c))) m.0 z (ap (step_of (mark_len c) at) e) (λ f. refl) in
         let p : at + mark_len c - 1 ≡ at + (mark_len c - 1) = omega (arith, m.0) in
         (rw (w, p), λ k. rw (w, p), omega (arith, m.0))
     by false Start e z =
         let m = mark_small c in
-        let w = whole at q (mark_len c) (StepStart (at + mark_len c)) m.0 z (ap (step_of (mark_len c) at) e) (λ f. refl) in
+        let w = whole at q (mark_len c) (Ok (TokenStart, (at + mark_len c))) m.0 z (ap (step_of (mark_len c) at) e) (λ f. refl) in
         (rw w, λ k. rw w, (m.0, z))
     by true End e z =
         let m = mark_small c in
-        let w = whole at q (mark_len c) (StepEnd (at + mark_len c)) m.0 z (ap (step_of (mark_len c) at) e) (λ f. refl) in
+        let w = whole at q (mark_len c) (Ok (TokenEnd, (at + mark_len c))) m.0 z (ap (step_of (mark_len c) at) e) (λ f. refl) in
         let p : at + mark_len c - 1 ≡ at + (mark_len c - 1) = omega (arith, m.0) in
         (rw (w, p), λ k. rw (w, p), omega (arith, m.0))
     by false End e z =
         let m = mark_small c in
-        let w = whole at q (mark_len c) (StepEnd (at + mark_len c)) m.0 z (ap (step_of (mark_len c) at) e) (λ f. refl) in
+        let w = whole at q (mark_len c) (Ok (TokenEnd, (at + mark_len c))) m.0 z (ap (step_of (mark_len c) at) e) (λ f. refl) in
         (rw w, λ k. rw w, (m.0, z))
     by o Cut e z =
-        let w = halts at b t StepCut (ap (step_of (mark_len c) at) e) (λ f. refl) in
+        let w = halts at b t (Err Cut) (ap (step_of (mark_len c) at) e) (λ f. refl) in
         (rw w, λ k. rw w, (growing c).cut_short q e)
     by o (Bad k) e z =
-        let w = halts at b t (StepBad (at + k)) (ap (step_of (mark_len c) at) e) (λ f. refl) in
+        let w = halts at b t (Err (Bad (at + k))) (ap (step_of (mark_len c) at) e) (λ f. refl) in
         (rw w, λ i. rw w, z)
 
     pub turns : (o : Bool) →

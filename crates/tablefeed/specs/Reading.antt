@@ -1,15 +1,16 @@
 -- A Unicode table, fed part by part: the grammar followed step by step as the whole-file check does, and where it stands when the bytes end.
-use Rattle.std.specs.Prelude.{ℕ, zero, suc, ◌+◌, ◌-◌, Bool, true, false, not, List, [], ◌∷◌, ◌++◌, eqb, drop}
+use Rattle.std.specs.Prelude.{ℕ, zero, suc, ◌+◌, ◌-◌, Bool, true, false, not, List, [], ◌∷◌, ◌++◌, eqb, drop, Ok, Err}
 use Rattle.base.specs.Meaning.{pick}
 use Rattle.coding.specs.declared.Coding.{Coding}
-use Rattle.table.specs.declared.Step.{Step}
-use Rattle.table.specs.declared.Step.TheVariants.{Value as StepValue, Start as StepStart, End as StepEnd, Cut as StepCut, Bad as StepBad}
 use Rattle.table.specs.Reading.{steps_from}
 use Rattle.unfinished.specs.declared.Held.{Held}
 use Rattle.unfinished.specs.Reading.{held_bytes, held_of}
 use Rattle.tablefeed.specs.declared.Run.{Run}
 use Rattle.tablefeed.specs.declared.Standing.{Standing}
 use Rattle.tablefeed.specs.declared.Fed.{Fed}
+use Rattle.token.specs.declared.Token.TheVariants.{Value as TokenValue, Start as TokenStart, End as TokenEnd}
+use Rattle.token.specs.declared.Malformed.TheVariants.{Cut, Bad}
+use Rattle.token.specs.Reading.{Step}
 
 -- read up to a place, with g descriptions complete
 abbrev pub going : ℕ → Bool → ℕ → Run
@@ -24,13 +25,13 @@ stopped why g at = record { ended = g; opened = false; halted = why; place = at 
 unfoldable pub run_of : ℕ → ℕ → Bool → ℕ → List Step → Run
 run_of g n opened at [] = going g opened at
 run_of g zero opened at (x ∷ xs) = stopped 12 g at
-run_of g (suc n) opened at (StepValue v next ∷ xs) = run_of g (suc n) false next xs
-run_of g (suc n) true at (StepStart next ∷ xs) = stopped 11 g (next - 1)
-run_of g (suc n) false at (StepStart next ∷ xs) = run_of g (suc n) true next xs
-run_of g (suc n) true at (StepEnd next ∷ xs) = stopped 11 g (next - 1)
-run_of g (suc n) false at (StepEnd next ∷ xs) = run_of (suc g) n false next xs
-run_of g (suc n) opened at (StepCut ∷ xs) = going g opened at
-run_of g (suc n) opened at (StepBad k ∷ xs) = stopped 11 g k
+run_of g (suc n) opened at (Ok (TokenValue v, next) ∷ xs) = run_of g (suc n) false next xs
+run_of g (suc n) true at (Ok (TokenStart, next) ∷ xs) = stopped 11 g (next - 1)
+run_of g (suc n) false at (Ok (TokenStart, next) ∷ xs) = run_of g (suc n) true next xs
+run_of g (suc n) true at (Ok (TokenEnd, next) ∷ xs) = stopped 11 g (next - 1)
+run_of g (suc n) false at (Ok (TokenEnd, next) ∷ xs) = run_of (suc g) n false next xs
+run_of g (suc n) opened at (Err Cut ∷ xs) = going g opened at
+run_of g (suc n) opened at (Err (Bad k) ∷ xs) = stopped 11 g k
 
 unfoldable pub flag_of : Bool → ℕ
 flag_of b = pick b 1 0

@@ -4,9 +4,10 @@ use mathlib.Core.Logic.{◌⊎◌}
 use mathlib.Core.List.{List, ◌++◌}
 use Prim.Native.Nat.{ℕ, ◌<◌}
 use lib.ListN.{length}
-use Rattle.token.specs.declared.Token.{Token}
-use Rattle.token.specs.declared.Token.TheVariants.{Cut}
+use Rattle.std.specs.Prelude.{Err}
+use Rattle.token.specs.declared.Malformed.TheVariants.{Cut}
+use Rattle.token.specs.Reading.{Step}
 
-pub record Growing (read : List ℕ → Token) : Type 0 where
-  pub kept : (p s : List ℕ) → (read p ≡ Cut) ⊎ (read (p ++ s) ≡ read p)
-  pub cut_short : (p : List ℕ) → read p ≡ Cut → length p < 4
+pub record Growing (read : List ℕ → Step) : Type 0 where
+  pub kept : (p s : List ℕ) → (read p ≡ Err Cut) ⊎ (read (p ++ s) ≡ read p)
+  pub cut_short : (p : List ℕ) → read p ≡ Err Cut → length p < 4

@@ -3,25 +3,38 @@
 #![tactic(auto)]
 
 ghost use Rattle.std.specs.Prelude.{◌≡◌};
-ghost use Rattle.token.specs.Reading.{is_noncharacter};
+ghost use Rattle.token.specs.Reading.{behind, Fits, is_noncharacter};
 
-// What stands at the front of some bytes: a value and how many bytes it has, a start mark, an end mark, the beginning
-// of a value or mark whose end is missing, or bytes that begin none, the place of the first wrong byte with it.
-#[derive(Clone, Copy)]
+// What stands in a table, end to end: a value, the mark that starts a sequence, the mark that ends a description.
+#[derive(Clone, Copy, Debug, PartialEq, Eq)]
 pub enum Token {
-    Value(u32, usize),
+    Value(u32),
     Start,
     End,
-    Cut,
-    Bad(usize),
 }
 
-// Why no value stands at the front of some bytes: they end too soon, or the place of the first byte that no value has there.
-#[derive(Clone, Copy)]
+// Why no token stands at the front of some bytes: they end too soon, or the place of the first byte that no token has there.
+#[derive(Clone, Copy, Debug, PartialEq, Eq)]
 pub enum Malformed {
     Cut,
     Bad(usize),
 }
+
+impl Malformed {
+    // The same where the bytes stand behind `at` others: a place is counted from the front of those. Asks that it is a number.
+    pub fn behind(self, at: usize) -> Malformed
+        requires { Fits (behind at self) }
+        ensures { result ≡ behind at self }
+    {
+        match self {
+            Malformed::Cut => Malformed::Cut,
+            Malformed::Bad(k) => Malformed::Bad(at + k),
+        }
+    }
+}
+
+// A token with the place after it, or why none stands there.
+pub type Step = Result<(Token, usize), Malformed>;
 
 // Whether a number is a noncharacter: FDD0 to FDEF, or one of the last two of a plane.
 #[tactic(auto, using(crate::proofs::Noncharacters::under, crate::proofs::Noncharacters::among))]

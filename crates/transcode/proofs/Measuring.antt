@@ -13,14 +13,15 @@ use Rattle.coding.specs.Reading.{carries_of, mark_len}
 use Rattle.coding.proofs.Written.{carries_exactly, carries_no, start_len, end_len}
 use Rattle.table.specs.declared.Item.{Item}
 use Rattle.table.specs.declared.Item.TheVariants.{Single, Start, Value, End}
-use Rattle.table.specs.declared.Step.{Step}
-use Rattle.table.specs.declared.Step.TheVariants.{Value as StepValue, Start as StepStart, End as StepEnd, Cut as StepCut, Bad as StepBad}
 use Rattle.table.specs.Reading.{steps_from, value_item, step_items}
 use Rattle.table.specs.Meaning.{item_bytes, bytes, OfCoding}
 use Rattle.table.proofs.Stepping.{item_front}
 use Rattle.transcode.specs.Reading.{measure, table_len, recoded, FirstUncarried}
 use Rattle.transcode.proofs.Turns.{value_more, value_not, start_more, end_more}
 use Rattle.std.specs.Prelude.{Result, Ok, Err}
+use Rattle.token.specs.declared.Token.TheVariants.{Value as TokenValue, Start as TokenStart, End as TokenEnd}
+use Rattle.token.specs.declared.Malformed.TheVariants.{Cut, Bad}
+use Rattle.token.specs.Reading.{Step}
 
 never : {A : Type 0} (k m : ℕ) → Err k ≡ Ok m → A
 never k m e = let z : ◌≡◌ {A = ℕ} 0 1 = cc in absurd (omega arith)
@@ -29,19 +30,19 @@ never k m e = let z : ◌≡◌ {A = ℕ} 0 1 = cc in absurd (omega arith)
 told_length : (to : Coding) (at n m : ℕ) (i : Bool) (xs : List Step) → measure to at n xs ≡ Ok m → m ≡ n + length (bytes to (step_items i xs))
 unfolding measure step_items value_item when
 told_length to at n m i [] e = let h : n ≡ m = cc in omega arith
-told_length to at n m i (StepValue v next ∷ xs) e = go i (carries_of to v) (λ j q. told_length to next (n + length (value_bytes to v)) m j xs q) e
+told_length to at n m i (Ok (TokenValue v, next) ∷ xs) e = go i (carries_of to v) (λ j q. told_length to next (n + length (value_bytes to v)) m j xs q) e
   where
     go : (i : Bool) (t : Bool) → ((j : Bool) → measure to next (n + length (value_bytes to v)) xs ≡ Ok m → m ≡ n + length (value_bytes to v) + length (bytes to (step_items j xs))) →
-        when t (measure to next (n + length (value_bytes to v)) xs) (Err at) ≡ Ok m → m ≡ n + length (bytes to (step_items i (StepValue v next ∷ xs)))
+        when t (measure to next (n + length (value_bytes to v)) xs) (Err at) ≡ Ok m → m ≡ n + length (bytes to (step_items i (Ok (TokenValue v, next) ∷ xs)))
     go false true f q = omega (arith, f false q, length-append (value_bytes to v) (bytes to (step_items false xs)))
     go true true f q = omega (arith, f true q, length-append (value_bytes to v) (bytes to (step_items true xs)))
     go i false f q = never at m q
-told_length to at n m i (StepStart next ∷ xs) e =
+told_length to at n m i (Ok (TokenStart, next) ∷ xs) e =
     omega (arith, told_length to next (n + mark_len to) m true xs e, start_len to, length-append (start_bytes to) (bytes to (step_items true xs)))
-told_length to at n m i (StepEnd next ∷ xs) e =
+told_length to at n m i (Ok (TokenEnd, next) ∷ xs) e =
     omega (arith, told_length to next (n + mark_len to) m false xs e, end_len to, length-append (end_bytes to) (bytes to (step_items false xs)))
-told_length to at n m i (StepCut ∷ xs) e = let h : n ≡ m = cc in omega arith
-told_length to at n m i (StepBad k ∷ xs) e = let h : n ≡ m = cc in omega arith
+told_length to at n m i (Err Cut ∷ xs) e = let h : n ≡ m = cc in omega arith
+told_length to at n m i (Err (Bad k) ∷ xs) e = let h : n ≡ m = cc in omega arith
 
 pub length_recoded : (from to : Coding) (s : List ℕ) (m : ℕ) → table_len from to s ≡ Ok m → m ≡ length (recoded from to s)
 unfolding table_len recoded
@@ -114,14 +115,14 @@ module _ (from to : Coding) where
   grown : (at : ℕ) (x y : List ℕ) → at + length x + length y ≡ at + length (x ++ y)
   grown at x y = omega (arith, length-append x y)
 
-  value_out : (v : ℕ) (at n : ℕ) → (ValueOf to v → ⊥) → {xs ys : List Step} → xs ≡ StepValue v (at + length (value_bytes from v)) ∷ ys → measure to at n xs ≡ Err (at + 0)
+  value_out : (v : ℕ) (at n : ℕ) → (ValueOf to v → ⊥) → {xs ys : List Step} → xs ≡ Ok (TokenValue v, (at + length (value_bytes from v))) ∷ ys → measure to at n xs ≡ Err (at + 0)
   value_out v at n u {xs} {ys} e = value_not to at n xs ys v _ e (no_carry (carries_of to v) refl) ∙ same_place (omega arith)
     where
       no_carry : (t : Bool) → carries_of to v ≡ t → carries_of to v ≡ false
       no_carry true q = absurd (u ((carries_exactly to v).0 q))
       no_carry false q = q
 
-  value_in : (v : ℕ) (at n : ℕ) → ValueOf to v → (xs ys : List Step) → xs ≡ StepValue v (at + length (value_bytes from v)) ∷ ys →
+  value_in : (v : ℕ) (at n : ℕ) → ValueOf to v → (xs ys : List Step) → xs ≡ Ok (TokenValue v, (at + length (value_bytes from v))) ∷ ys →
       {r : Result ℕ ℕ} → measure to (at + length (value_bytes from v)) (n + length (value_bytes to v)) ys ≡ r → measure to at n xs ≡ r
   value_in v at n c xs ys e {r} q = value_more to at n xs ys v _ _ e ((carries_exactly to v).1 c) refl ∙ q
 

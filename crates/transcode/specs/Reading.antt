@@ -6,9 +6,10 @@ use Rattle.base.specs.Reading.{when}
 use Rattle.coding.specs.Reading.{carries_of, mark_len}
 use Rattle.coding.specs.Meaning.{value_bytes}
 use Rattle.table.specs.declared.Item.{Item}
-use Rattle.table.specs.declared.Step.{Step}
-use Rattle.table.specs.declared.Step.TheVariants.{Value as StepValue, Start as StepStart, End as StepEnd, Cut as StepCut, Bad as StepBad}
 use Rattle.table.specs.Reading.{steps_from, items_in}
+use Rattle.token.specs.declared.Token.TheVariants.{Value as TokenValue, Start as TokenStart, End as TokenEnd}
+use Rattle.token.specs.declared.Malformed.TheVariants.{Cut, Bad}
+use Rattle.token.specs.Reading.{Step}
 
 -- the bytes that a tail's items are in another coding
 unfoldable pub recoded : Coding → Coding → List ℕ → List ℕ
@@ -17,11 +18,11 @@ recoded from to s = bytes to (items_in from s)
 -- steps from a place on, with n bytes before them: how many bytes in all, or the place of the first value that is none of the coding's
 unfoldable pub measure : Coding → ℕ → ℕ → List Step → Result ℕ ℕ
 measure to at n [] = Ok n
-measure to at n (StepValue v next ∷ xs) = when (carries_of to v) (measure to next (n + length (value_bytes to v)) xs) (Err at)
-measure to at n (StepStart next ∷ xs) = measure to next (n + mark_len to) xs
-measure to at n (StepEnd next ∷ xs) = measure to next (n + mark_len to) xs
-measure to at n (StepCut ∷ xs) = Ok n
-measure to at n (StepBad k ∷ xs) = Ok n
+measure to at n (Ok (TokenValue v, next) ∷ xs) = when (carries_of to v) (measure to next (n + length (value_bytes to v)) xs) (Err at)
+measure to at n (Ok (TokenStart, next) ∷ xs) = measure to next (n + mark_len to) xs
+measure to at n (Ok (TokenEnd, next) ∷ xs) = measure to next (n + mark_len to) xs
+measure to at n (Err Cut ∷ xs) = Ok n
+measure to at n (Err (Bad k) ∷ xs) = Ok n
 
 -- how many bytes a tail's items are in another coding; or the place in the tail of the first value, singles and sequences alike, that
 -- the coding can't carry

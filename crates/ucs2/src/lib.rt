@@ -7,7 +7,7 @@ ghost use Rattle.base.specs.Reading.{over};
 ghost use Rattle.ucs2.specs.Reading.{read_ucs2, is_word};
 ghost use Rattle.ucs2.specs.Meaning.{Word, word_bytes};
 
-use token::Token;
+use token::{Malformed, Step, Token};
 
 // Whether a number is a value of PSF1's coding: 0000 to FFFD, surrogates included, that is no noncharacter.
 pub fn is_word(v: u32) -> bool
@@ -22,26 +22,26 @@ pub fn is_word(v: u32) -> bool
 // The token at the front of some bytes: a value of two bytes, or a mark, FFFE that starts a sequence, FFFF that ends a
 // description; Cut where fewer than two bytes are left; a noncharacter is Bad at its second byte, since its first begins other values.
 #[tactic(auto, using(crate::proofs::Pairs::as_end, crate::proofs::Words::word_mark, crate::proofs::Pairs::as_bad, crate::proofs::Words::word_among))]
-pub fn read_ucs2(s: &[u8]) -> Token
+pub fn read_ucs2(s: &[u8]) -> Step
     ensures { result ≡ read_ucs2 s.now }
 {
     if s.len() < 2 {
-        return Token::Cut;
+        return Err(Malformed::Cut);
     }
     let v = base::get16(s, 0);
     if v < 0xFDD0 {
-        return Token::Value(v, 2);
+        return Ok((Token::Value(v), 2));
     }
     if v == 0xFFFF {
-        return Token::End;
+        return Ok((Token::End, 2));
     }
     if v == 0xFFFE {
-        return Token::Start;
+        return Ok((Token::Start, 2));
     }
     if v < 0xFDF0 {
-        return Token::Bad(1);
+        return Err(Malformed::Bad(1));
     }
-    Token::Value(v, 2)
+    Ok((Token::Value(v), 2))
 }
 
 // A value's two bytes to the front, the low one first. Asks for a value of PSF1's coding and for room: the caller has tested both.

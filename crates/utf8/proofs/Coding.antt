@@ -9,8 +9,8 @@ use lib.Dec.{ltb, eqb}
 use borrow.Author.Tests.{eqb-true, eqb-false, ltb-true}
 use Rattle.base.specs.Meaning.{Bytes}
 use Rattle.base.proofs.Tests.{by_test}
-use Rattle.token.specs.declared.Token.{Token}
-use Rattle.token.specs.declared.Token.TheVariants.{Value, Start, End, Cut, Bad}
+use Rattle.token.specs.declared.Token.TheVariants.{Value, Start, End}
+use Rattle.token.specs.Reading.{Step}
 use Rattle.token.proofs.Coded.{Coded}
 use Rattle.utf8.specs.Reading.{read_value, as_token, read_utf8}
 use Rattle.utf8.specs.Meaning.{utf8_bytes, Scalar, Utf8Value}
@@ -18,51 +18,49 @@ use Rattle.utf8.proofs.Writing.{value_read}
 use Rattle.utf8.proofs.Reading.{Written, value_of}
 use Rattle.std.specs.Prelude.{Result, Ok, Err}
 use Rattle.token.specs.declared.Malformed.{Malformed}
-use Rattle.token.specs.declared.Malformed.TheVariants.{Cut as ReadCut, Bad as ReadBad}
+use Rattle.token.specs.declared.Malformed.TheVariants.{Cut}
 
 -- what a token says of its first byte: marks are one byte
-abbrev pub First : ℕ → Token → Type 0
-First b (Value v l) = b < 254
-First b Start = b ≡ 254
-First b End = b ≡ 255
-First b Cut = Unit {0}
-First b (Bad k) = Unit {0}
+abbrev pub First : ℕ → Step → Type 0
+First b (Ok (Value v, l)) = b < 254
+First b (Ok (Start, l)) = (b ≡ 254) × (l ≡ 1)
+First b (Ok (End, l)) = (b ≡ 255) × (l ≡ 1)
+First b (Err t) = Unit {0}
 
 of_value : (b : ℕ) (x : Result (ℕ × ℕ) Malformed) → b < 254 → First b (as_token x)
 of_value b (Ok (v, l)) h = h
-of_value b (Err ReadCut) h = tt
-of_value b (Err (ReadBad k)) h = tt
+of_value b (Err t) h = tt
 
 pub first_byte : (b : ℕ) (s : List ℕ) → b < 256 → First b (read_utf8 (b ∷ s))
 unfolding read_utf8
 first_byte b s h =
-    by_test (First b) (eqb b 0xFE) _ _ (λ p. eqb-true b 0xFE p) (λ p.
-    by_test (First b) (eqb b 0xFF) _ _ (λ q. eqb-true b 0xFF q) (λ q.
+    by_test (First b) (eqb b 0xFE) _ _ (λ p. (eqb-true b 0xFE p, refl)) (λ p.
+    by_test (First b) (eqb b 0xFF) _ _ (λ q. (eqb-true b 0xFF q, refl)) (λ q.
     let x = eqb-false b 0xFE p in
     let y = eqb-false b 0xFF q in
     of_value b (read_value (b ∷ s)) (omega arith)))
 
-pub read_nil : read_utf8 [] ≡ Cut
+pub read_nil : read_utf8 [] ≡ Err Cut
 unfolding read_utf8
 read_nil = refl
 
-read_value_lem : (s : List ℕ) → Bytes s → (v l : ℕ) → read_utf8 s ≡ Value v l → Written s v l
+read_value_lem : (s : List ℕ) → Bytes s → (v l : ℕ) → read_utf8 s ≡ Ok (Value v, l) → Written s v l
 read_value_lem [] y v l e = let f = sym read_nil ∙ e in let z : ◌≡◌ {A = ℕ} 0 1 = cc in absurd (omega arith)
 read_value_lem (b ∷ t) y v l e = value_of b t v l e (rw e at (first_byte b t y.0))
 
-read_start : (s : List ℕ) → Bytes s → read_utf8 s ≡ Start → s ≡ 0xFE ∷ drop 1 s
-read_start [] y e = let f = sym read_nil ∙ e in let z : ◌≡◌ {A = ℕ} 0 1 = cc in absurd (omega arith)
-read_start (b ∷ t) y e = ap (λ (x : ℕ). x ∷ t) (rw e at (first_byte b t y.0))
+read_start : (s : List ℕ) → Bytes s → (l : ℕ) → read_utf8 s ≡ Ok (Start, l) → (l ≡ 1) × (s ≡ 0xFE ∷ drop l s)
+read_start [] y l e = let f = sym read_nil ∙ e in let z : ◌≡◌ {A = ℕ} 0 1 = cc in absurd (omega arith)
+read_start (b ∷ t) y l e = let f : First b (Ok (Start, l)) = rw e at (first_byte b t y.0) in (f.1, rw f.1 (ap (λ (x : ℕ). x ∷ t) f.0))
 
-read_end : (s : List ℕ) → Bytes s → read_utf8 s ≡ End → s ≡ 0xFF ∷ drop 1 s
-read_end [] y e = let f = sym read_nil ∙ e in let z : ◌≡◌ {A = ℕ} 0 1 = cc in absurd (omega arith)
-read_end (b ∷ t) y e = ap (λ (x : ℕ). x ∷ t) (rw e at (first_byte b t y.0))
+read_end : (s : List ℕ) → Bytes s → (l : ℕ) → read_utf8 s ≡ Ok (End, l) → (l ≡ 1) × (s ≡ 0xFF ∷ drop l s)
+read_end [] y l e = let f = sym read_nil ∙ e in let z : ◌≡◌ {A = ℕ} 0 1 = cc in absurd (omega arith)
+read_end (b ∷ t) y l e = let f : First b (Ok (End, l)) = rw e at (first_byte b t y.0) in (f.1, rw f.1 (ap (λ (x : ℕ). x ∷ t) f.0))
 
-start_read : (s : List ℕ) → read_utf8 (0xFE ∷ s) ≡ Start
+start_read : (s : List ℕ) → read_utf8 (0xFE ∷ s) ≡ Ok (Start, 1)
 unfolding read_utf8
 start_read s = refl
 
-end_read : (s : List ℕ) → read_utf8 (0xFF ∷ s) ≡ End
+end_read : (s : List ℕ) → read_utf8 (0xFF ∷ s) ≡ Ok (End, 1)
 unfolding read_utf8
 end_read s = refl
 

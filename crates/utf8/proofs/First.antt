@@ -7,8 +7,9 @@ use lib.ListN.{length, get_or, drop}
 use lib.Dec.{eqb}
 use borrow.Author.Tests.{eq-eqb, ne_eqb}
 use Rattle.base.specs.Meaning.{pick}
+use Rattle.base.proofs.Handed.{pair_same}
 use Rattle.token.proofs.Noncharacters.{low}
-use Rattle.token.specs.declared.Token.TheVariants.{Value as TokenValue, Start, End, Cut as TokenCut, Bad as TokenBad}
+use Rattle.token.specs.declared.Token.TheVariants.{Value, Start, End}
 use Rattle.utf8.specs.declared.Lead.{Lead}
 use Rattle.utf8.proofs.Rows.{row_1}
 use Rattle.utf8.proofs.Permitted.{permitted_value}
@@ -44,22 +45,22 @@ module _ (s : List ℕ) (h : 0 < length s) (l : Lead) (e : l ≡ lead_of (get_or
       let k : l.len - 1 ≡ n = omega arith in
       rw (k, ← u) at (some_value (λ y. absurd (omega arith)))
 
-pub empty : (s : List ℕ) → length s ≡ 0 → TokenCut ≡ read_utf8 s
+pub empty : (s : List ℕ) → length s ≡ 0 → Err Cut ≡ read_utf8 s
 unfolding read_utf8
 empty [] h = refl
 empty (b ∷ s) h = absurd (omega arith)
 
-first : (s : List ℕ) → 0 < length s → read_utf8 s ≡ pick (eqb (get_or s 0 0) 0xFE) Start (pick (eqb (get_or s 0 0) 0xFF) End (as_token (read_value s)))
+first : (s : List ℕ) → 0 < length s → read_utf8 s ≡ pick (eqb (get_or s 0 0) 0xFE) (Ok (Start, 1)) (pick (eqb (get_or s 0 0) 0xFF) (Ok (End, 1)) (as_token (read_value s)))
 unfolding read_utf8
 first [] h = absurd (omega arith)
 first (b ∷ s) h = refl
 
 module _ (s : List ℕ) (h : 0 < length s) where
-  pub as_start : get_or s 0 0 ≡ 254 → Start ≡ read_utf8 s
+  pub as_start : get_or s 0 0 ≡ 254 → Ok (Start, 1) ≡ read_utf8 s
   as_start a = rw (first s h, eq-eqb (get_or s 0 0) 254 a)
 
   module _ (a : get_or s 0 0 ≡ 254 → ⊥) where
-    pub as_end : get_or s 0 0 ≡ 255 → End ≡ read_utf8 s
+    pub as_end : get_or s 0 0 ≡ 255 → Ok (End, 1) ≡ read_utf8 s
     as_end b = rw (first s h, ne_eqb (get_or s 0 0) 254 a, eq-eqb (get_or s 0 0) 255 b)
 
     module _ (b : get_or s 0 0 ≡ 255 → ⊥) where
@@ -68,14 +69,14 @@ module _ (s : List ℕ) (h : 0 < length s) where
       no_mark = rw (first s h, ne_eqb (get_or s 0 0) 254 a, ne_eqb (get_or s 0 0) 255 b)
 
       module _ (l : Lead) (e : l ≡ lead_of (get_or s 0 0)) where
-        pub as_bad : l.len ≡ 0 → TokenBad 0 ≡ read_utf8 s
+        pub as_bad : l.len ≡ 0 → Err (Bad 0) ≡ read_utf8 s
         as_bad z = ap as_token (no_value s h l e z) ∙ no_mark
 
         pub as_value : (l.len ≡ 0 → ⊥) → as_token (permitted_at (l.len - 1) (conts (l.len - 1) l.lo l.hi (get_or s 0 0 % l.modulus) 1 (drop 1 s))) ≡ read_utf8 s
         as_value z = ap as_token (some_value s h l e z) ∙ no_mark
 
 -- a first byte below 80 gives itself, one byte long, whatever follows
-pub ascii : (s : List ℕ) → 0 < length s → get_or s 0 0 < 128 → TokenValue (get_or s 0 0) 1 ≡ read_utf8 s
+pub ascii : (s : List ℕ) → 0 < length s → get_or s 0 0 < 128 → Ok (Value (get_or s 0 0), 1) ≡ read_utf8 s
 unfolding conts
 ascii s h k =
     let m : get_or s 0 0 ≡ get_or s 0 0 % 128 = omega arith in
@@ -83,17 +84,17 @@ ascii s h k =
     ap as_token r ∙ no_mark s h (λ z. absurd (omega arith)) (λ z. absurd (omega arith))
 
 -- a token that is no mark was read as a value
-pub back_value : (x : Result (ℕ × ℕ) Malformed) (v l : ℕ) → as_token x ≡ TokenValue v l → x ≡ Ok (v, l)
-back_value (Ok (w, k)) v l e = let p : w ≡ v = cc in let q : k ≡ l = cc in rw (p, q)
-back_value (Err Cut) v l e = let z : ◌≡◌ {A = ℕ} 0 1 = cc in absurd (omega arith)
-back_value (Err (Bad j)) v l e = let z : ◌≡◌ {A = ℕ} 0 1 = cc in absurd (omega arith)
+pub back_value : (x : Result (ℕ × ℕ) Malformed) (v l : ℕ) → as_token x ≡ Ok (Value v, l) → x ≡ Ok (v, l)
+back_value (Ok (w, k)) v l e = let q = pair_same _ _ _ _ e in let p : w ≡ v = value_same w v q.0 in rw (p, q.1)
+  where
+    value_same : (a b : ℕ) → Value a ≡ Value b → a ≡ b
+    value_same a b f = cc
+back_value (Err t) v l e = let z : ◌≡◌ {A = ℕ} 0 1 = cc in absurd (omega arith)
 
-pub back_cut : (x : Result (ℕ × ℕ) Malformed) → as_token x ≡ TokenCut → x ≡ Err Cut
+pub back_cut : (x : Result (ℕ × ℕ) Malformed) → as_token x ≡ Err Cut → x ≡ Err Cut
 back_cut (Ok (w, k)) e = let z : ◌≡◌ {A = ℕ} 0 1 = cc in absurd (omega arith)
-back_cut (Err Cut) e = refl
-back_cut (Err (Bad j)) e = let z : ◌≡◌ {A = ℕ} 0 1 = cc in absurd (omega arith)
+back_cut (Err t) e = cc
 
-pub back_bad : (x : Result (ℕ × ℕ) Malformed) (k : ℕ) → as_token x ≡ TokenBad k → x ≡ Err (Bad k)
+pub back_bad : (x : Result (ℕ × ℕ) Malformed) (k : ℕ) → as_token x ≡ Err (Bad k) → x ≡ Err (Bad k)
 back_bad (Ok (w, j)) k e = let z : ◌≡◌ {A = ℕ} 0 1 = cc in absurd (omega arith)
-back_bad (Err Cut) k e = let z : ◌≡◌ {A = ℕ} 0 1 = cc in absurd (omega arith)
-back_bad (Err (Bad j)) k e = let p : j ≡ k = cc in rw p
+back_bad (Err t) k e = cc

@@ -9,14 +9,14 @@ use lib.ListN.{length}
 use lib.Dec.{eqb}
 use Rattle.base.specs.Meaning.{pick}
 use Rattle.base.specs.Reading.{within}
-use Rattle.token.specs.declared.Token.{Token}
-use Rattle.token.specs.declared.Token.TheVariants.{Start, End, Cut as TokenCut}
+use Rattle.token.specs.declared.Token.TheVariants.{Start, End}
+use Rattle.token.specs.Reading.{Step}
 use Rattle.token.proofs.Growing.{Growing}
 use Rattle.utf8.specs.declared.Lead.{Lead}
 use Rattle.utf8.specs.Reading.{lead_row, lead_of, conts, permitted_at, read_value, as_token, read_utf8}
 use Rattle.utf8.proofs.First.{back_cut}
 use Rattle.utf8.proofs.Permitted.{cut_permitted}
-use Rattle.std.specs.Prelude.{Result, Err}
+use Rattle.std.specs.Prelude.{Result, Ok, Err}
 use Rattle.token.specs.declared.Malformed.{Malformed}
 use Rattle.token.specs.declared.Malformed.TheVariants.{Cut, Bad}
 
@@ -66,29 +66,29 @@ short_rows b =
 abbrev inner : ℕ → List ℕ → Result (ℕ × ℕ) Malformed
 inner b t = conts ((lead_of b).len - 1) (lead_of b).lo (lead_of b).hi (b % (lead_of b).modulus) 1 t
 
-abbrev token : ℕ → Result (ℕ × ℕ) Malformed → Token
+abbrev token : ℕ → Result (ℕ × ℕ) Malformed → Step
 token b r = as_token (permitted_at ((lead_of b).len - 1) r)
 
-token_kept : (p s : List ℕ) → (read_utf8 p ≡ TokenCut) ⊎ (read_utf8 (p ++ s) ≡ read_utf8 p)
+token_kept : (p s : List ℕ) → (read_utf8 p ≡ Err Cut) ⊎ (read_utf8 (p ++ s) ≡ read_utf8 p)
 unfolding read_utf8 read_value permitted_at
 token_kept [] s = inl refl
 token_kept (b ∷ p) s = go (eqb b 0xFE) (eqb b 0xFF) (eqb (lead_of b).len 0) (conts_kept ((lead_of b).len - 1) (lead_of b).lo (lead_of b).hi (b % (lead_of b).modulus) 1 p s)
   where
     go : (x y z : Bool) → (inner b p ≡ Err Cut) ⊎ (inner b (p ++ s) ≡ inner b p) →
-        (pick x Start (pick y End (as_token (pick z (Err (Bad 0)) (permitted_at ((lead_of b).len - 1) (inner b p))))) ≡ TokenCut)
-        ⊎ (pick x Start (pick y End (as_token (pick z (Err (Bad 0)) (permitted_at ((lead_of b).len - 1) (inner b (p ++ s)))))) ≡ pick x Start (pick y End (as_token (pick z (Err (Bad 0)) (permitted_at ((lead_of b).len - 1) (inner b p))))))
+        (pick x (Ok (Start, 1)) (pick y (Ok (End, 1)) (as_token (pick z (Err (Bad 0)) (permitted_at ((lead_of b).len - 1) (inner b p))))) ≡ Err Cut)
+        ⊎ (pick x (Ok (Start, 1)) (pick y (Ok (End, 1)) (as_token (pick z (Err (Bad 0)) (permitted_at ((lead_of b).len - 1) (inner b (p ++ s)))))) ≡ pick x (Ok (Start, 1)) (pick y (Ok (End, 1)) (as_token (pick z (Err (Bad 0)) (permitted_at ((lead_of b).len - 1) (inner b p))))))
     go true y z h = inr refl
     go false true z h = inr refl
     go false false true h = inr refl
     go false false false (inl e) = inl (ap (token b) e)
     go false false false (inr e) = inr (ap (token b) e)
 
-token_short : (p : List ℕ) → read_utf8 p ≡ TokenCut → length p < 4
+token_short : (p : List ℕ) → read_utf8 p ≡ Err Cut → length p < 4
 unfolding read_utf8 read_value
 token_short [] e = omega arith
 token_short (b ∷ p) e = go (eqb b 0xFE) (eqb b 0xFF) (eqb (lead_of b).len 0) e (conts_short ((lead_of b).len - 1) (lead_of b).lo (lead_of b).hi (b % (lead_of b).modulus) 1 p)
   where
-    go : (x y z : Bool) → pick x Start (pick y End (as_token (pick z (Err (Bad 0)) (permitted_at ((lead_of b).len - 1) (inner b p))))) ≡ TokenCut → (inner b p ≡ Err Cut → length p < (lead_of b).len - 1) → length (b ∷ p) < 4
+    go : (x y z : Bool) → pick x (Ok (Start, 1)) (pick y (Ok (End, 1)) (as_token (pick z (Err (Bad 0)) (permitted_at ((lead_of b).len - 1) (inner b p))))) ≡ Err Cut → (inner b p ≡ Err Cut → length p < (lead_of b).len - 1) → length (b ∷ p) < 4
     go true y z f ih = let z : ◌≡◌ {A = ℕ} 0 1 = cc in absurd (omega arith)
     go false true z f ih = let z : ◌≡◌ {A = ℕ} 0 1 = cc in absurd (omega arith)
     go false false true f ih = let z : ◌≡◌ {A = ℕ} 0 1 = cc in absurd (omega arith)

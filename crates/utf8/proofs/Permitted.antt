@@ -5,7 +5,7 @@ use mathlib.Core.Logic.{◌⊎◌, inl, inr}
 use Prim.Native.Nat.{ℕ, ◌≤◌}
 use native.Mathlib.Omega.{arith}
 use Rattle.base.specs.Meaning.{pick}
-use Rattle.token.specs.declared.Token.TheVariants.{Value as TokenValue}
+use Rattle.token.specs.declared.Token.TheVariants.{Value}
 use Rattle.token.specs.Meaning.{Noncharacter}
 use Rattle.token.specs.Reading.{is_noncharacter}
 use Rattle.token.proofs.Noncharacters.{noncharacter_exactly, noncharacter_no, no_noncharacter, low}
@@ -36,7 +36,7 @@ module _ (k : ℕ) where
   permitted_low m l (Err t) h p = permitted_other t
 
   -- the same as a token
-  pub token_permitted : (u v l : ℕ) → v ≡ u → (Noncharacter v → ⊥) → as_token (permitted_at k (Ok (u, l))) ≡ TokenValue v l
+  pub token_permitted : (u v l : ℕ) → v ≡ u → (Noncharacter v → ⊥) → as_token (permitted_at k (Ok (u, l))) ≡ Ok (Value v, l)
   unfolding permitted_at
   token_permitted u v l e n = rw (← e, no_noncharacter v n)
 

@@ -14,7 +14,8 @@ use Rattle.base.proofs.Lists.{same2, same3, same4}
 use Rattle.base.specs.Meaning.{pick}
 use Rattle.base.proofs.Tests.{below}
 use Rattle.token.specs.Meaning.{Noncharacter}
-use Rattle.token.specs.declared.Token.TheVariants.{Value as TokenValue, Bad as TokenBad}
+use Rattle.token.specs.declared.Token.TheVariants.{Value}
+use Rattle.token.specs.Reading.{Step}
 use Rattle.utf8.specs.declared.Lead.{Lead}
 use Rattle.utf8.specs.Reading.{lead_row, lead_of, conts, permitted_at, read_value, read_utf8}
 use Rattle.utf8.specs.Meaning.{utf8_bytes, Scalar, Utf8Value}
@@ -157,13 +158,13 @@ back4 b t v l lo hi k g h i j m u =
     (written (b ∷ k.c ∷ k.d ∷ k.f ∷ []) k.rest v l (bytes4 v m ∙ same4 _ _ _ _ _ _ _ _ (omega arith) (omega arith) (omega arith) (omega arith)) k.long (inr (omega arith, u)))
 
 -- from the first byte's lead_row
-module _ (b : ℕ) (t : List ℕ) (v l : ℕ) (e : read_utf8 (b ∷ t) ≡ TokenValue v l) (h : b < 254) where
+module _ (b : ℕ) (t : List ℕ) (v l : ℕ) (e : read_utf8 (b ∷ t) ≡ Ok (Value v, l)) (h : b < 254) where
   by_row : (r : Lead) → r ≡ lead_of b → (r.len ≡ 0 → ⊥) → conts (r.len - 1) r.lo r.hi (b % r.modulus) 1 t ≡ Ok (v, l)
   by_row r q z = (value_permitted (r.len - 1) _ v l (back_value _ v l (as_value (b ∷ t) (omega arith) (λ p. omega arith) (λ p. omega arith) r q z ∙ e))).0
 
   no_row : (r : Lead) → r ≡ lead_of b → r.len ≡ 0 → Formed (b ∷ t) v l
   no_row r q z =
-      let f : TokenBad 0 ≡ TokenValue v l = as_bad (b ∷ t) (omega arith) (λ p. omega arith) (λ p. omega arith) r q z ∙ e in
+      let f : ◌≡◌ {A = Step} (Err (Bad 0)) (Ok (Value v, l)) = as_bad (b ∷ t) (omega arith) (λ p. omega arith) (λ p. omega arith) r q z ∙ e in
       let z : ◌≡◌ {A = ℕ} 0 1 = cc in absurd (omega arith)
 
   w3a : Took3 0xA0 0xBF (b % 16) t v l → b ≡ 0xE0 → Formed (b ∷ t) v l

@@ -7,8 +7,7 @@ use lib.ListN.{length}
 use lib.Dec.{eqb}
 use Rattle.base.specs.Reading.{within}
 use Rattle.base.proofs.Tests.{by_test}
-use Rattle.token.specs.declared.Token.{Token}
-use Rattle.token.specs.Reading.{is_noncharacter}
+use Rattle.token.specs.Reading.{Step, is_noncharacter}
 use Rattle.token.proofs.Sized.{Sized}
 use Rattle.utf8.specs.Reading.{conts, lead_of, permitted_at, read_value, as_token, read_utf8}
 use Rattle.std.specs.Prelude.{Result, Ok, Err}
@@ -30,20 +29,20 @@ conts_sized (suc n) lo hi v k (b ∷ s) m e q l =
     (λ _. conts_sized n 0x80 0xBF (v * 64 + (b - 0x80)) (k + 1) s m e (omega arith) (omega arith))
     (λ _. omega arith)
 
-permitted_sized : (k m : ℕ) (r : Result (ℕ × ℕ) Malformed) → Ends (suc k) m r → Sized 1 m (as_token (permitted_at k r))
+permitted_sized : (k m : ℕ) (r : Result (ℕ × ℕ) Malformed) → Ends (suc k) m r → Sized m (as_token (permitted_at k r))
 unfolding permitted_at
 permitted_sized k m (Ok (v, l)) h =
-    by_test (λ (x : Result (ℕ × ℕ) Malformed). Sized 1 m (as_token x)) (is_noncharacter v) _ _ (λ _. omega (arith, h.1)) (λ _. (omega (arith, h.0), omega (arith, h.0, h.1)))
+    by_test (λ (x : Result (ℕ × ℕ) Malformed). Sized m (as_token x)) (is_noncharacter v) _ _ (λ _. omega (arith, h.1)) (λ _. (omega (arith, h.0), omega (arith, h.0, h.1)))
 permitted_sized k m (Err Cut) h = tt
 permitted_sized k m (Err (Bad j)) h = h
 
-pub read_sized : (s : List ℕ) → Sized 1 (length s) (read_utf8 s)
+pub read_sized : (s : List ℕ) → Sized (length s) (read_utf8 s)
 unfolding read_utf8 read_value
 read_sized [] = tt
 read_sized (b ∷ s) =
-    let P : Token → Type 0 = Sized 1 (length (b ∷ s)) in
-    by_test P (eqb b 0xFE) _ _ (λ _. omega arith) (λ _.
-    by_test P (eqb b 0xFF) _ _ (λ _. omega arith) (λ _.
+    let P : Step → Type 0 = Sized (length (b ∷ s)) in
+    by_test P (eqb b 0xFE) _ _ (λ _. (omega arith, omega arith)) (λ _.
+    by_test P (eqb b 0xFF) _ _ (λ _. (omega arith, omega arith)) (λ _.
     by_test (λ (x : Result (ℕ × ℕ) Malformed). P (as_token x)) (eqb (lead_of b).len 0) _ _ (λ _. omega arith) (λ _.
     permitted_sized ((lead_of b).len - 1) (length (b ∷ s)) _
     (conts_sized ((lead_of b).len - 1) (lead_of b).lo (lead_of b).hi (b % (lead_of b).modulus) 1 s (length (b ∷ s)) (suc ((lead_of b).len - 1)) (omega arith) (omega arith)))))

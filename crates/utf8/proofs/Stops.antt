@@ -12,8 +12,8 @@ use borrow.Author.Tests.{eqb-false, leb-true, eq-eqb}
 use Rattle.base.specs.Meaning.{pick, Bytes}
 use Rattle.base.specs.Reading.{within}
 use Rattle.base.proofs.Ranged.{ranged}
-use Rattle.token.specs.declared.Token.{Token}
-use Rattle.token.specs.declared.Token.TheVariants.{Value as TokenValue, Start, End, Cut as TokenCut, Bad as TokenBad}
+use Rattle.token.specs.declared.Token.TheVariants.{Value, Start, End}
+use Rattle.token.specs.Reading.{Step}
 use Rattle.token.specs.Meaning.{Noncharacter}
 use Rattle.token.proofs.Noncharacters.{low, round}
 use Rattle.token.proofs.Stopping.{Begun, Stopping}
@@ -96,7 +96,7 @@ record Stopped (n lo hi v k : ℕ) (s : List ℕ) (j : ℕ) : Type 0 where
   cut : conts n lo hi v k (take good s) ≡ Err Cut
   never : (x : List ℕ) → conts n lo hi v k (take (suc good) s ++ x) ≡ Err (Bad j)
 
-no_bad : {A : Type 0} (x : Token) (j : ℕ) → x ≡ TokenBad j → x ≡ TokenCut → A
+no_bad : {A : Type 0} (x : Step) (j : ℕ) → x ≡ Err (Bad j) → x ≡ Err Cut → A
 no_bad x j e f = let z : ◌≡◌ {A = ℕ} 0 1 = cc in absurd (omega arith)
 
 stopped : (n lo hi v k : ℕ) (s : List ℕ) (j : ℕ) → conts n lo hi v k s ≡ Err (Bad j) → Stopped n lo hi v k s j
@@ -139,7 +139,7 @@ whole (suc n) lo hi v k (b ∷ s) w l e = go (within lo hi b) refl e (whole n 0x
 abbrev inner : ℕ → List ℕ → Result (ℕ × ℕ) Malformed
 inner b t = conts ((lead_of b).len - 1) (lead_of b).lo (lead_of b).hi (b % (lead_of b).modulus) 1 t
 
-abbrev token : ℕ → Result (ℕ × ℕ) Malformed → Token
+abbrev token : ℕ → Result (ℕ × ℕ) Malformed → Step
 token b r = as_token (permitted_at ((lead_of b).len - 1) r)
 
 record Inner (b : ℕ) : Type 0 where
@@ -151,26 +151,26 @@ read_inner : (b : ℕ) (t : List ℕ) → Inner b → read_utf8 (b ∷ t) ≡ to
 read_inner b t i = sym (as_value (b ∷ t) (omega arith) i.no_start i.no_end (lead_of b) refl i.some_row)
 
 -- where a value is begun, or is bad after its first byte
-cut_inner : (b : ℕ) (t : List ℕ) → read_utf8 (b ∷ t) ≡ TokenCut → Inner b
+cut_inner : (b : ℕ) (t : List ℕ) → read_utf8 (b ∷ t) ≡ Err Cut → Inner b
 unfolding read_utf8 read_value
 cut_inner b t e = go (eqb b 0xFE) refl (eqb b 0xFF) refl (eqb (lead_of b).len 0) refl e
   where
     go : (x : Bool) → eqb b 0xFE ≡ x → (y : Bool) → eqb b 0xFF ≡ y → (z : Bool) → eqb (lead_of b).len 0 ≡ z →
-        pick x Start (pick y End (as_token (pick z (Err (Bad 0)) (permitted_at ((lead_of b).len - 1) (inner b t))))) ≡ TokenCut → Inner b
+        pick x (Ok (Start, 1)) (pick y (Ok (End, 1)) (as_token (pick z (Err (Bad 0)) (permitted_at ((lead_of b).len - 1) (inner b t))))) ≡ Err Cut → Inner b
     go true p y q z r f = let z : ◌≡◌ {A = ℕ} 0 1 = cc in absurd (omega arith)
     go false p true q z r f = let z : ◌≡◌ {A = ℕ} 0 1 = cc in absurd (omega arith)
     go false p false q true r f = let z : ◌≡◌ {A = ℕ} 0 1 = cc in absurd (omega arith)
     go false p false q false r f = record { no_start = eqb-false b 0xFE p; no_end = eqb-false b 0xFF q; some_row = eqb-false (lead_of b).len 0 r }
 
 abbrev BadAt : ℕ → List ℕ → ℕ → Type 0
-BadAt b t k = (good : ℕ) × (k ≡ good) × (good < suc (length t)) × (read_utf8 (take good (b ∷ t)) ≡ TokenCut) × ((x : List ℕ) → read_utf8 (take (suc good) (b ∷ t) ++ x) ≡ TokenBad k)
+BadAt b t k = (good : ℕ) × (k ≡ good) × (good < suc (length t)) × (read_utf8 (take good (b ∷ t)) ≡ Err Cut) × ((x : List ℕ) → read_utf8 (take (suc good) (b ∷ t) ++ x) ≡ Err (Bad k))
 
-bad_at : (b : ℕ) (t : List ℕ) (k : ℕ) → read_utf8 (b ∷ t) ≡ TokenBad k → BadAt b t k
+bad_at : (b : ℕ) (t : List ℕ) (k : ℕ) → read_utf8 (b ∷ t) ≡ Err (Bad k) → BadAt b t k
 unfolding read_utf8 read_value permitted_at
 bad_at b t k e = go (eqb b 0xFE) refl (eqb b 0xFF) refl (eqb (lead_of b).len 0) refl e
   where
     go : (x : Bool) → eqb b 0xFE ≡ x → (y : Bool) → eqb b 0xFF ≡ y → (z : Bool) → eqb (lead_of b).len 0 ≡ z →
-        pick x Start (pick y End (as_token (pick z (Err (Bad 0)) (permitted_at ((lead_of b).len - 1) (inner b t))))) ≡ TokenBad k → BadAt b t k
+        pick x (Ok (Start, 1)) (pick y (Ok (End, 1)) (as_token (pick z (Err (Bad 0)) (permitted_at ((lead_of b).len - 1) (inner b t))))) ≡ Err (Bad k) → BadAt b t k
     go true p y q z r f = let z : ◌≡◌ {A = ℕ} 0 1 = cc in absurd (omega arith)
     go false p true q z r f = let z : ◌≡◌ {A = ℕ} 0 1 = cc in absurd (omega arith)
     go false p false q true r f =
@@ -184,18 +184,18 @@ bad_at b t k e = go (eqb b 0xFE) refl (eqb b 0xFF) refl (eqb (lead_of b).len 0) 
             (suc u.good, omega (arith, u.place), omega (arith, u.within_list), rw (p, q, r) (ap (token b) u.cut), λ x. rw (p, q, r) (ap (token b) (u.never x)))
         by (inr (v, l, g, o, w)) =
             let u = whole ((lead_of b).len - 1) (lead_of b).lo (lead_of b).hi (b % (lead_of b).modulus) 1 t v l g in
-            ((lead_of b).len - 1, w, omega (arith, u.within_list), cut_at u ((lead_of b).len - 1) refl, λ x. rw (p, q, r) (ap (token b) (u.kept x) ∙ ap as_token (sym (permitted_none ((lead_of b).len - 1) v l o)) ∙ ap TokenBad (sym w)))
+            ((lead_of b).len - 1, w, omega (arith, u.within_list), cut_at u ((lead_of b).len - 1) refl, λ x. rw (p, q, r) (ap (token b) (u.kept x) ∙ ap as_token (sym (permitted_none ((lead_of b).len - 1) v l o)) ∙ ap (λ (j : ℕ). Err (Bad j)) (sym w)))
           where
-            cut_at : Whole ((lead_of b).len - 1) (lead_of b).lo (lead_of b).hi (b % (lead_of b).modulus) 1 t v l → (n : ℕ) → (lead_of b).len - 1 ≡ n → read_utf8 (take n (b ∷ t)) ≡ TokenCut
+            cut_at : Whole ((lead_of b).len - 1) (lead_of b).lo (lead_of b).hi (b % (lead_of b).modulus) 1 t v l → (n : ℕ) → (lead_of b).len - 1 ≡ n → read_utf8 (take n (b ∷ t)) ≡ Err Cut
             cut_at u zero j = refl
             cut_at u (suc m) j = rw (p, q, r) (ap (token b) (u.cut m j))
 
-begun_value : (b : ℕ) (t more : List ℕ) (w : ℕ) → b < 254 → read_utf8 (b ∷ (t ++ more)) ≡ TokenValue w (length (b ∷ (t ++ more))) → Begun Utf8Value utf8_bytes (b ∷ t)
+begun_value : (b : ℕ) (t more : List ℕ) (w : ℕ) → b < 254 → read_utf8 (b ∷ (t ++ more)) ≡ Ok (Value w, (length (b ∷ (t ++ more)))) → Begun Utf8Value utf8_bytes (b ∷ t)
 begun_value b t more w h e =
     let r = value_of b (t ++ more) w (length (b ∷ (t ++ more))) e h in
     record { value = w; more = more; of = r.0; same = rw (drop-length (b ∷ (t ++ more)), append-nil) at r.2 }
 
-cut_begun : (s : List ℕ) → Bytes s → read_utf8 s ≡ TokenCut → Begun Utf8Value utf8_bytes s
+cut_begun : (s : List ℕ) → Bytes s → read_utf8 s ≡ Err Cut → Begun Utf8Value utf8_bytes s
 unfolding utf8_bytes
 cut_begun [] y e = record { value = 0x41; more = 0x41 ∷ []; of = (inl (omega arith), low 0x41 (omega arith)); same = refl }
 cut_begun (b ∷ t) y e =
@@ -208,19 +208,19 @@ cut_begun (b ∷ t) y e =
     let n = i.no_start in
     let m = i.no_end in
     let a = y.0 in
-    begun_value b t g.more g.value (omega arith) (read_inner b (t ++ g.more) i ∙ ap (token b) g.reads ∙ token_permitted ((lead_of b).len - 1) g.value g.value _ refl o ∙ ap (TokenValue g.value) l)
+    begun_value b t g.more g.value (omega arith) (read_inner b (t ++ g.more) i ∙ ap (token b) g.reads ∙ token_permitted ((lead_of b).len - 1) g.value g.value _ refl o ∙ ap (λ (j : ℕ). Ok (Value g.value, j)) l)
 
-bad_within : (s : List ℕ) (k : ℕ) → read_utf8 s ≡ TokenBad k → k < length s
+bad_within : (s : List ℕ) (k : ℕ) → read_utf8 s ≡ Err (Bad k) → k < length s
 bad_within [] k e = no_bad _ k e read_nil
 bad_within (b ∷ t) k e = let r = bad_at b t k e in omega (arith, r.1, r.2)
 
-bad_cut : (s : List ℕ) (k : ℕ) → read_utf8 s ≡ TokenBad k → read_utf8 (take k s) ≡ TokenCut
+bad_cut : (s : List ℕ) (k : ℕ) → read_utf8 s ≡ Err (Bad k) → read_utf8 (take k s) ≡ Err Cut
 bad_cut [] k e = no_bad _ k e read_nil
 bad_cut (b ∷ t) k e = let r = bad_at b t k e in rw r.1 r.3
 
-bad_never : (s : List ℕ) (k : ℕ) (x : List ℕ) → read_utf8 s ≡ TokenBad k → read_utf8 (take (suc k) s ++ x) ≡ TokenBad k
+bad_never : (s : List ℕ) (k : ℕ) (x : List ℕ) → read_utf8 s ≡ Err (Bad k) → read_utf8 (take (suc k) s ++ x) ≡ Err (Bad k)
 bad_never [] k x e = no_bad _ k e read_nil
-bad_never (b ∷ t) k x e = let r = bad_at b t k e in mathlib.Core.Path.subst (λ (j : ℕ). read_utf8 (take (suc j) (b ∷ t) ++ x) ≡ TokenBad k) (sym r.1) (r.4 x)
+bad_never (b ∷ t) k x e = let r = bad_at b t k e in mathlib.Core.Path.subst (λ (j : ℕ). read_utf8 (take (suc j) (b ∷ t) ++ x) ≡ Err (Bad k)) (sym r.1) (r.4 x)
 
 pub stopping_utf8 : Stopping read_utf8 1 Utf8Value utf8_bytes (0xFE ∷ []) (0xFF ∷ [])
 stopping_utf8 = record {

@@ -7,7 +7,7 @@ use native.Mathlib.Omega.{arith}
 use lib.ListN.{length}
 use borrow.Author.Tests.{le-leb, lt-ltb, le-ltb}
 use Rattle.base.proofs.Tests.{below}
-use Rattle.token.specs.declared.Token.TheVariants.{Value, Bad}
+use Rattle.token.specs.declared.Token.TheVariants.{Value}
 use Rattle.token.specs.Meaning.{Noncharacter}
 use Rattle.utf8.specs.Reading.{lead_row, lead_of, conts, permitted_at, as_token, read_utf8}
 use Rattle.utf8.specs.Meaning.{utf8_bytes, Scalar, Utf8Value}
@@ -15,8 +15,9 @@ use Rattle.utf8.proofs.Rows.{row_1, row_2, row_3a, row_3b, row_3c, row_3d, row_4
 use Rattle.utf8.proofs.Permitted.{permitted_value, permitted_none}
 use Rattle.utf8.proofs.Conts.{reached}
 use Rattle.utf8.proofs.First.{as_value}
-use Rattle.std.specs.Prelude.{Result, Ok}
+use Rattle.std.specs.Prelude.{Result, Ok, Err}
 use Rattle.token.specs.declared.Malformed.{Malformed}
+use Rattle.token.specs.declared.Malformed.TheVariants.{Bad}
 
 -- how many bytes a value has
 pub bytes1 : (v : ℕ) → v < 0x80 → utf8_bytes v ≡ v ∷ []
@@ -129,9 +130,9 @@ scalar_read v s u = by (below v 0x80) (below v 0x800) (below v 0x10000) u
     by (inr x) (inr y) (inr z) (inl w) = absurd (omega arith)
     by (inr x) (inr y) (inr z) (inr w) = four v s z w.1
 
-pub value_read : (v : ℕ) (s : List ℕ) → Utf8Value v → read_utf8 (utf8_bytes v ++ s) ≡ Value v (length (utf8_bytes v))
+pub value_read : (v : ℕ) (s : List ℕ) → Utf8Value v → read_utf8 (utf8_bytes v ++ s) ≡ Ok (Value v, length (utf8_bytes v))
 value_read v s (p, n) = scalar_read v s p ∙ ap as_token (sym (permitted_value (length (utf8_bytes v) - 1) v (length (utf8_bytes v)) n))
 
 -- a noncharacter is bad at its last byte, whatever follows
-pub noncharacter_read : (v : ℕ) (s : List ℕ) → Scalar v → Noncharacter v → read_utf8 (utf8_bytes v ++ s) ≡ Bad (length (utf8_bytes v) - 1)
+pub noncharacter_read : (v : ℕ) (s : List ℕ) → Scalar v → Noncharacter v → read_utf8 (utf8_bytes v ++ s) ≡ Err (Bad (length (utf8_bytes v) - 1))
 noncharacter_read v s p n = scalar_read v s p ∙ ap as_token (sym (permitted_none (length (utf8_bytes v) - 1) v (length (utf8_bytes v)) n))

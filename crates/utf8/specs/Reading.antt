@@ -3,9 +3,8 @@
 use Rattle.std.specs.Prelude.{List, [], ◌∷◌, ℕ, ◌+◌, ◌%◌, zero, suc, ◌-◌, ◌*◌, Bool, true, false, ltb, eqb, Result, Ok, Err}
 use Rattle.base.specs.Meaning.{pick}
 use Rattle.base.specs.Reading.{when, within}
-use Rattle.token.specs.Reading.{is_noncharacter}
-use Rattle.token.specs.declared.Token.{Token}
-use Rattle.token.specs.declared.Token.TheVariants.{Value as TokenValue, Start, End, Cut as TokenCut, Bad as TokenBad}
+use Rattle.token.specs.Reading.{Step, is_noncharacter}
+use Rattle.token.specs.declared.Token.TheVariants.{Value, Start, End}
 use Rattle.utf8.specs.declared.Lead.{Lead}
 use Rattle.token.specs.declared.Malformed.{Malformed}
 use Rattle.token.specs.declared.Malformed.TheVariants.{Cut, Bad}
@@ -64,12 +63,11 @@ plain_len k (Err Cut) = 0
 plain_len k (Err (Bad j)) = 0
 
 -- what was read, as a token
-abbrev pub as_token : Result (ℕ × ℕ) Malformed → Token
-as_token (Ok (v, l)) = TokenValue v l
-as_token (Err Cut) = TokenCut
-as_token (Err (Bad k)) = TokenBad k
+abbrev pub as_token : Result (ℕ × ℕ) Malformed → Step
+as_token (Ok (v, l)) = Ok (Value v, l)
+as_token (Err t) = Err t
 
 -- the token in front
-unfoldable pub read_utf8 : List ℕ → Token
-read_utf8 [] = TokenCut
-read_utf8 (b ∷ s) = pick (eqb b 0xFE) Start (pick (eqb b 0xFF) End (as_token (read_value (b ∷ s))))
+unfoldable pub read_utf8 : List ℕ → Step
+read_utf8 [] = Err Cut
+read_utf8 (b ∷ s) = pick (eqb b 0xFE) (Ok (Start, 1)) (pick (eqb b 0xFF) (Ok (End, 1)) (as_token (read_value (b ∷ s))))
