@@ -14,3 +14,4 @@ pub mod Reading
 pub mod EndToEnd
 pub mod Places
 pub mod Numbers
+pub mod Walking

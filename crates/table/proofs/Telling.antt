@@ -8,7 +8,7 @@ use Rattle.coding.specs.declared.Coding.{Coding}
 use Rattle.table.specs.declared.Item.TheVariants.{Start, End}
 use Rattle.table.specs.Reading.{steps_from, steps_at, value_item, step_items}
 use Rattle.token.specs.declared.Token.TheVariants.{Value as TokenValue, Start as TokenStart, End as TokenEnd}
-use Rattle.token.specs.declared.Malformed.TheVariants.{Cut, Bad}
+use Rattle.token.specs.declared.Malformed.{Malformed}
 use Rattle.token.specs.Reading.{Step}
 use Rattle.std.specs.Prelude.{Ok, Err}
 
@@ -25,13 +25,13 @@ module _ (i : Bool) (xs ys : List Step) where
   unfolding step_items
   told_end next e = rw e
 
-  pub told_cut : xs ≡ Err Cut ∷ ys → step_items i xs ≡ []
+  pub told_malformed : (m : Malformed) → xs ≡ Err m ∷ ys → step_items i xs ≡ []
   unfolding step_items
-  told_cut e = rw e
+  told_malformed m e = rw e
 
-  pub told_bad : (k : ℕ) → xs ≡ Err (Bad k) ∷ ys → step_items i xs ≡ []
+  pub told_none : xs ≡ [] → step_items i xs ≡ []
   unfolding step_items
-  told_bad k e = rw e
+  told_none e = rw e
 
 pub told_past : (c : Coding) (s : List ℕ) (i : Bool) (at : ℕ) → length s ≤ at → step_items i (steps_at c s at) ≡ []
 unfolding step_items steps_from

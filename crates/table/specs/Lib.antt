@@ -3,3 +3,4 @@ pub mod Meaning
 pub mod Reading
 pub mod Bounds
 pub mod Skipping
+pub mod Walking

@@ -2,12 +2,14 @@
 // specs/Reading.antt (its items one by one, and what the check answers), specs/Skipping.antt (going over it without its values).
 #![tactic(auto)]
 
-ghost use Rattle.std.specs.Prelude.{◌≡◌, ◌-◌, ◌≤◌, ◌<◌, length, Ok};
+ghost use Rattle.std.specs.Prelude.{◌≡◌, ◌-◌, ◌≤◌, ◌<◌, length, false, Ok};
 ghost use Rattle.coding.specs.declared.Coding.TheVariants.{Utf8, Ucs2};
 ghost use Rattle.coding.specs.Reading.{no_key};
 ghost use Rattle.token.specs.declared.Token.TheVariants.{Value as TokenValue};
 ghost use Rattle.table.specs.Reading.{step_of, step_at, value_item, table_of};
 ghost use Rattle.table.specs.Bounds.{StepFits, StepSays};
+ghost use Rattle.table.specs.Walking.{Begins, WalksOn, bytes_left, items_left};
+ghost use Rattle.std.specs.Iterator.{YieldsFirst};
 ghost use Rattle.table.specs.Skipping.{plain_of, cursor_of, Stands, front_at, skipped, ended_of, NoValue, refused_of, answer_at, check_at};
 
 use coding::Coding;
@@ -80,6 +82,47 @@ pub fn step_at(c: Coding, s: &[u8], at: usize) -> Step
     }
 }
 
+// A walk over a tail from a place on: each token with the place after it, and last why none could be read, where it ends so.
+#[derive(Clone, Copy, Drop)]
+pub struct Steps<'a> {
+    pub coding: Coding,
+    pub tail: &'a [u8],
+    pub at: usize,
+}
+
+impl<'a> Steps<'a> {
+    // The walk from a place on.
+    pub fn new(c: Coding, tail: &'a [u8], at: usize) -> Steps<'a>
+        ensures { Begins c tail.now at result }
+    {
+        Steps {
+            coding: c,
+            tail: tail,
+            at: at,
+        }
+    }
+}
+
+impl<'a> Iterator for Steps<'a> {
+    type Item = Step;
+
+    ghost next_gives = { WalksOn };
+
+    ghost remaining = { bytes_left };
+
+    fn next(&mut self) -> Option<Step> {
+        if self.tail.len() <= self.at {
+            return None;
+        }
+        let step = step_at(self.coding, self.tail, self.at);
+        self.at = match step {
+            Ok((_, next)) => next,
+            Err(_) => self.tail.len(),
+        };
+        Some(step)
+    }
+}
+
 // A value as an item: before the first start mark of its description it is a single.
 pub fn value_item(inside: bool, v: u32) -> Item
     ensures { result ≡ value_item inside v }
@@ -88,6 +131,51 @@ pub fn value_item(inside: bool, v: u32) -> Item
         return Item::Value(v);
     }
     Item::Single(v)
+}
+
+// A walk over a tail from its front, item by item, as far as it can be read.
+#[derive(Clone, Copy, Drop)]
+pub struct Items<'a> {
+    pub steps: Steps<'a>,
+    pub inside: bool,
+}
+
+impl<'a> Items<'a> {
+    // The walk from the front.
+    pub fn new(c: Coding, tail: &'a [u8]) -> Items<'a>
+        ensures { Begins c tail.now 0 result.steps × (result.inside ≡ false) }
+    {
+        Items {
+            steps: Steps::new(c, tail, 0),
+            inside: false,
+        }
+    }
+}
+
+impl<'a> Iterator for Items<'a> {
+    type Item = Item;
+
+    ghost next_gives = { YieldsFirst items_left };
+
+    ghost remaining = { λ w. bytes_left w.steps };
+
+    fn next(&mut self) -> Option<Item> {
+        let step = self.steps.next()?;
+        let Ok((token, _)) = step else {
+            return None;
+        };
+        match token {
+            Token::Value(v) => Some(value_item(self.inside, v)),
+            Token::Start => {
+                self.inside = true;
+                Some(Item::Start)
+            }
+            Token::End => {
+                self.inside = false;
+                Some(Item::End)
+            }
+        }
+    }
 }
 
 // Why a tail is no table. Places are counted from the table's first byte; Cut and Bad also tell how many descriptions are complete before

@@ -26,7 +26,6 @@ overflow_add-result-in-Ok c = let w = value_step c.args.s.now c.args.at c.if-s-a
 pub returns-in-Ok : goal.returns-in-Ok
 returns-in-Ok c = value_step c.args.s.now c.args.at c.if-s-at.false c.if-b-2.false c.if-b.false _ (sym c.in-Ok.is ∙ c.read_value-r.ensures)
 
-
 pub behind-requires : goal.behind-requires
 behind-requires c = fits Utf8 c.args.s.now c.args.at (Err (behind c.args.at c.in-Err.m)) (omega arith) (value_step c.args.s.now c.args.at c.if-s-at.false c.if-b-2.false c.if-b.false _ (sym c.in-Err.is ∙ c.read_value-r.ensures)).1
 

@@ -1,0 +1,53 @@
+-- A walk over a tail goes by the steps that are left.
+use mathlib.Core.Path.{◌≡◌, sym, ◌∙◌, ap, subst}
+use mathlib.Core.List.{List, [], ◌∷◌}
+use Prim.Native.Nat.{ℕ, ◌≤◌}
+use native.Mathlib.Omega.{arith}
+use lib.ListN.{length, drop_of_length-le}
+use denote.Ref.{Bor}
+use Rattle.std.specs.Prelude.{Ok, Err, Option, Some, None}
+use Rattle.token.specs.declared.Malformed.{Malformed}
+use Rattle.token.specs.declared.Malformed.TheVariants.{Cut, Bad}
+use Rattle.token.specs.Reading.{Step}
+use Rattle.coding.specs.declared.Coding.{Coding}
+use Rattle.table.specs.declared.Steps.{Steps}
+use Rattle.table.specs.Reading.{steps_from, steps_at}
+use Rattle.table.specs.Walking.{WalksOn, steps_left}
+
+-- nothing is left from the end on
+pub none_left : (c : Coding) (s : List ℕ) (at : ℕ) → length s ≤ at → steps_at c s at ≡ []
+unfolding steps_from
+none_left c s at h = rw (drop_of_length-le s h)
+
+module _ (w v : Steps) (c : v.coding ≡ w.coding) (s : v.tail ≡ w.tail) where
+  -- what is left of a walk that goes on at a place
+  left_at : (at : ℕ) → v.at ≡ at → steps_left v ≡ steps_at w.coding w.tail.now at
+  left_at at a = λ i. steps_at (c i) (s i).now (a i)
+
+  left_none : (at : ℕ) → v.at ≡ at → length w.tail.now ≤ at → steps_left v ≡ []
+  left_none at a h = left_at at a ∙ none_left w.coding w.tail.now at h
+
+module _ (w v : Steps) where
+  -- a step
+  pub went : (x : Step) → WalksOn w (Some x) v → steps_left w ≡ x ∷ steps_left v
+  went (Ok (t, next)) (c, s, (h, m, a)) = m.2 ∙ ap (λ (y : List Step). Ok (t, next) ∷ y) (sym (left_at w v c s next a))
+  went (Err Cut) (c, s, (h, m, a)) = m h ∙ ap (λ (y : List Step). Err Cut ∷ y) (sym (left_none w v c s (length w.tail.now) a (omega arith)))
+  went (Err (Bad k)) (c, s, (h, m, a)) = m.2 ∙ ap (λ (y : List Step). Err (Bad k) ∷ y) (sym (left_none w v c s (length w.tail.now) a (omega arith)))
+
+  -- nothing is left behind one that can't be read
+  broken : (m : Malformed) → WalksOn w (Some (Err m)) v → steps_left v ≡ []
+  broken m (c, s, (h, l, a)) = left_none w v c s (length w.tail.now) a (omega arith)
+
+  -- the end
+  pub stayed : WalksOn w None v → (steps_left w ≡ []) × (steps_left v ≡ [])
+  stayed (c, s, (h, a)) = (none_left w.coding w.tail.now w.at h, left_none w v c s w.at a h)
+
+  -- the same of any result
+  pub walked : (x : Step) (r : Option Step) → r ≡ Some x → WalksOn w r v → steps_left w ≡ x ∷ steps_left v
+  walked x r e h = went x (subst (λ (y : Option Step). WalksOn w y v) e h)
+
+  pub walked_out : (r : Option Step) → r ≡ None → WalksOn w r v → (steps_left w ≡ []) × (steps_left v ≡ [])
+  walked_out r e h = stayed (subst (λ (y : Option Step). WalksOn w y v) e h)
+
+  pub walked_malformed : (m : Malformed) (r : Option Step) → r ≡ Some (Err m) → WalksOn w r v → steps_left v ≡ []
+  walked_malformed m r e h = broken m (subst (λ (y : Option Step). WalksOn w y v) e h)
