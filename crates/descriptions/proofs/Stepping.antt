@@ -23,8 +23,7 @@ pub goes : (c : Coding) (s : List ℕ) (at : ℕ) (x : Step) → StepSays c s at
 goes c s at (Ok (TokenValue v, next)) w n = w
 goes c s at (Ok (TokenStart, next)) w n = w
 goes c s at (Ok (TokenEnd, next)) w n = absurd (n refl)
-goes c s at (Err Cut) w n = absurd (n refl)
-goes c s at (Err (Bad k)) w n = absurd (n refl)
+goes c s at (Err t) w n = absurd (n refl)
 
 -- a step that is read before the end of the list is the first of those from there on, and the place after it stands in the list
 pub front : (c : Coding) (s : List ℕ) (at : ℕ) (x : Step) → at < length s → StepSays c s at x →

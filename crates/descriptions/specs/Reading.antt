@@ -14,16 +14,14 @@ abbrev pub code_of : Step → ℕ
 code_of (Ok (TokenValue v, next)) = v + 2
 code_of (Ok (TokenStart, next)) = 1
 code_of (Ok (TokenEnd, next)) = 0
-code_of (Err Cut) = 0
-code_of (Err (Bad k)) = 0
+code_of (Err t) = 0
 
 -- the place after a step that stands at a place; that place, where reading stops
 abbrev pub next_of : ℕ → Step → ℕ
 next_of at (Ok (TokenValue v, next)) = next
 next_of at (Ok (TokenStart, next)) = next
 next_of at (Ok (TokenEnd, next)) = next
-next_of at (Err Cut) = at
-next_of at (Err (Bad k)) = at
+next_of at (Err t) = at
 
 -- whether two lists of steps have the same values and marks up to the end of their first descriptions; nothing differs from no steps
 unfoldable pub same_steps : List Step → List Step → Bool

@@ -20,6 +20,8 @@ use Rattle.lookup.specs.Reading.{find_value, goes_on, is_whole, rest, find_seque
 use Rattle.lookup.proofs.Finding.{no_matter}
 use Rattle.std.specs.Prelude.{Option, Some, None, Ok, Err}
 use Rattle.token.specs.declared.Token.TheVariants.{Value as TokenValue, Start as TokenStart, End as TokenEnd}
+use Rattle.token.specs.declared.Token.{Token}
+use Rattle.token.specs.declared.Malformed.{Malformed}
 use Rattle.token.specs.declared.Malformed.TheVariants.{Cut, Bad}
 use Rattle.token.specs.Reading.{Step}
 
@@ -44,39 +46,29 @@ module _ (vs : List ℕ) (m : ℕ) (xs ys : List Step) where
       go (inl l) = lt-leb (length vs) m l ∙ sym (ap (λ (us : List ℕ). sequence_in us (w ∷ ys)) (drop-cons vs m 0 l) ∙ more (get_or vs m 0) (drop (suc m) vs))
       go (inr l) = le-leb (length vs) m l ∙ sym (ap (λ (us : List ℕ). sequence_in us (w ∷ ys)) (drop_of_length-le vs l) ∙ none)
 
-  pub at_start : (next : ℕ) → xs ≡ Ok (TokenStart, next) ∷ ys → leb (length vs) m ≡ sequence_in (drop m vs) xs
+  -- a mark
+  pub at_mark : (t : Token) (next : ℕ) → ((v : ℕ) → t ≡ TokenValue v → ⊥) → xs ≡ Ok (t, next) ∷ ys → leb (length vs) m ≡ sequence_in (drop m vs) xs
   unfolding sequence_in
-  at_start next e = by_end (Ok (TokenStart, next)) (λ v us. refl) refl e
-
-  pub at_end : (next : ℕ) → xs ≡ Ok (TokenEnd, next) ∷ ys → leb (length vs) m ≡ sequence_in (drop m vs) xs
-  unfolding sequence_in
-  at_end next e = by_end (Ok (TokenEnd, next)) (λ v us. refl) refl e
-
-stops_cut : (us : List ℕ) (ys : List Step) → false ≡ sequence_in us (Err Cut ∷ ys)
-unfolding sequence_in
-stops_cut [] ys = refl
-stops_cut (u ∷ us) ys = refl
-
-stops_bad : (us : List ℕ) (k : ℕ) (ys : List Step) → false ≡ sequence_in us (Err (Bad k) ∷ ys)
-unfolding sequence_in
-stops_bad [] k ys = refl
-stops_bad (u ∷ us) k ys = refl
-
-stops_nil : (us : List ℕ) → false ≡ sequence_in us []
-unfolding sequence_in
-stops_nil [] = refl
-stops_nil (u ∷ us) = refl
+  at_mark (TokenValue v) next n e = absurd (n v refl)
+  at_mark TokenStart next n e = by_end (Ok (TokenStart, next)) (λ v us. refl) refl e
+  at_mark TokenEnd next n e = by_end (Ok (TokenEnd, next)) (λ v us. refl) refl e
 
 module _ (us : List ℕ) (xs ys : List Step) where
-  pub at_cut : xs ≡ Err Cut ∷ ys → false ≡ sequence_in us xs
-  at_cut e = rw e (stops_cut us ys)
+  pub at_malformed : (t : Malformed) → xs ≡ Err t ∷ ys → false ≡ sequence_in us xs
+  unfolding sequence_in
+  at_malformed t e = rw e (go us)
+    where
+      go : (ws : List ℕ) → false ≡ sequence_in ws (Err t ∷ ys)
+      go [] = refl
+      go (w ∷ ws) = refl
 
-  pub at_bad : (k : ℕ) → xs ≡ Err (Bad k) ∷ ys → false ≡ sequence_in us xs
-  at_bad k e = rw e (stops_bad us k ys)
-
-pub past_all : (c : Coding) (s us : List ℕ) (at : ℕ) → length s ≤ at → false ≡ sequence_in us (steps_at c s at)
-unfolding steps_from
-past_all c s us at h = rw (drop_of_length-le s h) (stops_nil us)
+  pub past_all : xs ≡ [] → false ≡ sequence_in us xs
+  unfolding sequence_in
+  past_all e = rw e (go us)
+    where
+      go : (ws : List ℕ) → false ≡ sequence_in ws []
+      go [] = refl
+      go (w ∷ ws) = refl
 
 -- whether what is asked for begins there, by a cursor
 module _ (vs : List ℕ) (start at w : ℕ) (xs : List Step) where
@@ -119,10 +111,8 @@ whole_or_next vs g [] (Ok (TokenStart, next) ∷ xs) = refl
 whole_or_next vs g (u ∷ us) (Ok (TokenStart, next) ∷ xs) = refl
 whole_or_next vs g [] (Ok (TokenEnd, next) ∷ xs) = refl
 whole_or_next vs g (u ∷ us) (Ok (TokenEnd, next) ∷ xs) = refl
-whole_or_next vs g [] (Err Cut ∷ xs) = refl
-whole_or_next vs g (u ∷ us) (Err Cut ∷ xs) = refl
-whole_or_next vs g [] (Err (Bad k) ∷ xs) = refl
-whole_or_next vs g (u ∷ us) (Err (Bad k) ∷ xs) = refl
+whole_or_next vs g [] (Err t ∷ xs) = refl
+whole_or_next vs g (u ∷ us) (Err t ∷ xs) = refl
 
 -- a value: what is asked for begins with it, or is looked for behind it
 pub found_or_next : (q : Bool) (vs : List ℕ) (g : ℕ) (p : Phase) (w next : ℕ) (xs : List Step) →
@@ -182,8 +172,7 @@ module _ (c : Coding) (k : ℕ) (vs : List ℕ) (h : 1 ≤ length vs) (e : key_o
       let z : N - suc (suc n) + 1 ≡ N - suc n = omega arith in ap (λ (g : ℕ). find_from false vs g singles xs) z ∙ find_skip false n singles next xs (omega arith)
   find_skip true (suc n) filled at (Ok (TokenEnd, next) ∷ xs) l =
       let z : N - suc (suc n) + 1 ≡ N - suc n = omega arith in ap (λ (g : ℕ). find_from true vs g singles xs) z ∙ find_skip true n singles next xs (omega arith)
-  find_skip q n p at (Err Cut ∷ xs) l = refl
-  find_skip q n p at (Err (Bad j) ∷ xs) l = refl
+  find_skip q n p at (Err t ∷ xs) l = refl
 
 -- behind the last description nothing is found where the table is complete; and a refused table answers so whatever was found
 find_nil : (q : Bool) (vs : List ℕ) (g : ℕ) (p : Phase) → find_from q vs g p [] ≡ None
@@ -205,4 +194,4 @@ looked_refused e g (Ok (TokenValue v, next)) n w u = absurd n
 looked_refused e g (Ok (TokenStart, next)) n w u = refl
 looked_refused e g (Ok (TokenEnd, next)) n w u = refl
 looked_refused e g (Err Cut) n w u = refl
-looked_refused e g (Err (Bad j)) n w u = refl
+looked_refused e g (Err (Bad k)) n w u = refl

@@ -10,9 +10,6 @@ use Rattle.base.specs.Meaning.{pick}
 use Rattle.base.proofs.Tests.{nonzero}
 use Rattle.coding.specs.declared.Coding.{Coding}
 use Rattle.coding.specs.Reading.{key_of}
-use types.Run.{OneOf}
-use denote.Enum.Declared.{tag_of}
-use Rattle.table.specs.contracts.Step.{the_type}
 use Rattle.table.specs.declared.Cursor.{Cursor}
 use Rattle.table.specs.Reading.{step_at, steps_at, items_in, check_steps, table_of}
 use Rattle.table.specs.Skipping.{Phase, singles, is_opened, after_value, front, skipped, no_start, phase_of, cursor_of, front_at, Stands, ended_of, NoValue, refused_of, check_at}
@@ -25,17 +22,6 @@ use Rattle.table.specs.declared.Fault.{Fault}
 use Rattle.token.specs.declared.Token.TheVariants.{Value as TokenValue, Start as TokenStart, End as TokenEnd}
 use Rattle.token.specs.declared.Malformed.TheVariants.{Cut, Bad}
 use Rattle.token.specs.Reading.{Step}
-
--- a step of another kind than a value's
-pub no_value : (x : Step) → OneOf (1 ∷ 2 ∷ 3 ∷ 4 ∷ []) (tag_of the_type x) → NoValue x
-no_value (Ok (TokenValue v, next)) (inl h) = omega arith
-no_value (Ok (TokenValue v, next)) (inr (inl h)) = omega arith
-no_value (Ok (TokenValue v, next)) (inr (inr (inl h))) = omega arith
-no_value (Ok (TokenValue v, next)) (inr (inr (inr h))) = omega arith
-no_value (Ok (TokenStart, next)) h = tt
-no_value (Ok (TokenEnd, next)) h = tt
-no_value (Err Cut) h = tt
-no_value (Err (Bad k)) h = tt
 
 module _ (c : Coding) (s : List ℕ) (n : ℕ) (q : Bool) (vs : List ℕ) where
   -- what holds at a cursor: it stands in the table, and the check and what is found go on from there

@@ -6,7 +6,7 @@ use Prim.Native.Nat.{ℕ, zero, suc, ◌-◌}
 use native.Mathlib.Omega.{arith}
 use Rattle.table.specs.declared.Item.{Item}
 use Rattle.table.specs.declared.Item.TheVariants.{Single, Start, Value, End}
-use Rattle.table.specs.Reading.{value_item}
+use Rattle.table.specs.Reading.{is_end}
 use Rattle.lookup.specs.Reading.{item_at}
 use Rattle.std.specs.Prelude.{Some, None}
 
@@ -17,10 +17,17 @@ Inner Start = Unit {0}
 Inner (Value v) = Unit {0}
 Inner End = ⊥
 
-pub inner_told : (i : Bool) (v : ℕ) → Inner (value_item i v)
-unfolding value_item
-inner_told false v = tt
-inner_told true v = tt
+pub inner_item : (i : Item) → is_end i ≡ false → Inner i
+inner_item (Single v) e = tt
+inner_item Start e = tt
+inner_item (Value v) e = tt
+inner_item End e = let z : ◌≡◌ {A = ℕ} 0 1 = cc in absurd (omega arith)
+
+end_item : (P : Item → Type 0) (i : Item) → is_end i ≡ true → P End → P i
+end_item P (Single v) e p = let z : ◌≡◌ {A = ℕ} 0 1 = cc in absurd (omega arith)
+end_item P Start e p = let z : ◌≡◌ {A = ℕ} 0 1 = cc in absurd (omega arith)
+end_item P (Value v) e p = let z : ◌≡◌ {A = ℕ} 0 1 = cc in absurd (omega arith)
+end_item P End e p = p
 
 module _ (g k : ℕ) (is : List Item) where
   pub item_here : (i : Item) → g ≡ 0 → k ≡ 0 → item_at g k (i ∷ is) ≡ Some i
@@ -49,17 +56,17 @@ module _ (g k : ℕ) (is : List Item) where
       go (suc m) f (Value v) n = refl
       go (suc m) f End n = absurd n
 
-  pub no_item : g ≡ 0 → (k ≡ 0 → ⊥) → item_at g k (End ∷ is) ≡ None
+  pub no_item : (i : Item) → g ≡ 0 → (k ≡ 0 → ⊥) → is_end i ≡ true → item_at g k (i ∷ is) ≡ None
   unfolding item_at
-  no_item p q = rw p (go k q)
+  no_item i p q e = rw p (end_item (λ (j : Item). item_at 0 k (j ∷ is) ≡ None) i e (go k q))
     where
       go : (m : ℕ) → (m ≡ 0 → ⊥) → item_at 0 m (End ∷ is) ≡ None
       go zero f = absurd (f refl)
       go (suc m) f = refl
 
-  pub glyph_past : (g ≡ 0 → ⊥) → item_at g k (End ∷ is) ≡ item_at (g - 1) k is
+  pub glyph_past : (i : Item) → (g ≡ 0 → ⊥) → is_end i ≡ true → item_at g k (i ∷ is) ≡ item_at (g - 1) k is
   unfolding item_at
-  glyph_past p = go g p
+  glyph_past i p e = end_item (λ (j : Item). item_at g k (j ∷ is) ≡ item_at (g - 1) k is) i e (go g p)
     where
       go : (m : ℕ) → (m ≡ 0 → ⊥) → item_at m k (End ∷ is) ≡ item_at (m - 1) k is
       go zero f = absurd (f refl)

@@ -7,6 +7,8 @@ use Rattle.table.specs.Reading.{step_items, table_place}
 use Rattle.table.specs.Skipping.{Phase, singles, opened, filled, is_opened, is_inside}
 use Rattle.table.specs.declared.Fault.{Fault}
 use Rattle.table.specs.declared.Fault.TheVariants.{Cut as TableCut, Bad as TableBad, Trailing}
+use Rattle.lookup.specs.declared.Asked.{Asked}
+use Rattle.lookup.specs.declared.Asked.TheVariants.{Value as AskedValue, Sequence as AskedSequence}
 use Rattle.token.specs.declared.Token.TheVariants.{Value as TokenValue, Start as TokenStart, End as TokenEnd}
 use Rattle.token.specs.declared.Malformed.TheVariants.{Cut, Bad}
 use Rattle.token.specs.Reading.{Step}
@@ -64,6 +66,15 @@ find_sequence vs is = find_sequence_from vs 0 false vs is
 
 -- A lookup in one pass with the check.
 
+-- whether a sequence is asked for, and the values of what is asked for
+abbrev pub is_sequence : Asked → Bool
+is_sequence (AskedValue v) = false
+is_sequence (AskedSequence vs) = true
+
+abbrev pub values_of : Asked → List ℕ
+values_of (AskedValue v) = v ∷ []
+values_of (AskedSequence vs) = vs.now
+
 -- what is asked for: the first of vs as a single, or the sequence vs
 abbrev pub find_asked : Bool → List ℕ → List Item → Option ℕ
 find_asked false vs is = find_value (get_or vs 0 0) 0 is
@@ -94,8 +105,7 @@ sequence_in [] (Ok (TokenStart, next) ∷ xs) = true
 sequence_in (v ∷ vs) (Ok (TokenStart, next) ∷ xs) = false
 sequence_in [] (Ok (TokenEnd, next) ∷ xs) = true
 sequence_in (v ∷ vs) (Ok (TokenEnd, next) ∷ xs) = false
-sequence_in vs (Err Cut ∷ xs) = false
-sequence_in vs (Err (Bad k) ∷ xs) = false
+sequence_in vs (Err t ∷ xs) = false
 
 -- whether what is asked for begins with the value w, the first of the steps xs, in a phase
 abbrev pub begins_at : Bool → List ℕ → Phase → ℕ → List Step → Bool

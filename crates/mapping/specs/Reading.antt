@@ -16,8 +16,7 @@ place_after (suc g) at [] = at
 place_after (suc g) at (Ok (TokenValue v, next) ∷ xs) = place_after (suc g) next xs
 place_after (suc g) at (Ok (TokenStart, next) ∷ xs) = place_after (suc g) next xs
 place_after (suc g) at (Ok (TokenEnd, next) ∷ xs) = place_after g next xs
-place_after (suc g) at (Err Cut ∷ xs) = at
-place_after (suc g) at (Err (Bad k) ∷ xs) = at
+place_after (suc g) at (Err t ∷ xs) = at
 
 -- the first v among the values up to the next mark, on steps from a place on: its place and the place after it; else that mark's place
 unfoldable pub single_from : ℕ → ℕ → List Step → Mapping
@@ -25,8 +24,7 @@ single_from v at [] = Unlisted at
 single_from v at (Ok (TokenValue w, next) ∷ xs) = pick (eqb w v) (Listed at next) (single_from v next xs)
 single_from v at (Ok (TokenStart, next) ∷ xs) = Unlisted at
 single_from v at (Ok (TokenEnd, next) ∷ xs) = Unlisted at
-single_from v at (Err Cut ∷ xs) = Unlisted at
-single_from v at (Err (Bad k) ∷ xs) = Unlisted at
+single_from v at (Err t ∷ xs) = Unlisted at
 
 -- where description g of a tail starts
 unfoldable pub description_at : Coding → ℕ → List ℕ → ℕ

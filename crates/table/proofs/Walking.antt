@@ -6,6 +6,7 @@ use native.Mathlib.Omega.{arith}
 use lib.ListN.{length, drop_of_length-le}
 use denote.Ref.{Bor}
 use Rattle.std.specs.Prelude.{Ok, Err, Option, Some, None}
+use Rattle.token.specs.declared.Token.{Token}
 use Rattle.token.specs.declared.Malformed.{Malformed}
 use Rattle.token.specs.declared.Malformed.TheVariants.{Cut, Bad}
 use Rattle.token.specs.Reading.{Step}
@@ -42,12 +43,17 @@ module _ (w v : Steps) where
   pub stayed : WalksOn w None v → (steps_left w ≡ []) × (steps_left v ≡ [])
   stayed (c, s, (h, a)) = (none_left w.coding w.tail.now w.at h, left_none w v c s w.at a h)
 
-  -- the same of any result
+  -- the same of any result, by its parts
   pub walked : (x : Step) (r : Option Step) → r ≡ Some x → WalksOn w r v → steps_left w ≡ x ∷ steps_left v
   walked x r e h = went x (subst (λ (y : Option Step). WalksOn w y v) e h)
 
+  pub walked_token : (t u : Token) (next : ℕ) (x : Step) (r : Option Step) → r ≡ Some x → x ≡ Ok (t, next) → t ≡ u → WalksOn w r v → steps_left w ≡ Ok (u, next) ∷ steps_left v
+  walked_token t u next x r e f g h = walked (Ok (u, next)) r (e ∙ ap (λ (y : Step). Some y) (f ∙ ap (λ (y : Token). Ok (y, next)) g)) h
+
+  pub walked_malformed : (m : Malformed) (x : Step) (r : Option Step) → r ≡ Some x → x ≡ Err m → WalksOn w r v → (steps_left w ≡ Err m ∷ steps_left v) × (steps_left v ≡ [])
+  walked_malformed m x r e f h =
+      let q = e ∙ ap (λ (y : Step). Some y) f in
+      (walked (Err m) r q h, broken m (subst (λ (y : Option Step). WalksOn w y v) q h))
+
   pub walked_out : (r : Option Step) → r ≡ None → WalksOn w r v → (steps_left w ≡ []) × (steps_left v ≡ [])
   walked_out r e h = stayed (subst (λ (y : Option Step). WalksOn w y v) e h)
-
-  pub walked_malformed : (m : Malformed) (r : Option Step) → r ≡ Some (Err m) → WalksOn w r v → steps_left v ≡ []
-  walked_malformed m r e h = broken m (subst (λ (y : Option Step). WalksOn w y v) e h)

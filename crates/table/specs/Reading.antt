@@ -42,6 +42,13 @@ unfoldable pub value_item : Bool → ℕ → Item
 value_item false v = Single v
 value_item true v = Value v
 
+-- whether an item ends its description
+abbrev pub is_end : Item → Bool
+is_end (Single v) = false
+is_end Start = false
+is_end (Value v) = false
+is_end End = true
+
 -- steps as items
 unfoldable pub step_items : Bool → List Step → List Item
 step_items inside [] = []

@@ -6,11 +6,11 @@ ghost use Rattle.std.specs.Prelude.{◌≡◌, ◌-◌, ◌≤◌, ◌<◌, leng
 ghost use Rattle.coding.specs.declared.Coding.TheVariants.{Utf8, Ucs2};
 ghost use Rattle.coding.specs.Reading.{no_key};
 ghost use Rattle.token.specs.declared.Token.TheVariants.{Value as TokenValue};
-ghost use Rattle.table.specs.Reading.{step_of, step_at, value_item, table_of};
+ghost use Rattle.table.specs.Reading.{is_end, step_of, step_at, value_item, table_of};
 ghost use Rattle.table.specs.Bounds.{StepFits, StepSays};
 ghost use Rattle.table.specs.Walking.{Begins, WalksOn, bytes_left, items_left};
 ghost use Rattle.std.specs.Iterator.{YieldsFirst};
-ghost use Rattle.table.specs.Skipping.{plain_of, cursor_of, Stands, front_at, skipped, ended_of, NoValue, refused_of, answer_at, check_at};
+ghost use Rattle.table.specs.Skipping.{plain_of, cursor_of, Stands, ValueThere, front_at, skipped, ended_of, NoValue, refused_of, answer_at, check_at};
 
 use coding::Coding;
 use token::{Malformed, Step, Token};
@@ -22,6 +22,15 @@ pub enum Item {
     Start,
     Value(u32),
     End,
+}
+
+impl Item {
+    // Whether it ends its description.
+    pub fn is_end(self) -> bool
+        ensures { result ≡ is_end self }
+    {
+        matches!(self, Item::End)
+    }
 }
 
 // What was read at a place, its places counted from the front. Asks that these are numbers: they stand within the bytes that it was read from.
@@ -79,6 +88,17 @@ pub fn step_at(c: Coding, s: &[u8], at: usize) -> Step
     match c {
         Coding::Utf8 => utf8_step(s, at),
         Coding::Ucs2 => ucs2_step(s, at),
+    }
+}
+
+// The value at a place, and the place after it, if one stands there.
+pub fn value_at(c: Coding, s: &[u8], at: usize) -> Option<(u32, usize)>
+    ensures { ValueThere c s.now at result }
+{
+    let (token, next) = step_at(c, s, at).ok()?;
+    match token {
+        Token::Value(v) => Some((v, next)),
+        _ => None,
     }
 }
 

@@ -41,8 +41,7 @@ told_length to at n m i (Ok (TokenStart, next) ∷ xs) e =
     omega (arith, told_length to next (n + mark_len to) m true xs e, start_len to, length-append (start_bytes to) (bytes to (step_items true xs)))
 told_length to at n m i (Ok (TokenEnd, next) ∷ xs) e =
     omega (arith, told_length to next (n + mark_len to) m false xs e, end_len to, length-append (end_bytes to) (bytes to (step_items false xs)))
-told_length to at n m i (Err Cut ∷ xs) e = let h : n ≡ m = cc in omega arith
-told_length to at n m i (Err (Bad k) ∷ xs) e = let h : n ≡ m = cc in omega arith
+told_length to at n m i (Err t ∷ xs) e = let h : n ≡ m = cc in omega arith
 
 pub length_recoded : (from to : Coding) (s : List ℕ) (m : ℕ) → table_len from to s ≡ Ok m → m ≡ length (recoded from to s)
 unfolding table_len recoded

@@ -67,8 +67,7 @@ module _ (to : Coding) where
   blind true true (Ok (TokenValue v, next) ∷ xs) = refl
   blind i j (Ok (TokenStart, next) ∷ xs) = refl
   blind i j (Ok (TokenEnd, next) ∷ xs) = refl
-  blind i j (Err Cut ∷ xs) = refl
-  blind i j (Err (Bad k) ∷ xs) = refl
+  blind i j (Err t ∷ xs) = refl
 
   -- the bytes, by the first step
   module _ (xs ys : List Step) where

@@ -21,8 +21,7 @@ measure to at n [] = Ok n
 measure to at n (Ok (TokenValue v, next) ∷ xs) = when (carries_of to v) (measure to next (n + length (value_bytes to v)) xs) (Err at)
 measure to at n (Ok (TokenStart, next) ∷ xs) = measure to next (n + mark_len to) xs
 measure to at n (Ok (TokenEnd, next) ∷ xs) = measure to next (n + mark_len to) xs
-measure to at n (Err Cut ∷ xs) = Ok n
-measure to at n (Err (Bad k) ∷ xs) = Ok n
+measure to at n (Err t ∷ xs) = Ok n
 
 -- how many bytes a tail's items are in another coding; or the place in the tail of the first value, singles and sequences alike, that
 -- the coding can't carry
