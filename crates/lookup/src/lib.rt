@@ -123,7 +123,7 @@ fn look(c: Coding, tail: &[u8], n: usize, asked: Asked) -> Result<Option<usize>,
         if left == 0 {
             return looked_by(None, table::ended(tail, at));
         }
-        let Some((w, next)) = table::value_at(c, tail, at) else {
+        let Some((w, next)) = table::value_of(table::step_at(c, tail, at)) else {
             return looked_by(None, table::refused(c, tail, at, n - left));
         };
         if begins(asked, c, tail, p, w) {

@@ -6,14 +6,15 @@ use native.Mathlib.Omega.{arith}
 use lib.ListN.{length, drop_of_length-le}
 use borrow.Author.Tests.{eq-eqb, ne_eqb}
 use Rattle.coding.specs.declared.Coding.{Coding}
-use Rattle.table.specs.Reading.{steps_from, steps_at}
+use Rattle.table.specs.Reading.{steps_at, value_of}
 use Rattle.mapping.specs.declared.Mapping.{Mapping}
 use Rattle.mapping.specs.declared.Mapping.TheVariants.{Listed, Unlisted}
 use Rattle.mapping.specs.Reading.{place_after, single_from, description_at, mapping_of}
 use Rattle.token.specs.declared.Token.TheVariants.{Value as TokenValue, Start as TokenStart, End as TokenEnd}
-use Rattle.token.specs.declared.Malformed.TheVariants.{Cut, Bad}
+use Rattle.token.specs.declared.Token.{Token}
+use Rattle.token.specs.declared.Malformed.{Malformed}
 use Rattle.token.specs.Reading.{Step}
-use Rattle.std.specs.Prelude.{Ok, Err}
+use Rattle.std.specs.Prelude.{Ok, Err, None}
 
 -- the walk: no description is left to pass, a step that ends none, one that ends one, and where reading stops
 pub here : (g at : ℕ) (xs : List Step) → g ≡ 0 → at ≡ place_after g at xs
@@ -21,21 +22,15 @@ unfolding place_after
 here g at xs e = rw e
 
 module _ (g at : ℕ) (xs ys : List Step) where
-  pub past_value : (v next : ℕ) → (g ≡ 0 → ⊥) → xs ≡ Ok (TokenValue v, next) ∷ ys → place_after g at xs ≡ place_after g next ys
+  pub past_other : (t : Token) (next : ℕ) → (t ≡ TokenEnd → ⊥) → (g ≡ 0 → ⊥) → xs ≡ Ok (t, next) ∷ ys → place_after g at xs ≡ place_after g next ys
   unfolding place_after
-  past_value v next n e = rw e (go g n)
+  past_other t next d n e = rw e (go g t d n)
     where
-      go : (m : ℕ) → (m ≡ 0 → ⊥) → place_after m at (Ok (TokenValue v, next) ∷ ys) ≡ place_after m next ys
-      go zero f = absurd (f refl)
-      go (suc m) f = refl
-
-  pub past_start : (next : ℕ) → (g ≡ 0 → ⊥) → xs ≡ Ok (TokenStart, next) ∷ ys → place_after g at xs ≡ place_after g next ys
-  unfolding place_after
-  past_start next n e = rw e (go g n)
-    where
-      go : (m : ℕ) → (m ≡ 0 → ⊥) → place_after m at (Ok (TokenStart, next) ∷ ys) ≡ place_after m next ys
-      go zero f = absurd (f refl)
-      go (suc m) f = refl
+      go : (m : ℕ) (u : Token) → (u ≡ TokenEnd → ⊥) → (m ≡ 0 → ⊥) → place_after m at (Ok (u, next) ∷ ys) ≡ place_after m next ys
+      go zero u d f = absurd (f refl)
+      go (suc m) (TokenValue v) d f = refl
+      go (suc m) TokenStart d f = refl
+      go (suc m) TokenEnd d f = absurd (d refl)
 
   pub past_end : (next : ℕ) → (g ≡ 0 → ⊥) → xs ≡ Ok (TokenEnd, next) ∷ ys → place_after g at xs ≡ place_after (g - 1) next ys
   unfolding place_after
@@ -45,19 +40,19 @@ module _ (g at : ℕ) (xs ys : List Step) where
       go zero f = absurd (f refl)
       go (suc m) f = let z : suc m - 1 ≡ m = omega arith in rw z
 
-  pub stops_cut : xs ≡ Err Cut ∷ ys → place_after g at xs ≡ at
+  pub stops : (t : Malformed) → xs ≡ Err t ∷ ys → place_after g at xs ≡ at
   unfolding place_after
-  stops_cut e = rw e (go g)
+  stops t e = rw e (go g)
     where
-      go : (m : ℕ) → place_after m at (Err Cut ∷ ys) ≡ at
+      go : (m : ℕ) → place_after m at (Err t ∷ ys) ≡ at
       go zero = refl
       go (suc m) = refl
 
-  pub stops_bad : (k : ℕ) → xs ≡ Err (Bad k) ∷ ys → place_after g at xs ≡ at
+  pub place_past : xs ≡ [] → place_after g at xs ≡ at
   unfolding place_after
-  stops_bad k e = rw e (go g)
+  place_past e = rw e (go g)
     where
-      go : (m : ℕ) → place_after m at (Err (Bad k) ∷ ys) ≡ at
+      go : (m : ℕ) → place_after m at [] ≡ at
       go zero = refl
       go (suc m) = refl
 
@@ -71,40 +66,18 @@ module _ (v at : ℕ) (xs ys : List Step) where
   unfolding single_from
   other w next q e = rw (e, ne_eqb w v q)
 
-  pub none_start : (next : ℕ) → xs ≡ Ok (TokenStart, next) ∷ ys → single_from v at xs ≡ Unlisted at
+  pub none_other : (x : Step) → value_of x ≡ None → xs ≡ x ∷ ys → single_from v at xs ≡ Unlisted at
   unfolding single_from
-  none_start next e = rw e
+  none_other (Ok (TokenValue w, next)) n e = let z : ◌≡◌ {A = ℕ} 0 1 = cc in absurd (omega arith)
+  none_other (Ok (TokenStart, next)) n e = rw e
+  none_other (Ok (TokenEnd, next)) n e = rw e
+  none_other (Err t) n e = rw e
 
-  pub none_end : (next : ℕ) → xs ≡ Ok (TokenEnd, next) ∷ ys → single_from v at xs ≡ Unlisted at
+  pub none_past : xs ≡ [] → single_from v at xs ≡ Unlisted at
   unfolding single_from
-  none_end next e = rw e
-
-  pub none_cut : xs ≡ Err Cut ∷ ys → single_from v at xs ≡ Unlisted at
-  unfolding single_from
-  none_cut e = rw e
-
-  pub none_bad : (k : ℕ) → xs ≡ Err (Bad k) ∷ ys → single_from v at xs ≡ Unlisted at
-  unfolding single_from
-  none_bad k e = rw e
+  none_past e = rw e
 
 module _ (c : Coding) (s : List ℕ) where
-  no_steps : (at : ℕ) → length s ≤ at → steps_at c s at ≡ []
-  unfolding steps_from
-  no_steps at h = rw (drop_of_length-le s h)
-
-  -- both at the end of the bytes
-  pub place_past : (g at : ℕ) → length s ≤ at → place_after g at (steps_at c s at) ≡ at
-  unfolding place_after
-  place_past g at h = ap (place_after g at) (no_steps at h) ∙ go g
-    where
-      go : (m : ℕ) → place_after m at [] ≡ at
-      go zero = refl
-      go (suc m) = refl
-
-  pub none_past : (v at : ℕ) → length s ≤ at → single_from v at (steps_at c s at) ≡ Unlisted at
-  unfolding single_from
-  none_past v at h = ap (single_from v at) (no_steps at h)
-
   -- the walk from the front on
   pub from_front : (g : ℕ) → place_after g 0 (steps_at c s 0) ≡ description_at c g s
   unfolding description_at

@@ -8,7 +8,8 @@ ghost use Rattle.mapping.specs.Reading.{single_from, description_at, mapping_of}
 ghost use Rattle.mapping.specs.Bounds.{MappingWithin};
 
 use coding::Coding;
-use table::Step;
+use table::Steps;
+use token::Token;
 
 // Where a value is listed as a single, and the place after it; or where the singles end, which do not have it.
 #[derive(Clone, Copy)]
@@ -18,27 +19,24 @@ pub enum Mapping {
 }
 
 // Where description g starts.
-#[tactic(auto, using(crate::proofs::Walking::here))]
+#[tactic(auto, using(crate::proofs::Walking::here), unfolding(crate::specs::Reading::description_at))]
 fn description_start(c: Coding, tail: &[u8], g: usize) -> usize
     ensures { (result ≡ description_at c g tail.now) × (result ≤ length tail.now) }
 {
     let mut left = g;
     let mut at: usize = 0;
-    while at < tail.len() {
+    for step in Steps::new(c, tail, 0) {
         if left == 0 {
             return at;
         }
-        let t = table::step_at(c, tail, at);
-        match t {
-            Step::Value(_, next) => at = next,
-            Step::Start(next) => at = next,
-            Step::End(next) => {
-                left -= 1;
-                at = next;
-            }
-            Step::Cut => return at,
-            Step::Bad(_) => return at,
+        let Ok((token, next)) = step else {
+            return at;
+        };
+        match token {
+            Token::End => left -= 1,
+            _ => {}
         }
+        at = next;
     }
     at
 }
@@ -50,20 +48,14 @@ fn find_single(c: Coding, tail: &[u8], start: usize, v: u32) -> Mapping
     ensures bounded { MappingWithin (length tail.now) result }
 {
     let mut at = start;
-    while at < tail.len() {
-        let t = table::step_at(c, tail, at);
-        match t {
-            Step::Value(w, next) => {
-                if w == v {
-                    return Mapping::Listed(at, next);
-                }
-                at = next;
-            }
-            Step::Start(_) => return Mapping::Unlisted(at),
-            Step::End(_) => return Mapping::Unlisted(at),
-            Step::Cut => return Mapping::Unlisted(at),
-            Step::Bad(_) => return Mapping::Unlisted(at),
+    for step in Steps::new(c, tail, start) {
+        let Some((w, next)) = table::value_of(step) else {
+            return Mapping::Unlisted(at);
+        };
+        if w == v {
+            return Mapping::Listed(at, next);
         }
+        at = next;
     }
     Mapping::Unlisted(at)
 }

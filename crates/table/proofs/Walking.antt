@@ -1,7 +1,7 @@
 -- A walk over a tail goes by the steps that are left.
 use mathlib.Core.Path.{◌≡◌, sym, ◌∙◌, ap, subst}
 use mathlib.Core.List.{List, [], ◌∷◌}
-use Prim.Native.Nat.{ℕ, ◌≤◌}
+use Prim.Native.Nat.{ℕ, ◌≤◌, ◌<◌}
 use native.Mathlib.Omega.{arith}
 use lib.ListN.{length, drop_of_length-le}
 use denote.Ref.{Bor}
@@ -13,7 +13,7 @@ use Rattle.token.specs.Reading.{Step}
 use Rattle.coding.specs.declared.Coding.{Coding}
 use Rattle.table.specs.declared.Steps.{Steps}
 use Rattle.table.specs.Reading.{steps_from, steps_at}
-use Rattle.table.specs.Walking.{WalksOn, steps_left}
+use Rattle.table.specs.Walking.{WalksOn, Along, steps_left}
 
 -- nothing is left from the end on
 pub none_left : (c : Coding) (s : List ℕ) (at : ℕ) → length s ≤ at → steps_at c s at ≡ []
@@ -42,6 +42,12 @@ module _ (w v : Steps) where
   -- the end
   pub stayed : WalksOn w None v → (steps_left w ≡ []) × (steps_left v ≡ [])
   stayed (c, s, (h, a)) = (none_left w.coding w.tail.now w.at h, left_none w v c s w.at a h)
+
+  -- from a place of the bytes to the next
+  pub walked_along : (s : List ℕ) (at : ℕ) (t : Token) (next : ℕ) (x : Step) (r : Option Step) → r ≡ Some x → x ≡ Ok (t, next) → WalksOn w r v → Along s at w → Along s next v × (at < next) × (next ≤ length s)
+  walked_along s at t next x r e f h (p, q) =
+      let (c, d, (l, m, a)) = subst (λ (y : Option Step). WalksOn w y v) (e ∙ ap (λ (y : Step). Some y) f) h in
+      ((ap (λ (y : Bor (List ℕ)). y.now) d ∙ p, a), omega (arith, m.0, q), omega (arith, m.1, ap length p))
 
   -- the same of any result, by its parts
   pub walked : (x : Step) (r : Option Step) → r ≡ Some x → WalksOn w r v → steps_left w ≡ x ∷ steps_left v

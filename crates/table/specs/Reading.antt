@@ -1,6 +1,6 @@
 -- The items that a list of bytes is, one by one, as far as it can be read; and what the check of a table answers: the grammar followed
 -- step by step.
-use Rattle.std.specs.Prelude.{Bool, true, false, List, [], ◌∷◌, ℕ, zero, suc, ◌-◌, ◌+◌, length, drop, Result, Ok, Err}
+use Rattle.std.specs.Prelude.{Bool, true, false, List, [], ◌∷◌, ℕ, zero, suc, ◌-◌, ◌+◌, length, drop, Result, Ok, Err, Option, Some, None}
 use Rattle.coding.specs.declared.Coding.{Coding}
 use Rattle.table.specs.declared.Item.{Item}
 use Rattle.table.specs.declared.Item.TheVariants.{Single, Start, Value, End}
@@ -19,6 +19,13 @@ step_of at (Err m) = Err (behind at m)
 -- the step from a place on
 abbrev pub step_at : Coding → List ℕ → ℕ → Step
 step_at c s at = step_of at (read_token c (drop at s))
+
+-- the value of a step, and the place after it, if it is a value's
+abbrev pub value_of : Step → Option (ℕ × ℕ)
+value_of (Ok (TokenValue v, next)) = Some (v, next)
+value_of (Ok (TokenStart, next)) = None
+value_of (Ok (TokenEnd, next)) = None
+value_of (Err m) = None
 
 -- what stands from the place after a step on; nothing where reading stops
 abbrev pub after_step : Step → (ℕ → List Step) → List Step

@@ -1,5 +1,5 @@
 -- Going over a table without its values: what plainly stands at a place, how far it is gone over, and what the check answers there.
-use Rattle.std.specs.Prelude.{◌≡◌, Bool, true, false, ◌⊎◌, List, [], ◌∷◌, ℕ, zero, suc, ◌-◌, ◌≤◌, length, eqb, ltb, Result, Ok, Err, Option, MatchOption}
+use Rattle.std.specs.Prelude.{◌≡◌, Bool, true, false, ◌⊎◌, List, [], ◌∷◌, ℕ, zero, suc, ◌-◌, ◌≤◌, length, eqb, ltb, Result, Ok, Err}
 use Rattle.base.specs.Meaning.{pick}
 use Rattle.coding.specs.declared.Coding.{Coding}
 use Rattle.coding.specs.Reading.{key_of}
@@ -7,7 +7,6 @@ use Rattle.table.specs.declared.Plain.{Plain}
 use Rattle.table.specs.declared.Plain.TheVariants.{Value as PlainValue, Start as PlainStart, End as PlainEnd, Other}
 use Rattle.table.specs.declared.Cursor.{Cursor}
 use Rattle.table.specs.Reading.{step_at, steps_at, check_steps}
-use Rattle.table.specs.Bounds.{StepSays}
 use Rattle.table.specs.declared.Fault.{Fault}
 use Rattle.table.specs.declared.Fault.TheVariants.{Cut as TableCut, Bad as TableBad, Trailing}
 use Rattle.token.specs.declared.Token.TheVariants.{Value as TokenValue, Start as TokenStart, End as TokenEnd}
@@ -103,10 +102,6 @@ NoValue (Ok (TokenValue v, next)) = ⊥
 NoValue (Ok (TokenStart, next)) = Unit {0}
 NoValue (Ok (TokenEnd, next)) = Unit {0}
 NoValue (Err m) = Unit {0}
-
--- the value at a place, and the place after it, where one stands there
-abbrev pub ValueThere : Coding → List ℕ → ℕ → Option (ℕ × ℕ) → Type 0
-ValueThere c s at r = MatchOption r (NoValue (step_at c s at)) (λ x. (step_at c s at ≡ Ok (TokenValue x.0, x.1)) × StepSays c s at (Ok (TokenValue x.0, x.1)))
 
 -- the answer at a step where a value must stand, of bytes that end at e, with g descriptions complete
 abbrev pub refused_of : ℕ → ℕ → Step → Result (Unit {0}) Fault

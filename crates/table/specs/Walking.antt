@@ -17,6 +17,10 @@ steps_left w = steps_at w.coding w.tail.now w.at
 abbrev pub Begins : Coding → List ℕ → ℕ → Steps → Type 0
 Begins c s at w = (w.coding ≡ c) × (w.tail.now ≡ s) × (w.at ≡ at)
 
+-- a walk over bytes that stands at a place
+abbrev pub Along : List ℕ → ℕ → Steps → Type 0
+Along s at w = (w.tail.now ≡ s) × (w.at ≡ at)
+
 -- the place behind a step, in bytes that end at e: their end where none can be read
 abbrev pub place_behind : ℕ → Step → ℕ
 place_behind e (Ok (t, next)) = next

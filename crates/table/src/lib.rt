@@ -6,11 +6,11 @@ ghost use Rattle.std.specs.Prelude.{◌≡◌, ◌-◌, ◌≤◌, ◌<◌, leng
 ghost use Rattle.coding.specs.declared.Coding.TheVariants.{Utf8, Ucs2};
 ghost use Rattle.coding.specs.Reading.{no_key};
 ghost use Rattle.token.specs.declared.Token.TheVariants.{Value as TokenValue};
-ghost use Rattle.table.specs.Reading.{is_end, step_of, step_at, value_item, table_of};
+ghost use Rattle.table.specs.Reading.{is_end, value_of, step_of, step_at, value_item, table_of};
 ghost use Rattle.table.specs.Bounds.{StepFits, StepSays};
 ghost use Rattle.table.specs.Walking.{Begins, WalksOn, bytes_left, items_left};
 ghost use Rattle.std.specs.Iterator.{YieldsFirst};
-ghost use Rattle.table.specs.Skipping.{plain_of, cursor_of, Stands, ValueThere, front_at, skipped, ended_of, NoValue, refused_of, answer_at, check_at};
+ghost use Rattle.table.specs.Skipping.{plain_of, cursor_of, Stands, front_at, skipped, ended_of, NoValue, refused_of, answer_at, check_at};
 
 use coding::Coding;
 use token::{Malformed, Step, Token};
@@ -91,11 +91,11 @@ pub fn step_at(c: Coding, s: &[u8], at: usize) -> Step
     }
 }
 
-// The value at a place, and the place after it, if one stands there.
-pub fn value_at(c: Coding, s: &[u8], at: usize) -> Option<(u32, usize)>
-    ensures { ValueThere c s.now at result }
+// The value of a step, and the place after it, if it is a value's.
+pub fn value_of(step: Step) -> Option<(u32, usize)>
+    ensures { result ≡ value_of step }
 {
-    let (token, next) = step_at(c, s, at).ok()?;
+    let (token, next) = step.ok()?;
     match token {
         Token::Value(v) => Some((v, next)),
         _ => None,

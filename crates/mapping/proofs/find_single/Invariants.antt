@@ -1,15 +1,10 @@
-use mathlib.Core.Path.{◌≡◌, refl, sym, ◌∙◌}
-use Prim.Native.Nat.{◌-◌, ◌≤◌}
-use native.Mathlib.Omega.{arith}
+use mathlib.Core.Path.{◌≡◌}
+use Prim.Native.Nat.{◌≤◌}
 use lib.ListN.{length}
-use borrow.Author.Rules.{rules}
 use Rattle.table.specs.Reading.{steps_at}
+use Rattle.table.specs.Walking.{Along, steps_left}
 use Rattle.mapping.specs.Reading.{single_from}
-use Rattle.mapping.proofs.Walking.{found, other, none_start, none_end, none_cut, none_bad, none_past}
 use Rattle.mapping.proofs.find_single.Given as goal
 
-abbrev pub invariant-loop-at : goal.invariant-loop-at
-invariant-loop-at l = (l.at ≤ length l.tail) × (single_from l.v l.at (steps_at l.c l.tail l.at) ≡ single_from l.v l.start (steps_at l.c l.tail l.start))
-
-abbrev pub decreases-loop-at : goal.decreases-loop-at
-decreases-loop-at l = length l.tail - l.at
+abbrev pub invariant-loop-step : goal.invariant-loop-step
+invariant-loop-step l = Along l.tail l.at l.step-iterator × (l.at ≤ length l.tail) × (single_from l.v l.at (steps_left l.step-iterator) ≡ single_from l.v l.start (steps_at l.fn.c l.tail l.start))
