@@ -5,7 +5,7 @@ use Rattle.text.specs.Reading.{numeral}
 use Rattle.coding.specs.declared.Coding.{Coding}
 use Rattle.table.specs.declared.Item.{Item}
 use Rattle.table.specs.declared.Item.TheVariants.{Single, Start, Value, End}
-use Rattle.table.specs.Reading.{items_in}
+use Rattle.table.specs.Reading.{is_end, items_in}
 
 -- an item: a single is a blank and its value; a sequence is a blank and, for each value, `+` and the value; the end is a newline
 abbrev pub item_text : Item → List ℕ
@@ -25,17 +25,10 @@ next_glyph g Start = g
 next_glyph g (Value v) = g
 next_glyph g End = g + 1
 
--- whether the item after an item is the first of a description
-abbrev pub ends : Item → Bool
-ends (Single v) = false
-ends Start = false
-ends (Value v) = false
-ends End = true
-
 -- the lines of items, the first an item of glyph g, fresh where it is the first of the description
 unfoldable pub lines_of : ℕ → Bool → List Item → List ℕ
 lines_of g fresh [] = []
-lines_of g fresh (i ∷ is) = piece_of fresh g i ++ lines_of (next_glyph g i) (ends i) is
+lines_of g fresh (i ∷ is) = piece_of fresh g i ++ lines_of (next_glyph g i) (is_end i) is
 
 -- the lines of a tail's items, as far as it can be read
 unfoldable pub table_text : Coding → List ℕ → List ℕ

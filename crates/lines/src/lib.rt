@@ -6,7 +6,7 @@ ghost use Rattle.base.specs.Reading.{over};
 ghost use Rattle.lines.specs.Reading.{item_text, piece_of, table_text};
 
 use coding::Coding;
-use table::{Item, Step};
+use table::{Item, Items};
 
 // How many bytes an item's text is.
 fn item_len(i: Item) -> usize
@@ -64,32 +64,12 @@ pub fn table_len(c: Coding, tail: &[u8]) -> usize
 {
     let mut g: usize = 0;
     let mut fresh = true;
-    let mut inside = false;
     let mut n: usize = 0;
-    let mut at: usize = 0;
-    while at < tail.len() {
-        let t = table::step_at(c, tail, at);
-        match t {
-            Step::Value(v, next) => {
-                n += piece_len(fresh, g, table::value_item(inside, v));
-                fresh = false;
-                at = next;
-            }
-            Step::Start(next) => {
-                n += piece_len(fresh, g, Item::Start);
-                fresh = false;
-                inside = true;
-                at = next;
-            }
-            Step::End(next) => {
-                n += piece_len(fresh, g, Item::End);
-                fresh = true;
-                inside = false;
-                g += 1;
-                at = next;
-            }
-            Step::Cut => return n,
-            Step::Bad(_) => return n,
+    for item in Items::new(c, tail) {
+        n += piece_len(fresh, g, item);
+        fresh = item.is_end();
+        if fresh {
+            g += 1;
         }
     }
     n
@@ -102,36 +82,13 @@ pub fn put_table(c: Coding, tail: &[u8], out: &mut [u8])
 {
     let mut g: usize = 0;
     let mut fresh = true;
-    let mut inside = false;
     let mut n: usize = 0;
-    let mut at: usize = 0;
-    while at < tail.len() {
-        let t = table::step_at(c, tail, at);
-        match t {
-            Step::Value(v, next) => {
-                let i = table::value_item(inside, v);
-                let l = put_piece(fresh, g, i, &mut out[n..]);
-                n += l;
-                fresh = false;
-                at = next;
-            }
-            Step::Start(next) => {
-                let l = put_piece(fresh, g, Item::Start, &mut out[n..]);
-                n += l;
-                fresh = false;
-                inside = true;
-                at = next;
-            }
-            Step::End(next) => {
-                let l = put_piece(fresh, g, Item::End, &mut out[n..]);
-                n += l;
-                fresh = true;
-                inside = false;
-                g += 1;
-                at = next;
-            }
-            Step::Cut => return,
-            Step::Bad(_) => return,
+    for item in Items::new(c, tail) {
+        let l = put_piece(fresh, g, item, &mut out[n..]);
+        n += l;
+        fresh = item.is_end();
+        if fresh {
+            g += 1;
         }
     }
 }

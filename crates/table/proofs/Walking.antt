@@ -1,5 +1,6 @@
 -- A walk over a tail goes by the steps that are left.
 use mathlib.Core.Path.{◌≡◌, sym, ◌∙◌, ap, subst}
+use mathlib.Core.Bool.{false}
 use mathlib.Core.List.{List, [], ◌∷◌}
 use Prim.Native.Nat.{ℕ, ◌≤◌, ◌<◌}
 use native.Mathlib.Omega.{arith}
@@ -12,8 +13,9 @@ use Rattle.token.specs.declared.Malformed.TheVariants.{Cut, Bad}
 use Rattle.token.specs.Reading.{Step}
 use Rattle.coding.specs.declared.Coding.{Coding}
 use Rattle.table.specs.declared.Steps.{Steps}
-use Rattle.table.specs.Reading.{steps_from, steps_at}
-use Rattle.table.specs.Walking.{WalksOn, Along, steps_left}
+use Rattle.table.specs.declared.Items.{Items}
+use Rattle.table.specs.Reading.{steps_from, steps_at, step_items, items_in}
+use Rattle.table.specs.Walking.{WalksOn, Along, Begins, bytes_left, steps_left, items_left}
 
 -- nothing is left from the end on
 pub none_left : (c : Coding) (s : List ℕ) (at : ℕ) → length s ≤ at → steps_at c s at ≡ []
@@ -63,3 +65,7 @@ module _ (w v : Steps) where
 
   pub walked_out : (r : Option Step) → r ≡ None → WalksOn w r v → (steps_left w ≡ []) × (steps_left v ≡ [])
   walked_out r e h = stayed (subst (λ (y : Option Step). WalksOn w y v) e h)
+
+-- a walk that begins
+pub items_begin : (c : Coding) (s : List ℕ) (w : Items) → Begins c s 0 w.steps → w.inside ≡ false → (items_left w ≡ items_in c s) × ((bytes_left w.steps).bound ≡ length s)
+items_begin c s w (d, p, a) e = (λ i. step_items (e i) (steps_at (d i) (p i) (a i)), omega (arith, ap length p, a))

@@ -1,58 +1,35 @@
--- `lines::put_table` meets its contract: at each turn the lines written so far stand in front, and those from the place on are left. Assumes nothing.
-use Rattle.text.proofs.Putting.{Written, written_none, written_all}
-use Rattle.lines.proofs.Pieces.{value_within, value_room, value_next, start_within, start_room, start_next, end_within, end_room, end_next, on_cut, on_bad, on_past, on_all}
-use borrow.Author.Rules.{rules}
+-- `lines::put_table` meets its contract: at each turn the lines written so far stand in front, and the others are left. Assumes room.
+use mathlib.Core.Path.{sym, ◌∙◌, ap}
 use native.Mathlib.Omega.{arith}
-use Prim.Native.Nat.{◌-◌, ◌≤◌}
-use lib.ListN.{length}
-use Rattle.lines.specs.Reading.{lines_of, table_text}
-use Rattle.table.specs.Reading.{steps_at, step_items}
+use Rattle.table.proofs.Walking.{items_begin}
+use Rattle.text.proofs.Putting.{written_none, written_within, written_room, written_next, written_all}
+use Rattle.lines.specs.Reading.{piece_of, lines_of}
+use Rattle.lines.proofs.Pieces.{lines_ended, lines_on, lines_none, lines_either, on_all}
 use Rattle.lines.proofs.put_table.Goals as goal
 
-pub loop-at-init : goal.loop-at-init
-loop-at-init c = (omega arith, omega arith, written_none _ _ _ c.requires (on_all _ _))
+pub loop-item-init : goal.loop-item-init
+loop-item-init c = rw c.into_iter-item-iterator.ensures.into_iter_gives
+    (let w = items_begin c.args.c c.args.tail.now c.new-item-items.result c.new-item-items.ensures.0 c.new-item-items.ensures.1 in
+    (omega (arith, w.1), written_none _ _ _ c.requires (on_all c.args.c c.args.tail.now ∙ ap (lines_of 0 _) (sym w.0))))
 
 pub put_piece-l-requires : goal.put_piece-l-requires
-put_piece-l-requires c = let w = rw c.in-Value.is at c.step_at-t.ensures.1 in value_room _ _ _ _ _ _ _ _ _ w.2 c.value_item-i.ensures _ _ _ c.loop-at.invariant.2
+put_piece-l-requires c = let e = lines_either _ _ _ _ _ c.in-Some.ensures.steps in written_room _ _ _ _ _ c.loop-item.invariant.1 _ _ e.1
 
 pub overflow_add-n : goal.overflow_add-n
-overflow_add-n c = let w = rw c.in-Value.is at c.step_at-t.ensures.1 in let k = value_within _ _ _ _ _ _ _ _ _ w.2 c.value_item-i.ensures _ _ _ c.loop-at.invariant.2 in omega (arith, k, c.put_piece-l.ensures.0)
+overflow_add-n c =
+    let e = lines_either _ _ _ _ _ c.in-Some.ensures.steps in
+    let k = written_within _ _ _ _ _ c.loop-item.invariant.1 (piece_of c.loop-item.fresh c.loop-item.g c.in-Some.item) e.0 e.1 in
+    omega (arith, k, c.put_piece-l.ensures.0)
 
-pub loop-at-smaller-in-Value : goal.loop-at-smaller-in-Value
-loop-at-smaller-in-Value c = let w = rw c.in-Value.is at c.step_at-t.ensures.1 in omega (arith, w.0, w.1)
+pub loop-item-preserved-then-fresh : goal.loop-item-preserved-then-fresh
+loop-item-preserved-then-fresh c =
+    let l = c.in-Some.ensures.goes.on tt in
+    (omega (arith, l.2), written_next _ _ _ _ _ c.loop-item.invariant.1 _ _ (lines_ended _ _ _ _ _ c.in-Some.ensures.steps _ c.is_end-fresh.ensures c.if-fresh.true) _ _ c.put_piece-l.ensures)
 
-pub loop-at-preserved-in-Value : goal.loop-at-preserved-in-Value
-loop-at-preserved-in-Value c = let w = rw c.in-Value.is at c.step_at-t.ensures.1 in (w.1, omega (arith, w.0), value_next _ _ _ _ _ _ _ _ _ w.2 c.value_item-i.ensures _ _ _ c.loop-at.invariant.2 _ _ c.put_piece-l.ensures)
-
-pub put_piece-l-requires-in-Start : goal.put_piece-l-requires-in-Start
-put_piece-l-requires-in-Start c = let w = rw c.in-Start.is at c.step_at-t.ensures.1 in start_room _ _ _ _ _ _ _ w.2 _ _ _ c.loop-at.invariant.2
-
-pub overflow_add-n-in-Start : goal.overflow_add-n-in-Start
-overflow_add-n-in-Start c = let w = rw c.in-Start.is at c.step_at-t.ensures.1 in let k = start_within _ _ _ _ _ _ _ w.2 _ _ _ c.loop-at.invariant.2 in omega (arith, k, c.put_piece-l-in-Start.ensures.0)
-
-pub loop-at-smaller-in-Start : goal.loop-at-smaller-in-Start
-loop-at-smaller-in-Start c = let w = rw c.in-Start.is at c.step_at-t.ensures.1 in omega (arith, w.0, w.1)
-
-pub loop-at-preserved-in-Start : goal.loop-at-preserved-in-Start
-loop-at-preserved-in-Start c = let w = rw c.in-Start.is at c.step_at-t.ensures.1 in (w.1, omega (arith, w.0), start_next _ _ _ _ _ _ _ w.2 _ _ _ c.loop-at.invariant.2 _ _ c.put_piece-l-in-Start.ensures)
-
-pub put_piece-l-requires-in-End : goal.put_piece-l-requires-in-End
-put_piece-l-requires-in-End c = let w = rw c.in-End.is at c.step_at-t.ensures.1 in end_room _ _ _ _ _ _ _ w.2 _ _ _ c.loop-at.invariant.2
-
-pub overflow_add-n-in-End : goal.overflow_add-n-in-End
-overflow_add-n-in-End c = let w = rw c.in-End.is at c.step_at-t.ensures.1 in let k = end_within _ _ _ _ _ _ _ w.2 _ _ _ c.loop-at.invariant.2 in omega (arith, k, c.put_piece-l-in-End.ensures.0)
-
-pub loop-at-smaller : goal.loop-at-smaller
-loop-at-smaller c = let w = rw c.in-End.is at c.step_at-t.ensures.1 in omega (arith, w.0, w.1)
-
-pub loop-at-preserved : goal.loop-at-preserved
-loop-at-preserved c = let w = rw c.in-End.is at c.step_at-t.ensures.1 in (w.1, omega (arith, w.0), end_next _ _ _ _ _ _ _ w.2 _ _ _ c.loop-at.invariant.2 _ _ c.put_piece-l-in-End.ensures)
-
-pub returns-in-Cut : goal.returns-in-Cut
-returns-in-Cut c = let w = rw c.in-Cut.is at c.step_at-t.ensures.1 in written_all _ _ _ _ _ c.loop-at.invariant.2 (on_cut _ _ _ _ _ (w (omega arith)))
-
-pub returns-in-Bad : goal.returns-in-Bad
-returns-in-Bad c = let w = rw c.in-Bad.is at c.step_at-t.ensures.1 in written_all _ _ _ _ _ c.loop-at.invariant.2 (on_bad _ _ _ _ _ _ w.2)
+pub loop-item-preserved : goal.loop-item-preserved
+loop-item-preserved c =
+    let l = c.in-Some.ensures.goes.on tt in
+    (omega (arith, l.2), written_next _ _ _ _ _ c.loop-item.invariant.1 _ _ (lines_on _ _ _ _ _ c.in-Some.ensures.steps _ c.is_end-fresh.ensures c.if-fresh.false) _ _ c.put_piece-l.ensures)
 
 pub returns : goal.returns
-returns c = written_all _ _ _ _ _ c.loop-at.invariant.2 (on_past _ _ _ _ _ _ c.loop-at-test.false)
+returns c = written_all _ _ _ _ _ c.loop-item.invariant.1 (lines_none _ _ _ c.in-None.ensures.steps.0)
