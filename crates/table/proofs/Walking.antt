@@ -67,5 +67,8 @@ module _ (w v : Steps) where
   walked_out r e h = stayed (subst (λ (y : Option Step). WalksOn w y v) e h)
 
 -- a walk that begins
+pub steps_begin : (c : Coding) (s : List ℕ) (at : ℕ) (w : Steps) → Begins c s at w → steps_left w ≡ steps_at c s at
+steps_begin c s at w (d, p, a) = λ i. steps_at (d i) (p i) (a i)
+
 pub items_begin : (c : Coding) (s : List ℕ) (w : Items) → Begins c s 0 w.steps → w.inside ≡ false → (items_left w ≡ items_in c s) × ((bytes_left w.steps).bound ≡ length s)
 items_begin c s w (d, p, a) e = (λ i. step_items (e i) (steps_at (d i) (p i) (a i)), omega (arith, ap length p, a))

@@ -10,12 +10,12 @@ use Rattle.coding.specs.declared.Coding.{Coding}
 use Rattle.coding.specs.Reading.{carries_of, mark_len}
 use Rattle.coding.specs.Meaning.{value_bytes, start_bytes, end_bytes}
 use Rattle.table.specs.Meaning.{bytes}
-use Rattle.table.specs.Reading.{steps_from, steps_at, value_item, step_items}
-use Rattle.table.proofs.Telling.{told_past}
+use Rattle.table.specs.Reading.{steps_at, value_item, step_items}
 use Rattle.transcode.specs.Reading.{measure, table_len, recoded}
 use Rattle.std.specs.Prelude.{Ok, Err}
 use Rattle.token.specs.declared.Token.TheVariants.{Value as TokenValue, Start as TokenStart, End as TokenEnd}
-use Rattle.token.specs.declared.Malformed.TheVariants.{Cut, Bad}
+use Rattle.token.specs.declared.Token.{Token}
+use Rattle.token.specs.declared.Malformed.{Malformed}
 use Rattle.token.specs.Reading.{Step}
 
 -- the length, by the first step
@@ -28,6 +28,12 @@ module _ (to : Coding) (at n : ℕ) (xs ys : List Step) where
   unfolding measure when
   value_not v next e c = rw (e, c)
 
+  pub mark_more : (t : Token) (next l : ℕ) → ((v : ℕ) → t ≡ TokenValue v → ⊥) → xs ≡ Ok (t, next) ∷ ys → l ≡ mark_len to → measure to at n xs ≡ measure to next (n + l) ys
+  unfolding measure
+  mark_more (TokenValue v) next l m e z = absurd (m v refl)
+  mark_more TokenStart next l m e z = rw (e, z)
+  mark_more TokenEnd next l m e z = rw (e, z)
+
   pub start_more : (next l : ℕ) → xs ≡ Ok (TokenStart, next) ∷ ys → l ≡ mark_len to → measure to at n xs ≡ measure to next (n + l) ys
   unfolding measure
   start_more next l e z = rw (e, z)
@@ -36,13 +42,13 @@ module _ (to : Coding) (at n : ℕ) (xs ys : List Step) where
   unfolding measure
   end_more next l e z = rw (e, z)
 
-  pub cut_no_more : xs ≡ Err Cut ∷ ys → measure to at n xs ≡ Ok n
+  pub malformed_no_more : (t : Malformed) → xs ≡ Err t ∷ ys → measure to at n xs ≡ Ok n
   unfolding measure
-  cut_no_more e = rw e
+  malformed_no_more t e = rw e
 
-  pub bad_no_more : (k : ℕ) → xs ≡ Err (Bad k) ∷ ys → measure to at n xs ≡ Ok n
+  pub past_no_more : xs ≡ [] → measure to at n xs ≡ Ok n
   unfolding measure
-  bad_no_more k e = rw e
+  past_no_more e = rw e
 
   -- a value in front, where a length is step_items: the coding carries it
   pub value_carried : (v next m : ℕ) → xs ≡ Ok (TokenValue v, next) ∷ ys → measure to at n xs ≡ Ok m → carries_of to v ≡ true
@@ -51,10 +57,6 @@ module _ (to : Coding) (at n : ℕ) (xs ys : List Step) where
       go : (t : Bool) → carries_of to v ≡ t → carries_of to v ≡ true
       go true c = c
       go false c = let u : Err at ≡ Ok m = sym (value_not v next e c) ∙ q in let z : ◌≡◌ {A = ℕ} 0 1 = cc in absurd (omega arith)
-
-pub past_no_more : (from to : Coding) (s : List ℕ) (at n : ℕ) → length s ≤ at → measure to at n (steps_at from s at) ≡ Ok n
-unfolding measure steps_from
-past_no_more from to s at n h = rw (lib.ListN.drop_of_length-le s h)
 
 -- the bytes don't tell a single from a value in a sequence
 module _ (to : Coding) where
@@ -83,21 +85,19 @@ module _ (to : Coding) where
     unfolding step_items
     end_bytes_lem next e = rw e
 
-    pub cut_bytes : xs ≡ Err Cut ∷ ys → bytes to (step_items false xs) ≡ []
+    pub malformed_bytes : (t : Malformed) → xs ≡ Err t ∷ ys → bytes to (step_items false xs) ≡ []
     unfolding step_items
-    cut_bytes e = rw e
+    malformed_bytes t e = rw e
 
-    pub bad_bytes : (k : ℕ) → xs ≡ Err (Bad k) ∷ ys → bytes to (step_items false xs) ≡ []
+    pub past_bytes : xs ≡ [] → bytes to (step_items false xs) ≡ []
     unfolding step_items
-    bad_bytes k e = rw e
+    past_bytes e = rw e
 
-  pub past_bytes : (from : Coding) (s : List ℕ) (at : ℕ) → length s ≤ at → bytes to (step_items false (steps_at from s at)) ≡ []
-  past_bytes from s at h = ap (bytes to) (told_past from s false at h)
-
-pub recoded_from : (from to : Coding) (s : List ℕ) → recoded from to s ≡ bytes to (step_items false (steps_at from s 0))
+-- at the front
+pub recoded_begins : (from to : Coding) (s : List ℕ) (xs : List Step) → xs ≡ steps_at from s 0 → recoded from to s ≡ bytes to (step_items false xs)
 unfolding recoded
-recoded_from from to s = refl
+recoded_begins from to s xs e = ap (λ (ys : List Step). bytes to (step_items false ys)) (sym e)
 
-pub length_from : (from to : Coding) (s : List ℕ) → measure to 0 0 (steps_at from s 0) ≡ table_len from to s
+pub length_begins : (from to : Coding) (s : List ℕ) (xs : List Step) → xs ≡ steps_at from s 0 → measure to 0 0 xs ≡ table_len from to s
 unfolding table_len
-length_from from to s = refl
+length_begins from to s xs e = ap (measure to 0 0) e

@@ -7,7 +7,8 @@ ghost use Rattle.transcode.specs.Reading.{recoded, table_len};
 ghost use Rattle.transcode.specs.Bounds.{MeasuredWithin};
 
 use coding::Coding;
-use table::Step;
+use table::Steps;
+use token::Token;
 
 // The bytes that a tail's items are in another coding, or the place in the tail of the first value that it can't carry: one pass.
 // Asks for a tail no longer than a file, so that the sum can't wrap: the font's check gives it.
@@ -19,28 +20,21 @@ pub fn table_len(from: Coding, to: Coding, tail: &[u8]) -> Result<usize, usize>
     let mark = coding::mark_len(to);
     let mut n: usize = 0;
     let mut at: usize = 0;
-    while at < tail.len() {
-        let t = table::step_at(from, tail, at);
-        match t {
-            Step::Value(v, next) => {
+    for step in Steps::new(from, tail, 0) {
+        let Ok((token, next)) = step else {
+            return Ok(n);
+        };
+        match token {
+            Token::Value(v) => {
                 if coding::carries(to, v) {
                     n += coding::value_len(to, v);
-                    at = next;
                 } else {
                     return Err(at);
                 }
             }
-            Step::Start(next) => {
-                n += mark;
-                at = next;
-            }
-            Step::End(next) => {
-                n += mark;
-                at = next;
-            }
-            Step::Cut => return Ok(n),
-            Step::Bad(_) => return Ok(n),
+            _ => n += mark,
         }
+        at = next;
     }
     Ok(n)
 }
@@ -51,27 +45,14 @@ pub fn write_table(from: Coding, to: Coding, tail: &[u8], out: &mut [u8])
     ensures { out.new ≡ over (recoded from to tail.now) out.old }
 {
     let mut n: usize = 0;
-    let mut at: usize = 0;
-    while at < tail.len() {
-        let t = table::step_at(from, tail, at);
-        match t {
-            Step::Value(v, next) => {
-                let l = coding::put_value(to, v, &mut out[n..]);
-                n += l;
-                at = next;
-            }
-            Step::Start(next) => {
-                let l = coding::put_start(to, &mut out[n..]);
-                n += l;
-                at = next;
-            }
-            Step::End(next) => {
-                let l = coding::put_end(to, &mut out[n..]);
-                n += l;
-                at = next;
-            }
-            Step::Cut => return,
-            Step::Bad(_) => return,
+    for step in Steps::new(from, tail, 0) {
+        let Ok((token, _)) = step else {
+            return;
+        };
+        match token {
+            Token::Value(v) => n += coding::put_value(to, v, &mut out[n..]),
+            Token::Start => n += coding::put_start(to, &mut out[n..]),
+            Token::End => n += coding::put_end(to, &mut out[n..]),
         }
     }
 }

@@ -1,13 +1,12 @@
-use Rattle.transcode.specs.Reading.{measure, table_len}
-use Rattle.coding.specs.Reading.{mark_len}
-use Rattle.table.specs.Reading.{steps_at}
-use lib.ListN.{length}
-use Prim.Native.Nat.{◌-◌, ◌*◌, ◌≤◌}
 use mathlib.Core.Path.{◌≡◌}
+use Prim.Native.Nat.{◌*◌, ◌≤◌}
+use lib.ListN.{length}
+use Rattle.coding.specs.Reading.{mark_len}
+use Rattle.table.specs.Walking.{Along, steps_left}
+use Rattle.transcode.specs.Reading.{measure, table_len}
 use Rattle.transcode.proofs.table_len.Given as goal
 
-abbrev pub invariant-loop-at : goal.invariant-loop-at
-invariant-loop-at l = (l.at ≤ length l.tail) × (l.n ≤ 4 * l.at) × (l.mark ≡ mark_len l.to) × (measure l.to l.at l.n (steps_at l.from l.tail l.at) ≡ table_len l.from l.to l.tail)
-
-abbrev pub decreases-loop-at : goal.decreases-loop-at
-decreases-loop-at l = length l.tail - l.at
+abbrev pub invariant-loop-step : goal.invariant-loop-step
+invariant-loop-step l =
+    Along l.tail l.at l.step-iterator × (l.at ≤ length l.tail) × (l.n ≤ 4 * l.at) × (l.mark ≡ mark_len l.to)
+    × (measure l.to l.at l.n (steps_left l.step-iterator) ≡ table_len l.fn.from l.to l.tail)

@@ -1,16 +1,16 @@
-use Rattle.transcode.specs.Reading.{recoded, measure}
-use Rattle.table.specs.Reading.{steps_at, step_items}
-use Rattle.table.specs.Meaning.{bytes}
-use Rattle.base.specs.Reading.{over}
-use lib.ListN.{length, take, drop}
-use Prim.Native.Nat.{◌-◌, ◌≤◌}
 use mathlib.Core.Bool.{false}
 use mathlib.Core.Path.{◌≡◌}
-use Rattle.transcode.proofs.write_table.Given as goal
+use Prim.Native.Nat.{ℕ}
+use lib.ListN.{length}
 use Rattle.std.specs.Prelude.{Ok}
+use Rattle.base.proofs.Written.{Written}
+use Rattle.table.specs.Meaning.{bytes}
+use Rattle.table.specs.Reading.{step_items}
+use Rattle.table.specs.Walking.{steps_left}
+use Rattle.transcode.specs.Reading.{recoded, measure}
+use Rattle.transcode.proofs.write_table.Given as goal
 
-abbrev pub invariant-loop-at : goal.invariant-loop-at
-invariant-loop-at l = (l.at ≤ length l.tail) × (l.n ≤ length (recoded l.from l.to l.tail)) × (length (recoded l.from l.to l.tail) ≤ length l.initial.out) × (length l.out ≡ length l.initial.out) × (l.out ≡ over (take l.n (recoded l.from l.to l.tail)) l.initial.out) × (drop l.n (recoded l.from l.to l.tail) ≡ bytes l.to (step_items false (steps_at l.from l.tail l.at))) × (measure l.to l.at l.n (steps_at l.from l.tail l.at) ≡ Ok (length (recoded l.from l.to l.tail)))
-
-abbrev pub decreases-loop-at : goal.decreases-loop-at
-decreases-loop-at l = length l.tail - l.at
+abbrev pub invariant-loop-step : goal.invariant-loop-step
+invariant-loop-step l =
+    Written (recoded l.fn.from l.to l.tail) l.initial.out l.n l.out (bytes l.to (step_items false (steps_left l.step-iterator)))
+    × ((k : ℕ) × (measure l.to k l.n (steps_left l.step-iterator) ≡ Ok (length (recoded l.fn.from l.to l.tail))))
