@@ -2,20 +2,70 @@
 use mathlib.Core.Path.{◌≡◌, refl, sym, ◌∙◌, ap}
 use mathlib.Core.Bool.{Bool, true, false}
 use mathlib.Core.List.{List, [], ◌∷◌}
-use Prim.Native.Nat.{ℕ, ◌≤◌, ◌<◌}
+use Prim.Native.Nat.{ℕ, ◌+◌, ◌≤◌, ◌<◌}
 use native.Mathlib.Omega.{arith}
 use lib.ListN.{length, drop_of_length-le}
-use borrow.Author.Tests.{eq-eqb, ne_eqb}
+use borrow.Author.Tests.{eq-eqb, ne_eqb, eqb-true, eqb-false}
 use Rattle.base.specs.Reading.{when}
 use Rattle.coding.specs.declared.Coding.{Coding}
 use Rattle.table.specs.Reading.{steps_from, steps_at}
 use Rattle.table.specs.Bounds.{StepSays}
 use Rattle.descriptions.specs.declared.Ends.{Ends}
-use Rattle.descriptions.specs.Reading.{code_of, next_of, same_steps, end_from, same_at, end_at, ends_of}
+use Rattle.descriptions.specs.Reading.{token_of, code_of, next_of, same_steps, end_from, same_at, end_at, ends_of}
 use Rattle.token.specs.declared.Token.TheVariants.{Value as TokenValue, Start as TokenStart, End as TokenEnd}
+use Rattle.token.specs.declared.Token.{Token}
 use Rattle.token.specs.declared.Malformed.TheVariants.{Cut, Bad}
-use Rattle.token.specs.Reading.{Step}
-use Rattle.std.specs.Prelude.{Ok, Err}
+use Rattle.token.specs.Reading.{Step, same_token}
+use Rattle.std.specs.Prelude.{Ok, Err, Option, Some}
+use Rattle.table.specs.declared.Steps.{Steps}
+use Rattle.table.specs.Walking.{Begins, WalksOn}
+use Rattle.table.proofs.Walking.{walked_on}
+
+-- two tokens are the same exactly when their numbers are
+token_code : Token → ℕ
+token_code (TokenValue v) = v + 2
+token_code TokenStart = 1
+token_code TokenEnd = 0
+
+code_for : (x : Step) → token_code (token_of x) ≡ code_of x
+code_for (Ok (TokenValue v, next)) = refl
+code_for (Ok (TokenStart, next)) = refl
+code_for (Ok (TokenEnd, next)) = refl
+code_for (Err t) = refl
+
+same_number : (x y : Token) → same_token x y ≡ true → token_code x ≡ token_code y
+same_number (TokenValue v) (TokenValue w) e = let q = eqb-true v w e in omega arith
+same_number (TokenValue v) TokenStart e = let z : ◌≡◌ {A = ℕ} 0 1 = cc in absurd (omega arith)
+same_number (TokenValue v) TokenEnd e = let z : ◌≡◌ {A = ℕ} 0 1 = cc in absurd (omega arith)
+same_number TokenStart (TokenValue w) e = let z : ◌≡◌ {A = ℕ} 0 1 = cc in absurd (omega arith)
+same_number TokenStart TokenStart e = refl
+same_number TokenStart TokenEnd e = let z : ◌≡◌ {A = ℕ} 0 1 = cc in absurd (omega arith)
+same_number TokenEnd (TokenValue w) e = let z : ◌≡◌ {A = ℕ} 0 1 = cc in absurd (omega arith)
+same_number TokenEnd TokenStart e = let z : ◌≡◌ {A = ℕ} 0 1 = cc in absurd (omega arith)
+same_number TokenEnd TokenEnd e = refl
+
+other_number : (x y : Token) → same_token x y ≡ false → token_code x ≡ token_code y → ⊥
+other_number (TokenValue v) (TokenValue w) e q = eqb-false v w e (omega arith)
+other_number (TokenValue v) TokenStart e q = absurd (omega arith)
+other_number (TokenValue v) TokenEnd e q = absurd (omega arith)
+other_number TokenStart (TokenValue w) e q = absurd (omega arith)
+other_number TokenStart TokenStart e q = let z : ◌≡◌ {A = ℕ} 0 1 = cc in absurd (omega arith)
+other_number TokenStart TokenEnd e q = absurd (omega arith)
+other_number TokenEnd (TokenValue w) e q = absurd (omega arith)
+other_number TokenEnd TokenStart e q = absurd (omega arith)
+other_number TokenEnd TokenEnd e q = let z : ◌≡◌ {A = ℕ} 0 1 = cc in absurd (omega arith)
+
+pub same_code : (x y : Step) → same_token (token_of x) (token_of y) ≡ true → code_of x ≡ code_of y
+same_code x y e = sym (code_for x) ∙ same_number (token_of x) (token_of y) e ∙ code_for y
+
+pub other_code : (x y : Step) → same_token (token_of x) (token_of y) ≡ false → code_of x ≡ code_of y → ⊥
+other_code x y e q = other_number (token_of x) (token_of y) e (code_for x ∙ q ∙ sym (code_for y))
+
+pub end_code : (x : Step) → same_token (token_of x) TokenEnd ≡ true → code_of x ≡ 0
+end_code x e = sym (code_for x) ∙ same_number (token_of x) TokenEnd e
+
+pub no_end_code : (x : Step) → same_token (token_of x) TokenEnd ≡ false → code_of x ≡ 0 → ⊥
+no_end_code x e q = other_number (token_of x) TokenEnd e (code_for x ∙ q)
 
 -- a step that ends no description goes on within the list
 pub goes : (c : Coding) (s : List ℕ) (at : ℕ) (x : Step) → StepSays c s at x → (code_of x ≡ 0 → ⊥) →
@@ -132,3 +182,8 @@ module _ (c : Coding) (s : List ℕ) (a : ℕ) (d : Coding) (t : List ℕ) (b : 
                 (ap (end_at d t) en ∙ sym (end_later b y _ _ z' g.2)),
             omega (arith, f.0, em),
           )
+
+-- behind a step of a walk that ends no description, the walk goes on
+pub goes_on : (c : Coding) (s : List ℕ) (at : ℕ) (w v : Steps) (x : Step) (r : Option Step) → (code_of x ≡ 0 → ⊥) → r ≡ Some x → WalksOn w r v → Begins c s at w → Begins c s (next_of at x) v
+goes_on c s at w v (Ok (t, next)) r n e h b = walked_on c s at w v t next (Ok (t, next)) r e refl h b
+goes_on c s at w v (Err t) r n e h b = absurd (n refl)

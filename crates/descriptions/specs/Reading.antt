@@ -6,8 +6,13 @@ use Rattle.coding.specs.declared.Coding.{Coding}
 use Rattle.table.specs.Reading.{steps_at}
 use Rattle.descriptions.specs.declared.Ends.{Ends}
 use Rattle.token.specs.declared.Token.TheVariants.{Value as TokenValue, Start as TokenStart, End as TokenEnd}
-use Rattle.token.specs.declared.Malformed.TheVariants.{Cut, Bad}
+use Rattle.token.specs.declared.Token.{Token}
 use Rattle.token.specs.Reading.{Step}
+
+-- the token of a step; where reading stops, a description ends as at an end mark
+abbrev pub token_of : Step → Token
+token_of (Ok (t, next)) = t
+token_of (Err t) = TokenEnd
 
 -- a step as a number: 0 where a description ends, or reading does; 1 for a start mark; v + 2 for a value v
 abbrev pub code_of : Step → ℕ
@@ -18,9 +23,7 @@ code_of (Err t) = 0
 
 -- the place after a step that stands at a place; that place, where reading stops
 abbrev pub next_of : ℕ → Step → ℕ
-next_of at (Ok (TokenValue v, next)) = next
-next_of at (Ok (TokenStart, next)) = next
-next_of at (Ok (TokenEnd, next)) = next
+next_of at (Ok (t, next)) = next
 next_of at (Err t) = at
 
 -- whether two lists of steps have the same values and marks up to the end of their first descriptions; nothing differs from no steps

@@ -3,10 +3,13 @@
 #![tactic(auto)]
 
 ghost use Rattle.std.specs.Prelude.{◌≡◌, ◌≤◌, length};
-ghost use Rattle.descriptions.specs.Reading.{code_of, next_of, end_at, ends_of};
+ghost use Rattle.token.specs.Reading.{same_token};
+ghost use Rattle.token.specs.declared.Token.TheVariants.{End as TokenEnd};
+ghost use Rattle.descriptions.specs.Reading.{token_of, next_of, end_at, ends_of};
 
 use coding::Coding;
-use table::Step;
+use table::Steps;
+use token::{Step, Token};
 
 // Whether two descriptions have the same items, and the places after them.
 #[derive(Clone, Copy)]
@@ -16,17 +19,28 @@ pub struct Ends {
     pub second: usize,
 }
 
-// A step as a number: 0 where a description ends, 1 for a start mark, v + 2 for a value v.
-fn code_of(t: Step) -> u64
-    ensures { result ≡ code_of t }
+// The token of a step; where reading stops, a description ends as at an end mark.
+fn token_of(step: Step) -> Token
+    ensures { result ≡ token_of step }
 {
-    match t {
-        Step::Value(v, _) => v as u64 + 2,
-        Step::Start(_) => 1,
-        Step::End(_) => 0,
-        Step::Cut => 0,
-        Step::Bad(_) => 0,
+    match step {
+        Ok((token, _)) => token,
+        Err(_) => Token::End,
     }
+}
+
+// Whether two steps have the same token.
+fn alike(x: Step, y: Step) -> bool
+    ensures { result ≡ same_token (token_of x) (token_of y) }
+{
+    token_of(x) == token_of(y)
+}
+
+// Whether a description ends at a step.
+fn is_end(x: Step) -> bool
+    ensures { result ≡ same_token (token_of x) TokenEnd }
+{
+    token_of(x) == Token::End
 }
 
 // The place after a step that stands at `at`.
@@ -34,11 +48,8 @@ fn next_of(at: usize, t: Step) -> usize
     ensures { result ≡ next_of at t }
 {
     match t {
-        Step::Value(_, next) => next,
-        Step::Start(next) => next,
-        Step::End(next) => next,
-        Step::Cut => at,
-        Step::Bad(_) => at,
+        Ok((_, next)) => next,
+        Err(_) => at,
     }
 }
 
@@ -48,10 +59,9 @@ fn description_end(c: Coding, tail: &[u8], start: usize) -> usize
     ensures { (result ≡ end_at c tail.now start) × (result ≤ length tail.now) }
 {
     let mut at = start;
-    while at < tail.len() {
-        let t = table::step_at(c, tail, at);
-        let next = next_of(at, t);
-        if code_of(t) == 0 {
+    for step in Steps::new(c, tail, start) {
+        let next = next_of(at, step);
+        if is_end(step) {
             return next;
         }
         at = next;
@@ -68,18 +78,16 @@ pub fn compare(c: Coding, s: &[u8], from: usize, d: Coding, t: &[u8], start: usi
 {
     let mut a = from;
     let mut b = start;
-    while a < s.len() {
-        if t.len() <= b {
+    let mut others = Steps::new(d, t, start);
+    for x in Steps::new(c, s, from) {
+        let Some(y) = others.next() else {
             return Ends {
                 same: true,
                 first: description_end(c, s, a),
                 second: b,
             };
-        }
-        let x = table::step_at(c, s, a);
-        let y = table::step_at(d, t, b);
-        let k = code_of(x);
-        if k != code_of(y) {
+        };
+        if !alike(x, y) {
             return Ends {
                 same: false,
                 first: description_end(c, s, a),
@@ -88,7 +96,7 @@ pub fn compare(c: Coding, s: &[u8], from: usize, d: Coding, t: &[u8], start: usi
         }
         a = next_of(a, x);
         b = next_of(b, y);
-        if k == 0 {
+        if is_end(x) {
             return Ends {
                 same: true,
                 first: a,

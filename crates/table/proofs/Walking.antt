@@ -15,6 +15,7 @@ use Rattle.coding.specs.declared.Coding.{Coding}
 use Rattle.table.specs.declared.Steps.{Steps}
 use Rattle.table.specs.declared.Items.{Items}
 use Rattle.table.specs.Reading.{steps_from, steps_at, step_items, items_in}
+use Rattle.table.specs.Bounds.{StepSays}
 use Rattle.table.specs.Walking.{WalksOn, Along, Begins, bytes_left, steps_left, items_left}
 
 -- nothing is left from the end on
@@ -65,6 +66,23 @@ module _ (w v : Steps) where
 
   pub walked_out : (r : Option Step) → r ≡ None → WalksOn w r v → (steps_left w ≡ []) × (steps_left v ≡ [])
   walked_out r e h = stayed (subst (λ (y : Option Step). WalksOn w y v) e h)
+
+-- a walk from a place in a coding, by its next step
+module _ (c : Coding) (s : List ℕ) (at : ℕ) (w v : Steps) where
+  pub walked_says : (x : Step) (r : Option Step) → r ≡ Some x → WalksOn w r v → Begins c s at w → (at < length s) × StepSays c s at x
+  walked_says x r e h (d, p, a) =
+      let (_, _, (l, m, _)) = subst (λ (y : Option Step). WalksOn w y v) e h in
+      (omega (arith, l, ap length p, a), coe 0 1 (i. StepSays (d i) (p i) (a i) x) m)
+
+  pub walked_on : (t : Token) (next : ℕ) (x : Step) (r : Option Step) → r ≡ Some x → x ≡ Ok (t, next) → WalksOn w r v → Begins c s at w → Begins c s next v
+  walked_on t next x r e f h (d, p, a) =
+      let (k, q, (l, m, b)) = subst (λ (y : Option Step). WalksOn w y v) (e ∙ ap (λ (y : Step). Some y) f) h in
+      (k ∙ d, ap (λ (y : Bor (List ℕ)). y.now) q ∙ p, b)
+
+  pub walked_end : (r : Option Step) → r ≡ None → WalksOn w r v → Begins c s at w → length s ≤ at
+  walked_end r e h (d, p, a) =
+      let (_, _, (l, _)) = subst (λ (y : Option Step). WalksOn w y v) e h in
+      omega (arith, l, ap length p, a)
 
 -- a walk that begins
 pub steps_begin : (c : Coding) (s : List ℕ) (at : ℕ) (w : Steps) → Begins c s at w → steps_left w ≡ steps_at c s at
