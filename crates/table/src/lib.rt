@@ -144,10 +144,9 @@ fn utf8_plain(s: &[u8], at: usize, key: u32) -> Plain
     if b == 0xFE {
         return Plain::Start(at + 1);
     }
-    let l = utf8::plain_len(s, at, b, key);
-    if l == 0 {
+    let Some(l) = utf8::plain_len(s, at, b, key) else {
         return Plain::Other;
-    }
+    };
     Plain::Value(at + l)
 }
 
