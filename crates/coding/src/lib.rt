@@ -24,6 +24,7 @@ pub fn mark_len(c: Coding) -> usize
 }
 
 // No value's key.
+// An `Option<u32>` takes 1.06 to 1.08 of a check's instructions over values of two bytes or three (made-4096-two: 405,891 for 381,308).
 pub const NO_KEY: u32 = 0x10000;
 
 // A value's key, by which a loop over a table tells most values from one that is looked for without working them out: in UTF-8 the last byte, in

@@ -22,7 +22,7 @@ use Rattle.table.specs.Walking.{Begins, WalksOn}
 use Rattle.table.proofs.Walking.{walked_on}
 
 -- two tokens are the same exactly when their numbers are
-token_code : Token → ℕ
+abbrev token_code : Token → ℕ
 token_code (TokenValue v) = v + 2
 token_code TokenStart = 1
 token_code TokenEnd = 0

@@ -12,7 +12,7 @@ use borrow.Author.Tests.{eq-eqb, ne_eqb}
 use Rattle.base.specs.Meaning.{pick}
 use Rattle.base.proofs.Parts.{rest_all}
 use Rattle.base.proofs.Tests.{by_test, below, same}
-use Rattle.utf8.specs.Reading.{read_value, as_token, utf8_key, plain_len}
+use Rattle.utf8.specs.Reading.{read_value, as_token, plain_len}
 use Rattle.utf8.proofs.Plain.{mark_bad, key_itself}
 use Rattle.ucs2.specs.Reading.{is_word, read_ucs2}
 use Rattle.coding.specs.declared.Coding.{Coding}
@@ -26,7 +26,7 @@ use Rattle.table.specs.Bounds.{StepSays}
 use Rattle.table.specs.Skipping.{plain_of, NoValue, refused_of}
 use Rattle.table.proofs.Firsts.{Stepped, value_step, first_start, first_end}
 use Rattle.table.proofs.Stepping.{past_end}
-use Rattle.std.specs.Prelude.{Result, Ok, Err}
+use Rattle.std.specs.Prelude.{Option, None, Some, Result, Ok, Err}
 use Rattle.table.specs.declared.Fault.{Fault}
 use Rattle.table.specs.declared.Fault.TheVariants.{Cut as TableCut, Bad as TableBad}
 use Rattle.token.specs.declared.Malformed.{Malformed}
@@ -54,27 +54,29 @@ pub one_key : (v : ℕ) → v < 0x80 → key_of Utf8 v ≡ v
 one_key v h = sym (key_itself v h ∙ utf8_key_lem Utf8 v refl)
 
 -- a longer value of UTF-8, by its plain length
-module _ (s : List ℕ) (i k : ℕ) where
-  by_length : (r : Result (ℕ × ℕ) Malformed) (l : ℕ) → StepSays Utf8 s i (step_of i (as_token r)) → l ≡ plain_len k r →
-      (l ≡ 0 → Other ≡ plain_of Utf8 k (step_of i (as_token r))) × ((l ≡ 0 → ⊥) → PlainValue (i + l) ≡ plain_of Utf8 k (step_of i (as_token r)))
-  by_length (Ok (v, m)) l w e = rw (utf8_key_lem Utf8 v refl) at (go (eqb (utf8_key v) k) e)
-    where
-      go : (t : Bool) → l ≡ pick t 0 m →
-          (l ≡ 0 → Other ≡ pick t Other (PlainValue (i + m))) × ((l ≡ 0 → ⊥) → PlainValue (i + l) ≡ pick t Other (PlainValue (i + m)))
-      go true f = (λ _. refl, λ h. absurd (h f))
-      go false f = (λ z. absurd (omega (arith, w.0)), λ _. ap (λ (x : ℕ). PlainValue (i + x)) f)
-  by_length (Err Cut) l w e = (λ _. refl, λ h. absurd (h e))
-  by_length (Err (Bad j)) l w e = (λ _. refl, λ h. absurd (h e))
+abbrev plain_by : ℕ → Option ℕ → Plain
+plain_by i None = Other
+plain_by i (Some l) = PlainValue (i + l)
 
-  module _ (h : i < length s) (a : get_or s i 0 ≡ 254 → ⊥) (b : get_or s i 0 ≡ 255 → ⊥) (l : ℕ) (e : l ≡ plain_len k (read_value (drop i s))) where
+module _ (s : List ℕ) (i k : ℕ) where
+  by_length : (r : Result (ℕ × ℕ) Malformed) → plain_by i (plain_len k r) ≡ plain_of Utf8 k (step_of i (as_token r))
+  by_length (Ok (v, m)) = rw (utf8_key_lem Utf8 v refl) (go (eqb (key_of Utf8 v) k))
+    where
+      go : (t : Bool) → plain_by i (pick t None (Some m)) ≡ pick t Other (PlainValue (i + m))
+      go true = refl
+      go false = refl
+  by_length (Err Cut) = refl
+  by_length (Err (Bad j)) = refl
+
+  module _ (h : i < length s) (a : get_or s i 0 ≡ 254 → ⊥) (b : get_or s i 0 ≡ 255 → ⊥) (o : Option ℕ) (e : o ≡ plain_len k (read_value (drop i s))) where
     stepped_value : Stepped Utf8 s i (step_of i (as_token (read_value (drop i s))))
     stepped_value = value_step s i h a b (read_value (drop i s)) (ap read_value (sym (rest_all s i)))
 
-    pub length_none : l ≡ 0 → Plained Utf8 k s i Other
-    length_none z = plained Utf8 k s i _ Other stepped_value ((by_length (read_value (drop i s)) l stepped_value.1 e).0 z)
+    pub length_none : o ≡ None → Plained Utf8 k s i Other
+    length_none z = plained Utf8 k s i _ Other stepped_value (ap (plain_by i) (sym z ∙ e) ∙ by_length (read_value (drop i s)))
 
-    pub length_some : (l ≡ 0 → ⊥) → Plained Utf8 k s i (PlainValue (i + l))
-    length_some z = plained Utf8 k s i _ (PlainValue (i + l)) stepped_value ((by_length (read_value (drop i s)) l stepped_value.1 e).1 z)
+    pub length_some : (l : ℕ) → o ≡ Some l → Plained Utf8 k s i (PlainValue (i + l))
+    length_some l z = plained Utf8 k s i _ (PlainValue (i + l)) stepped_value (ap (plain_by i) (sym z ∙ e) ∙ by_length (read_value (drop i s)))
 
 -- why a table is refused, by what the reader of a value says
 abbrev pub said : ℕ → ℕ → ℕ → Result (ℕ × ℕ) Malformed → Result (Unit {0}) Fault

@@ -14,13 +14,14 @@ use Rattle.base.specs.Reading.{within}
 use Rattle.base.proofs.Tests.{and_left, and_right, by_test}
 use Rattle.base.proofs.Ranged.{every, ranged}
 use Rattle.token.specs.Reading.{is_noncharacter}
-use Rattle.utf8.specs.Reading.{lead_of, conts, permitted_at, read_value, utf8_key, plain_len}
-use Rattle.utf8.proofs.Rows.{all_fine, longer}
+use Rattle.utf8.specs.Reading.{lead_of, begun, conts, permitted_at, read_value, utf8_key, plain_len}
+use Rattle.utf8.specs.declared.Lead.{Lead}
+use Rattle.utf8.proofs.Rows.{not_found}
 use Rattle.utf8.proofs.First.{no_value, long_value}
 use Rattle.utf8.proofs.Conts.{reached}
 use Rattle.utf8.proofs.Writing.{further}
 use Rattle.utf8.proofs.Plain.{allowed, key_last, key_met, key_other, free_under}
-use Rattle.std.specs.Prelude.{Result, Ok, Err}
+use Rattle.std.specs.Prelude.{Option, None, Some, IfSome, Result, Ok, Err}
 use Rattle.token.specs.declared.Malformed.{Malformed}
 use Rattle.token.specs.declared.Malformed.TheVariants.{Bad}
 
@@ -79,12 +80,12 @@ unfolding lead_of
 row_four b h e = rows 4 240 245 8 16 tt b h e
 
 -- bytes that end too soon give no value, nor does one outside its bounds
-too_short : (key j n lo hi v k : ℕ) (t : List ℕ) → length t < n → 0 ≡ plain_len key (permitted_at j (conts n lo hi v k t))
+too_short : (key j n lo hi v k : ℕ) (t : List ℕ) → length t < n → None ≡ plain_len key (permitted_at j (conts n lo hi v k t))
 unfolding conts permitted_at
 too_short key j zero lo hi v k t h = absurd (omega arith)
 too_short key j (suc n) lo hi v k [] h = refl
 too_short key j (suc n) lo hi v k (b ∷ t) h =
-    by_test (λ (r : Result (ℕ × ℕ) Malformed). 0 ≡ plain_len key (permitted_at j r)) (within lo hi b) _ _
+    by_test (λ (r : Result (ℕ × ℕ) Malformed). None ≡ plain_len key (permitted_at j r)) (within lo hi b) _ _
     (λ _. too_short key j n 0x80 0xBF (v * 64 + (b - 0x80)) (k + 1) t (omega arith))
     (λ _. refl)
 
@@ -109,8 +110,8 @@ abbrev pub Begun : ℕ → List ℕ → ℕ → ℕ → ℕ → ℕ → Type 0
 Begun n s at b lo hi = (at < length s) × (b ≡ get_or s at 0) × ((lead_of b).len ≡ n) × (lo ≡ (lead_of b).lo) × (hi ≡ (lead_of b).hi)
 
 -- r is the length of the value at a place, told by the key
-abbrev pub Told : ℕ → List ℕ → ℕ → ℕ → Type 0
-Told key s at r = (r ≡ plain_len key (read_value (drop at s))) × (at + r ≤ length s)
+abbrev pub Told : ℕ → List ℕ → ℕ → Option ℕ → Type 0
+Told key s at r = (r ≡ plain_len key (read_value (drop at s))) × IfSome r (λ l. at + l ≤ length s)
 
 module _ (key : ℕ) (s : List ℕ) (at b lo hi : ℕ) where
   -- its first byte
@@ -119,15 +120,15 @@ module _ (key : ℕ) (s : List ℕ) (at b lo hi : ℕ) where
       let o : at + 1 ≡ suc at = omega arith in
       rw (o, f, g, drop-cons s at 0 h, ← e) (long_value (b ∷ drop (suc at) s) (omega arith) (lead_of b) refl n q (b % (lead_of b).modulus) refl)
 
-  pub ends_before : (n : ℕ) → Begun (suc n) s at b lo hi → length s ≤ at + n → Told key s at 0
-  ends_before n p h = (too_short key n n lo hi (b % (lead_of b).modulus) 1 (drop (at + 1) s) (omega (arith, length-drop (at + 1) s, p.0)) ∙ ap (plain_len key) (first n p), omega (arith, p.0))
+  pub ends_before : (n : ℕ) → Begun (suc n) s at b lo hi → length s ≤ at + n → Told key s at None
+  ends_before n p h = (too_short key n n lo hi (b % (lead_of b).modulus) 1 (drop (at + 1) s) (omega (arith, length-drop (at + 1) s, p.0)) ∙ ap (plain_len key) (first n p), tt)
 
   -- its second, within the bounds or not
   module _ (m : ℕ) (p : Begun (suc (suc m)) s at b lo hi) (i : at + 1 < length s) where
-    pub second_out : (get_or s (at + 1) 0 < lo) ⊎ (hi < get_or s (at + 1) 0) → Told key s at 0
+    pub second_out : (get_or s (at + 1) 0 < lo) ⊎ (hi < get_or s (at + 1) 0) → Told key s at None
     unfolding permitted_at
     second_out w =
-        (sym (ap (λ (r : Result (ℕ × ℕ) Malformed). plain_len key (permitted_at (suc m) r)) (out s (at + 1) i m lo hi (b % (lead_of b).modulus) 1 w)) ∙ ap (plain_len key) (first (suc m) p), omega arith)
+        (sym (ap (λ (r : Result (ℕ × ℕ) Malformed). plain_len key (permitted_at (suc m) r)) (out s (at + 1) i m lo hi (b % (lead_of b).modulus) 1 w)) ∙ ap (plain_len key) (first (suc m) p), tt)
 
     second : lo ≤ get_or s (at + 1) 0 → get_or s (at + 1) 0 ≤ hi →
         permitted_at (suc m) (conts m 0x80 0xBF (b % (lead_of b).modulus * 64 + (get_or s (at + 1) 0 - 0x80)) 2 (drop (at + 2) s)) ≡ read_value (drop at s)
@@ -135,10 +136,10 @@ module _ (key : ℕ) (s : List ℕ) (at b lo hi : ℕ) where
 
   -- its third
   module _ (m : ℕ) (p : Begun (suc (suc (suc m))) s at b lo hi) (i : at + 2 < length s) (w : (lo ≤ get_or s (at + 1) 0) × (get_or s (at + 1) 0 ≤ hi)) where
-    pub third_out : (get_or s (at + 2) 0 < 128) ⊎ (191 < get_or s (at + 2) 0) → Told key s at 0
+    pub third_out : (get_or s (at + 2) 0 < 128) ⊎ (191 < get_or s (at + 2) 0) → Told key s at None
     unfolding permitted_at
     third_out o =
-        (sym (ap (λ (r : Result (ℕ × ℕ) Malformed). plain_len key (permitted_at (suc (suc m)) r)) (out s (at + 2) i m 128 191 (b % (lead_of b).modulus * 64 + (get_or s (at + 1) 0 - 0x80)) 2 o)) ∙ ap (plain_len key) (second (suc m) p (omega arith) w.0 w.1), omega arith)
+        (sym (ap (λ (r : Result (ℕ × ℕ) Malformed). plain_len key (permitted_at (suc (suc m)) r)) (out s (at + 2) i m 128 191 (b % (lead_of b).modulus * 64 + (get_or s (at + 1) 0 - 0x80)) 2 o)) ∙ ap (plain_len key) (second (suc m) p (omega arith) w.0 w.1), tt)
 
     third : 128 ≤ get_or s (at + 2) 0 → get_or s (at + 2) 0 ≤ 191 →
         permitted_at (suc (suc m)) (conts m 0x80 0xBF ((b % (lead_of b).modulus * 64 + (get_or s (at + 1) 0 - 0x80)) * 64 + (get_or s (at + 2) 0 - 0x80)) 3 (drop (at + 3) s)) ≡ read_value (drop at s)
@@ -146,10 +147,10 @@ module _ (key : ℕ) (s : List ℕ) (at b lo hi : ℕ) where
 
   -- its fourth
   module _ (p : Begun 4 s at b lo hi) (i : at + 3 < length s) (w : (lo ≤ get_or s (at + 1) 0) × (get_or s (at + 1) 0 ≤ hi) × (128 ≤ get_or s (at + 2) 0) × (get_or s (at + 2) 0 ≤ 191)) where
-    pub fourth_out : (get_or s (at + 3) 0 < 128) ⊎ (191 < get_or s (at + 3) 0) → Told key s at 0
+    pub fourth_out : (get_or s (at + 3) 0 < 128) ⊎ (191 < get_or s (at + 3) 0) → Told key s at None
     unfolding permitted_at
     fourth_out o =
-        (sym (ap (λ (r : Result (ℕ × ℕ) Malformed). plain_len key (permitted_at 3 r)) (out s (at + 3) i 0 128 191 ((b % (lead_of b).modulus * 64 + (get_or s (at + 1) 0 - 0x80)) * 64 + (get_or s (at + 2) 0 - 0x80)) 3 o)) ∙ ap (plain_len key) (third 1 p (omega arith) (w.0, w.1) w.2 w.3), omega arith)
+        (sym (ap (λ (r : Result (ℕ × ℕ) Malformed). plain_len key (permitted_at 3 r)) (out s (at + 3) i 0 128 191 ((b % (lead_of b).modulus * 64 + (get_or s (at + 1) 0 - 0x80)) * 64 + (get_or s (at + 2) 0 - 0x80)) 3 o)) ∙ ap (plain_len key) (third 1 p (omega arith) (w.0, w.1) w.2 w.3), tt)
 
     fourth : 128 ≤ get_or s (at + 3) 0 → get_or s (at + 3) 0 ≤ 191 →
         permitted_at 3 (conts 0 0x80 0xBF (((b % (lead_of b).modulus * 64 + (get_or s (at + 1) 0 - 0x80)) * 64 + (get_or s (at + 2) 0 - 0x80)) * 64 + (get_or s (at + 3) 0 - 0x80)) 4 (drop (at + 4) s)) ≡ read_value (drop at s)
@@ -157,15 +158,15 @@ module _ (key : ℕ) (s : List ℕ) (at b lo hi : ℕ) where
 
   -- the whole value, with z its last byte, of l bytes
   module _ (j v l u z : ℕ) (q : v ≡ u * 64 + (z - 128)) (g : 2 ≤ u) (w : (128 ≤ z) × (z ≤ 191)) (e : permitted_at j (Ok (v, l)) ≡ read_value (drop at s)) (h : at + l ≤ length s) where
-    whole_met : z ≡ key → Told key s at 0
-    whole_met k = (key_met key j v l z (ap utf8_key q ∙ key_last u z g w.0 (omega (arith, w.1))) k ∙ ap (plain_len key) e, omega arith)
+    whole_met : z ≡ key → Told key s at None
+    whole_met k = (key_met key j v l z (ap utf8_key q ∙ key_last u z g w.0 (omega (arith, w.1))) k ∙ ap (plain_len key) e, tt)
 
-    whole_other : (z ≡ key → ⊥) → (r : ℕ) → r ≡ allowed v l → Told key s at r
-    whole_other k r f = (f ∙ key_other key j v l z (ap utf8_key q ∙ key_last u z g w.0 (omega (arith, w.1))) k ∙ ap (plain_len key) e, size (is_noncharacter v) f)
+    whole_other : (z ≡ key → ⊥) → (r : Option ℕ) → r ≡ allowed v l → Told key s at r
+    whole_other k r f = (f ∙ key_other key j v l z (ap utf8_key q ∙ key_last u z g w.0 (omega (arith, w.1))) k ∙ ap (plain_len key) e, subst (λ (x : Option ℕ). IfSome x (λ n. at + n ≤ length s)) (sym f) (size (is_noncharacter v)))
       where
-        size : (t : Bool) → r ≡ pick t 0 l → at + r ≤ length s
-        size true o = omega arith
-        size false o = omega arith
+        size : (t : Bool) → IfSome (pick t None (Some l)) (λ n. at + n ≤ length s)
+        size true = tt
+        size false = h
 
   -- two bytes
   module _ (p : Begun 2 s at b lo hi) (h : b < 256) (i : at + 1 < length s) (w : (lo ≤ get_or s (at + 1) 0) × (get_or s (at + 1) 0 ≤ hi)) where
@@ -177,13 +178,13 @@ module _ (key : ℕ) (s : List ℕ) (at b lo hi : ℕ) where
         subst (λ (m : ℕ). permitted_at 1 (Ok ((b % m * 64 + (get_or s (at + 1) 0 - 128)), 2)) ≡ read_value (drop at s)) (row_two b h p.2).by
         (ap (permitted_at 1) (sym (reached 128 191 (b % (lead_of b).modulus * 64 + (get_or s (at + 1) 0 - 128)) 2 (drop (at + 2) s))) ∙ second 0 p i w.0 w.1)
 
-    pub two_met : get_or s (at + 1) 0 ≡ key → Told key s at 0
+    pub two_met : get_or s (at + 1) 0 ≡ key → Told key s at None
     two_met = let k = two_asks in whole_met 1 _ 2 (b % 32) (get_or s (at + 1) 0) refl (omega (arith, k.0, k.1)) (k.2, k.3) two_read (omega arith)
 
-    pub two_other : (get_or s (at + 1) 0 ≡ key → ⊥) → Told key s at 2
+    pub two_other : (get_or s (at + 1) 0 ≡ key → ⊥) → Told key s at (Some 2)
     two_other n =
         let k = two_asks in
-        whole_other 1 _ 2 (b % 32) (get_or s (at + 1) 0) refl (omega (arith, k.0, k.1)) (k.2, k.3) two_read (omega arith) n 2
+        whole_other 1 _ 2 (b % 32) (get_or s (at + 1) 0) refl (omega (arith, k.0, k.1)) (k.2, k.3) two_read (omega arith) n (Some 2)
         (free_under (b % 32 * 64 + (get_or s (at + 1) 0 - 128)) 2 (omega (arith, k.3)))
 
   -- three bytes
@@ -199,10 +200,10 @@ module _ (key : ℕ) (s : List ℕ) (at b lo hi : ℕ) where
         subst (λ (m : ℕ). permitted_at 2 (Ok (((b % m * 64 + (get_or s (at + 1) 0 - 128)) * 64 + (get_or s (at + 2) 0 - 128)), 3)) ≡ read_value (drop at s)) (row_three b h p.2).by
         (ap (permitted_at 2) (sym (reached 128 191 ((b % (lead_of b).modulus * 64 + (get_or s (at + 1) 0 - 128)) * 64 + (get_or s (at + 2) 0 - 128)) 3 (drop (at + 3) s))) ∙ third 0 p i (w.0, w.1) w.2 w.3)
 
-    pub three_met : get_or s (at + 2) 0 ≡ key → Told key s at 0
+    pub three_met : get_or s (at + 2) 0 ≡ key → Told key s at None
     three_met = whole_met 2 _ 3 (b % 16 * 64 + (get_or s (at + 1) 0 - 128)) (get_or s (at + 2) 0) refl three_some (w.2, w.3) three_read (omega arith)
 
-    pub three_other : (get_or s (at + 2) 0 ≡ key → ⊥) → (r : ℕ) → r ≡ allowed ((b % 16 * 64 + (get_or s (at + 1) 0 - 128)) * 64 + (get_or s (at + 2) 0 - 128)) 3 → Told key s at r
+    pub three_other : (get_or s (at + 2) 0 ≡ key → ⊥) → (r : Option ℕ) → r ≡ allowed ((b % 16 * 64 + (get_or s (at + 1) 0 - 128)) * 64 + (get_or s (at + 2) 0 - 128)) 3 → Told key s at r
     three_other = whole_other 2 _ 3 (b % 16 * 64 + (get_or s (at + 1) 0 - 128)) (get_or s (at + 2) 0) refl three_some (w.2, w.3) three_read (omega arith)
 
   -- four bytes
@@ -217,17 +218,14 @@ module _ (key : ℕ) (s : List ℕ) (at b lo hi : ℕ) where
         subst (λ (m : ℕ). permitted_at 3 (Ok ((((b % m * 64 + (get_or s (at + 1) 0 - 128)) * 64 + (get_or s (at + 2) 0 - 128)) * 64 + (get_or s (at + 3) 0 - 128)), 4)) ≡ read_value (drop at s)) (row_four b h p.2).by
         (ap (permitted_at 3) (sym (reached 128 191 (((b % (lead_of b).modulus * 64 + (get_or s (at + 1) 0 - 128)) * 64 + (get_or s (at + 2) 0 - 128)) * 64 + (get_or s (at + 3) 0 - 128)) 4 (drop (at + 4) s))) ∙ fourth p i (w.0, w.1, w.2, w.3) w.4 w.5)
 
-    pub four_met : get_or s (at + 3) 0 ≡ key → Told key s at 0
+    pub four_met : get_or s (at + 3) 0 ≡ key → Told key s at None
     four_met = let k = four_asks.8 in whole_met 3 _ 4 ((b % 8 * 64 + (get_or s (at + 1) 0 - 128)) * 64 + (get_or s (at + 2) 0 - 128)) (get_or s (at + 3) 0) refl (omega arith) (w.4, w.5) four_read (omega arith)
 
-    pub four_other : (get_or s (at + 3) 0 ≡ key → ⊥) → (r : ℕ) → r ≡ allowed (((b % 8 * 64 + (get_or s (at + 1) 0 - 128)) * 64 + (get_or s (at + 2) 0 - 128)) * 64 + (get_or s (at + 3) 0 - 128)) 4 → Told key s at r
+    pub four_other : (get_or s (at + 3) 0 ≡ key → ⊥) → (r : Option ℕ) → r ≡ allowed (((b % 8 * 64 + (get_or s (at + 1) 0 - 128)) * 64 + (get_or s (at + 2) 0 - 128)) * 64 + (get_or s (at + 3) 0 - 128)) 4 → Told key s at r
     four_other = let k = four_asks.8 in whole_other 3 _ 4 ((b % 8 * 64 + (get_or s (at + 1) 0 - 128)) * 64 + (get_or s (at + 2) 0 - 128)) (get_or s (at + 3) 0) refl (omega arith) (w.4, w.5) four_read (omega arith)
 
--- a byte from 80 on whose row has no length of two to four begins none
-pub none_begun : (key : ℕ) (s : List ℕ) (at b : ℕ) → (at < length s) × (b ≡ get_or s at 0) × (128 ≤ b) → b < 256 → ((lead_of b).len ≡ 2 → ⊥) → ((lead_of b).len ≡ 3 → ⊥) → ((lead_of b).len ≡ 4 → ⊥) → Told key s at 0
-none_begun key s at b (h, e, g) k n2 n3 n4 =
-    let f = all_fine b k in
-    let n1 = longer b g k in
-    let z : (lead_of b).len ≡ 0 = omega (arith, f.few) in
-    let q : Err (Bad 0) ≡ read_value (drop at s) = rw (drop-cons s at 0 h, ← e) (no_value (b ∷ drop (suc at) s) (omega arith) (lead_of b) refl z) in
-    (ap (plain_len key) q, omega arith)
+-- a byte for which no row is found begins none
+pub none_begun : (key : ℕ) (s : List ℕ) (at b : ℕ) → (at < length s) × (b ≡ get_or s at 0) × (128 ≤ b) → (r : Option Lead) → r ≡ begun (lead_of b) → r ≡ None → Told key s at None
+none_begun key s at b (h, e, g) r p n =
+    let q : Err (Bad 0) ≡ read_value (drop at s) = rw (drop-cons s at 0 h, ← e) (no_value (b ∷ drop (suc at) s) (omega arith) (lead_of b) refl (not_found r (lead_of b) p n)) in
+    (ap (plain_len key) q, tt)

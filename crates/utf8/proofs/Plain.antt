@@ -14,7 +14,7 @@ use Rattle.token.proofs.Noncharacters.{under, among, in_plane}
 use Rattle.utf8.specs.Reading.{lead_row, permitted_at, read_value, utf8_key, plain_len}
 use Rattle.utf8.proofs.Rows.{row_y}
 use Rattle.utf8.proofs.First.{no_value}
-use Rattle.std.specs.Prelude.{Ok, Err}
+use Rattle.std.specs.Prelude.{Option, None, Some, Ok, Err}
 use Rattle.token.specs.declared.Malformed.TheVariants.{Bad}
 
 -- the key by the value
@@ -44,65 +44,65 @@ mark_bad s h b e g k = sym (no_value s h (lead_row 0 1 128 191) (row_y (get_or s
 
 -- the length of what was read, by its last byte z
 module _ (key j v l z : ℕ) (e : utf8_key v ≡ z) where
-  pub key_met : z ≡ key → 0 ≡ plain_len key (permitted_at j (Ok (v, l)))
+  pub key_met : z ≡ key → None ≡ plain_len key (permitted_at j (Ok (v, l)))
   unfolding permitted_at
   key_met q = go (is_noncharacter v)
     where
-      go : (t : Bool) → 0 ≡ plain_len key (pick t (Err (Bad j)) (Ok (v, l)))
+      go : (t : Bool) → None ≡ plain_len key (pick t (Err (Bad j)) (Ok (v, l)))
       go true = refl
       go false = rw (eq-eqb (utf8_key v) key (e ∙ q))
 
-  pub key_other : (z ≡ key → ⊥) → pick (is_noncharacter v) 0 l ≡ plain_len key (permitted_at j (Ok (v, l)))
+  pub key_other : (z ≡ key → ⊥) → pick (is_noncharacter v) None (Some l) ≡ plain_len key (permitted_at j (Ok (v, l)))
   unfolding permitted_at
   key_other n = go (is_noncharacter v)
     where
-      go : (t : Bool) → pick t 0 l ≡ plain_len key (pick t (Err (Bad j)) (Ok (v, l)))
+      go : (t : Bool) → pick t None (Some l) ≡ plain_len key (pick t (Err (Bad j)) (Ok (v, l)))
       go true = refl
       go false = rw (ne_eqb (utf8_key v) key (λ q. n (sym e ∙ q)))
 
--- l, or 0 of a noncharacter
-abbrev pub allowed : ℕ → ℕ → ℕ
-allowed v l = pick (is_noncharacter v) 0 l
+-- l, but none of a noncharacter
+abbrev pub allowed : ℕ → ℕ → Option ℕ
+allowed v l = pick (is_noncharacter v) None (Some l)
 
 -- by the number
 module _ (v l : ℕ) where
-  pub free_under : v < 0xFDD0 → l ≡ allowed v l
+  pub free_under : v < 0xFDD0 → Some l ≡ allowed v l
   free_under h = rw (sym (under v h))
 
-  pub free_above : 0xFDF0 ≤ v → v % 0x10000 < 0xFFFE → l ≡ allowed v l
+  pub free_above : 0xFDF0 ≤ v → v % 0x10000 < 0xFFFE → Some l ≡ allowed v l
   free_above g h = rw (sym (in_plane v (omega arith, g)) ∙ lt-leb 0xFFFE (v % 0x10000) h)
 
-  pub barred_among : 0xFDD0 ≤ v → v < 0xFDF0 → 0 ≡ allowed v l
+  pub barred_among : 0xFDD0 ≤ v → v < 0xFDF0 → None ≡ allowed v l
   barred_among g h = rw (sym (among v (g, h)))
 
-  pub barred_above : 0xFDF0 ≤ v → 0xFFFE ≤ v % 0x10000 → 0 ≡ allowed v l
+  pub barred_above : 0xFDF0 ≤ v → 0xFFFE ≤ v % 0x10000 → None ≡ allowed v l
   barred_above g h = rw (sym (in_plane v (omega arith, g)) ∙ le-leb 0xFFFE (v % 0x10000) h)
 
 -- by three bytes: before EF, and behind it
 module _ (b x y : ℕ) where
-  pub three_low : (b < 239) × (224 ≤ b) × (128 ≤ x) × (x < 192) × (y < 192) → 3 ≡ allowed ((b % 16 * 64 + (x - 128)) * 64 + (y - 128)) 3
+  pub three_low : (b < 239) × (224 ≤ b) × (128 ≤ x) × (x < 192) × (y < 192) → Some 3 ≡ allowed ((b % 16 * 64 + (x - 128)) * 64 + (y - 128)) 3
   three_low (h, g, i, j, k) = free_under _ 3 (omega arith)
 
-  pub three_under : (b ≡ 239) × (x ≡ 183) × (128 ≤ y) × (y < 144) → 3 ≡ allowed ((b % 16 * 64 + (x - 128)) * 64 + (y - 128)) 3
+  pub three_under : (b ≡ 239) × (x ≡ 183) × (128 ≤ y) × (y < 144) → Some 3 ≡ allowed ((b % 16 * 64 + (x - 128)) * 64 + (y - 128)) 3
   three_under (h, g, j, k) = free_under _ 3 (omega arith)
 
-  pub three_among : (b ≡ 239) × (x ≡ 183) × (144 ≤ y) × (y < 176) → 0 ≡ allowed ((b % 16 * 64 + (x - 128)) * 64 + (y - 128)) 3
+  pub three_among : (b ≡ 239) × (x ≡ 183) × (144 ≤ y) × (y < 176) → None ≡ allowed ((b % 16 * 64 + (x - 128)) * 64 + (y - 128)) 3
   three_among (h, g, j, k) = barred_among _ 3 (omega arith) (omega arith)
 
-  pub three_above : (b ≡ 239) × (x ≡ 183) × (176 ≤ y) × (y < 192) → 3 ≡ allowed ((b % 16 * 64 + (x - 128)) * 64 + (y - 128)) 3
+  pub three_above : (b ≡ 239) × (x ≡ 183) × (176 ≤ y) × (y < 192) → Some 3 ≡ allowed ((b % 16 * 64 + (x - 128)) * 64 + (y - 128)) 3
   three_above (h, g, j, k) = free_above _ 3 (omega arith) (omega arith)
 
-  pub three_before : (b ≡ 239) × (x ≡ 191) × (128 ≤ y) × (y < 190) → 3 ≡ allowed ((b % 16 * 64 + (x - 128)) * 64 + (y - 128)) 3
+  pub three_before : (b ≡ 239) × (x ≡ 191) × (128 ≤ y) × (y < 190) → Some 3 ≡ allowed ((b % 16 * 64 + (x - 128)) * 64 + (y - 128)) 3
   three_before (h, g, j, k) = free_above _ 3 (omega arith) (omega arith)
 
-  pub three_other : (b ≡ 239) × (128 ≤ x) × (x < 192) × ((x ≡ 183) → ⊥) × ((x ≡ 191) → ⊥) × (128 ≤ y) × (y < 192) → 3 ≡ allowed ((b % 16 * 64 + (x - 128)) * 64 + (y - 128)) 3
+  pub three_other : (b ≡ 239) × (128 ≤ x) × (x < 192) × ((x ≡ 183) → ⊥) × ((x ≡ 191) → ⊥) × (128 ≤ y) × (y < 192) → Some 3 ≡ allowed ((b % 16 * 64 + (x - 128)) * 64 + (y - 128)) 3
   three_other (h, g, i, f, e, j, k) = by (below x 183)
     where
-      by : (x < 183) ⊎ (183 ≤ x) → 3 ≡ allowed ((b % 16 * 64 + (x - 128)) * 64 + (y - 128)) 3
+      by : (x < 183) ⊎ (183 ≤ x) → Some 3 ≡ allowed ((b % 16 * 64 + (x - 128)) * 64 + (y - 128)) 3
       by (inl q) = free_under _ 3 (omega arith)
       by (inr q) = free_above _ 3 (omega arith) (omega arith)
 
-  pub three_last : (b ≡ 239) × (x ≡ 191) × (190 ≤ y) × (y < 192) → 0 ≡ allowed ((b % 16 * 64 + (x - 128)) * 64 + (y - 128)) 3
+  pub three_last : (b ≡ 239) × (x ≡ 191) × (190 ≤ y) × (y < 192) → None ≡ allowed ((b % 16 * 64 + (x - 128)) * 64 + (y - 128)) 3
   three_last (h, g, j, k) = barred_above _ 3 (omega arith) (omega arith)
 
 -- by four bytes: the number's place in its plane
@@ -117,7 +117,7 @@ module _ (b x y z : ℕ) where
       plane (b % 8 * 64 + (x - 128)) (y - 128) (z - 128) (omega arith) (omega arith) ∙ ap (λ (w : ℕ). w * 4096 + (y - 128) * 64 + (z - 128)) e
 
   pub four_free : (128 ≤ x) × (128 ≤ y) × (y < 192) × (128 ≤ z) × (z < 192) × (16 ≤ b % 8 * 64 + (x - 128)) → (z < 190) ⊎ ((y < 191) ⊎ (x % 16 < 15)) →
-      4 ≡ allowed (((b % 8 * 64 + (x - 128)) * 64 + (y - 128)) * 64 + (z - 128)) 4
+      Some 4 ≡ allowed (((b % 8 * 64 + (x - 128)) * 64 + (y - 128)) * 64 + (z - 128)) 4
   four_free (f, g, h, i, j, k) w = free_above _ 4 (omega arith) (let e = four_plane (f, g, h, i, j) in go w e)
     where
       go : (z < 190) ⊎ ((y < 191) ⊎ (x % 16 < 15)) → (((b % 8 * 64 + (x - 128)) * 64 + (y - 128)) * 64 + (z - 128)) % 65536 ≡ x % 16 * 4096 + (y - 128) * 64 + (z - 128) →
@@ -127,7 +127,7 @@ module _ (b x y z : ℕ) where
       go (inr (inr q)) e = omega arith
 
   pub four_last : (128 ≤ x) × (191 ≤ y) × (y < 192) × (190 ≤ z) × (z < 192) × (16 ≤ b % 8 * 64 + (x - 128)) × (15 ≤ x % 16) →
-      0 ≡ allowed (((b % 8 * 64 + (x - 128)) * 64 + (y - 128)) * 64 + (z - 128)) 4
+      None ≡ allowed (((b % 8 * 64 + (x - 128)) * 64 + (y - 128)) * 64 + (z - 128)) 4
   four_last (f, g, h, i, j, k, l) =
       let m : (128 ≤ x) × (128 ≤ y) × (y < 192) × (128 ≤ z) × (z < 192) = omega arith in
       let e = four_plane m in barred_above _ 4 (omega arith) (omega arith)

@@ -1,15 +1,17 @@
 -- The rows of Table 3-7: what `lead_of` is at each byte of a row's range, and what holds of every lead_row.
-use mathlib.Core.Path.{◌≡◌, sym}
-use mathlib.Core.Bool.{Bool, not, ◌&&◌}
+use mathlib.Core.Path.{◌≡◌, refl, sym, ◌∙◌, ap, subst}
+use mathlib.Core.Bool.{Bool, true, false, not, ◌&&◌}
 use mathlib.Core.Logic.{◌⊎◌, inl, inr}
 use Prim.Native.Nat.{ℕ, ◌+◌, ◌≤◌, ◌<◌}
 use native.Mathlib.Omega.{arith}
 use lib.Dec.{T, eqb, leb, ltb, eqb→eq, leb→le, ltb→lt}
-use borrow.Author.Tests.{eq-eqb}
+use borrow.Author.Tests.{eq-eqb, ne_eqb, eqb-true}
+use Rattle.base.specs.Meaning.{pick}
 use Rattle.base.proofs.Tests.{and_left, and_right, below}
 use Rattle.base.proofs.Ranged.{every, ranged}
 use Rattle.utf8.specs.declared.Lead.{Lead}
-use Rattle.utf8.specs.Reading.{lead_row, lead_of}
+use Rattle.utf8.specs.Reading.{lead_row, lead_of, begun}
+use Rattle.std.specs.Prelude.{Option, None, Some}
 
 abbrev same_lead : Lead → Lead → Bool
 same_lead a b = eqb a.len b.len && (eqb a.modulus b.modulus && (eqb a.lo b.lo && eqb a.hi b.hi))
@@ -85,6 +87,47 @@ pub row_y : (b : ℕ) → 245 ≤ b → b < 256 → lead_row 0 1 128 191 ≡ lea
 unfolding lead_of
 row_y b g h = leads 245 11 (lead_row 0 1 128 191) tt b g h
 
+-- what the first byte says: a row of one byte or two, none, or the row of three or four that is found for it
+pub begun_1 : (b : ℕ) → b < 128 → Some (lead_row 1 128 128 191) ≡ begun (lead_of b)
+begun_1 b h = ap begun (row_1 b (omega arith) h)
+
+pub begun_2 : (b : ℕ) → 194 ≤ b → b < 224 → Some (lead_row 2 32 128 191) ≡ begun (lead_of b)
+begun_2 b g h = ap begun (row_2 b g h)
+
+pub begun_x : (b : ℕ) → 128 ≤ b → b < 194 → None ≡ begun (lead_of b)
+begun_x b g h = ap begun (row_x b g h)
+
+pub begun_y : (b : ℕ) → 245 ≤ b → b < 256 → None ≡ begun (lead_of b)
+begun_y b g h = ap begun (row_y b g h)
+
+some_row : (b : ℕ) → 194 ≤ b → b < 245 → (lead_of b).len ≡ 0 → ⊥
+unfolding lead_of
+some_row b g h e = rw (eq-eqb (lead_of b).len 0 e) at (ranged (λ x. not (eqb (lead_of x).len 0)) 51 194 tt b g h)
+
+pub begun_row : (b : ℕ) → 224 ≤ b → b < 245 → (l : Lead) → l ≡ lead_of b → Some l ≡ begun (lead_of b)
+begun_row b g h l e = rw (ne_eqb (lead_of b).len 0 (some_row b (omega arith) h)) (ap Some e)
+
+-- and what it says of the row
+pub record Found (m l : Lead) : Type 0 where
+  pub same : l ≡ m
+  pub long : l.len ≡ 0 → ⊥
+
+pub found : (r : Option Lead) (m l : Lead) → r ≡ begun m → r ≡ Some l → Found m l
+found r m l e f = go (eqb m.len 0) (λ z. eq-eqb m.len 0 z) (sym f ∙ e)
+  where
+    go : (t : Bool) → (m.len ≡ 0 → t ≡ true) → Some l ≡ pick t None (Some m) → Found m l
+    go true z q = let y : ◌≡◌ {A = ℕ} 0 1 = cc in absurd (omega arith)
+    go false z q =
+        let p : l ≡ m = cc in
+        record { same = p; long = λ k. (let w : false ≡ true = z (sym (ap (λ (x : Lead). x.len) p) ∙ k) in let y : ◌≡◌ {A = ℕ} 0 1 = cc in absurd (omega arith)) }
+
+pub not_found : (r : Option Lead) (m : Lead) → r ≡ begun m → r ≡ None → m.len ≡ 0
+not_found r m e f = go (eqb m.len 0) refl (sym f ∙ e)
+  where
+    go : (t : Bool) → eqb m.len 0 ≡ t → None ≡ pick t None (Some m) → m.len ≡ 0
+    go true z q = eqb-true m.len 0 z
+    go false z q = let y : ◌≡◌ {A = ℕ} 0 1 = cc in absurd (omega arith)
+
 -- what holds of every byte's lead_row
 pub record Fine (l : Lead) : Type 0 where
   pub few : l.len ≤ 4
@@ -122,3 +165,15 @@ all_fine b h = is_fine (lead_of b) (ranged (λ x. fine (lead_of x)) 256 0 tt b (
 pub longer : (b : ℕ) → 0x80 ≤ b → b < 256 → (lead_of b).len ≡ 1 → ⊥
 unfolding lead_of
 longer b g h e = rw (eq-eqb (lead_of b).len 1 e) at (ranged (λ x. not (eqb (lead_of x).len 1)) 128 128 tt b g h)
+
+-- of a row that was found
+module _ (b : ℕ) (h : b < 256) (l : Lead) (f : Found (lead_of b) l) where
+  pub found_fine : Fine l
+  found_fine = subst Fine (sym f.same) (all_fine b h)
+
+  -- from 80 on it has four bytes where it has neither two nor three
+  pub found_four : 0x80 ≤ b → (l.len ≡ 2 → ⊥) → (l.len ≡ 3 → ⊥) → l.len ≡ 4
+  found_four g n2 n3 =
+      let n0 = f.long in
+      let n1 : l.len ≡ 1 → ⊥ = λ z. longer b g h (sym (ap (λ (x : Lead). x.len) f.same) ∙ z) in
+      omega (arith, found_fine.few)

@@ -1,7 +1,6 @@
 -- Bounds of what was read.
 use Rattle.std.specs.Prelude.{ℕ, ◌<◌, ◌≡◌, Result, Ok, Err}
 use Rattle.token.specs.declared.Malformed.{Malformed}
-use Rattle.token.specs.declared.Malformed.TheVariants.{Cut, Bad}
 
 -- a value that was read is below a number, and so many bytes long
 abbrev pub Reached : ℕ → ℕ → Result (ℕ × ℕ) Malformed → Type 0

@@ -1,6 +1,6 @@
 -- One value at the front of a list of bytes: well-formed UTF-8 (Unicode, Table 3-7), and no noncharacter. And one token: FE starts a sequence, FF ends
 -- a description, and anything else is a value.
-use Rattle.std.specs.Prelude.{List, [], ◌∷◌, ℕ, ◌+◌, ◌%◌, zero, suc, ◌-◌, ◌*◌, Bool, true, false, ltb, eqb, Result, Ok, Err}
+use Rattle.std.specs.Prelude.{List, [], ◌∷◌, ℕ, ◌+◌, ◌%◌, zero, suc, ◌-◌, ◌*◌, Bool, true, false, ltb, eqb, Option, None, Some, Result, Ok, Err}
 use Rattle.base.specs.Meaning.{pick}
 use Rattle.base.specs.Reading.{when, within}
 use Rattle.token.specs.Reading.{Step, is_noncharacter}
@@ -34,6 +34,10 @@ lead_of b =
     (pick (within 0xF4 0xF4 b) (lead_row 4 8 0x80 0x8F)
     (lead_row 0 1 0x80 0xBF)))))))))
 
+-- a row where a value begins so
+abbrev pub begun : Lead → Option Lead
+begun l = pick (eqb l.len 0) None (Some l)
+
 -- the bytes after the first: n more, the next within lo and hi; v so far, k bytes taken
 unfoldable pub conts : ℕ → ℕ → ℕ → ℕ → ℕ → List ℕ → Result (ℕ × ℕ) Malformed
 conts zero lo hi v k s = Ok (v, k)
@@ -56,11 +60,11 @@ read_value (b ∷ s) =
 unfoldable pub utf8_key : ℕ → ℕ
 utf8_key v = pick (ltb v 0x80) v (0x80 + v % 64)
 
--- how many bytes a value has that was read; 0 where there is none, or its key is k
-abbrev pub plain_len : ℕ → Result (ℕ × ℕ) Malformed → ℕ
-plain_len k (Ok (v, l)) = pick (eqb (utf8_key v) k) 0 l
-plain_len k (Err Cut) = 0
-plain_len k (Err (Bad j)) = 0
+-- how many bytes a value has that was read; none where there is none, or its key is k
+abbrev pub plain_len : ℕ → Result (ℕ × ℕ) Malformed → Option ℕ
+plain_len k (Ok (v, l)) = pick (eqb (utf8_key v) k) None (Some l)
+plain_len k (Err Cut) = None
+plain_len k (Err (Bad j)) = None
 
 -- what was read, as a token
 abbrev pub as_token : Result (ℕ × ℕ) Malformed → Step

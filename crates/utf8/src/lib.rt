@@ -2,19 +2,18 @@
 // specs/Reading.antt.
 #![tactic(auto)]
 
-ghost use Rattle.std.specs.Prelude.{◌≡◌, ◌+◌, ◌-◌, ◌*◌, ◌%◌, ◌≤◌, ◌<◌, length, get_or, drop};
+ghost use Rattle.std.specs.Prelude.{◌≡◌, ◌+◌, ◌-◌, ◌*◌, ◌%◌, ◌≤◌, ◌<◌, length, get_or, drop, Some, None, IfSome};
 ghost use Rattle.base.specs.Meaning.{pick};
 ghost use Rattle.base.specs.Reading.{within, over};
 ghost use Rattle.token.specs.Reading.{is_noncharacter};
-ghost use Rattle.utf8.specs.Reading.{lead_of, read_value, conts, permitted_at, is_scalar, is_utf8_value, utf8_key, plain_len};
+ghost use Rattle.utf8.specs.Reading.{lead_of, begun, read_value, conts, permitted_at, is_scalar, is_utf8_value, utf8_key, plain_len};
 ghost use Rattle.utf8.specs.Bounds.{Reached};
 ghost use Rattle.utf8.specs.Meaning.{Scalar, utf8_bytes};
 
 use base::wide;
 use token::Malformed;
 
-// What the first byte of a value says: the value's length (0: no value begins so), the modulus that
-// leaves the first byte's bits, and the bounds of the second byte.
+// What the first byte of a value says: the value's length, the modulus that leaves the first byte's bits, and the bounds of the second byte.
 #[derive(Clone, Copy)]
 pub struct Lead {
     pub len: usize,
@@ -37,31 +36,26 @@ pub struct Lead {
 //
 // The match stands in three parts, the rows of three and of four bytes each in one of their own: with all four rows of a single first byte
 // in one match the compiler tests for these before any range.
-#[tactic(auto, using(crate::proofs::Rows::row_2))]
-fn lead_of(b: u8) -> Lead
-    ensures { result ≡ lead_of b }
+#[tactic(auto, using(crate::proofs::Rows::begun_2))]
+fn lead_of(b: u8) -> Option<Lead>
+    ensures { result ≡ begun (lead_of b) }
 {
     match b {
-        0x00..=0x7F => Lead {
+        0x00..=0x7F => Some(Lead {
             len: 1,
             modulus: 128,
             lo: 0x80,
             hi: 0xBF,
-        },
-        0xC2..=0xDF => Lead {
+        }),
+        0xC2..=0xDF => Some(Lead {
             len: 2,
             modulus: 32,
             lo: 0x80,
             hi: 0xBF,
-        },
-        0xE0..=0xEF => three_lead(b),
-        0xF0..=0xF4 => four_lead(b),
-        _ => Lead {
-            len: 0,
-            modulus: 1,
-            lo: 0x80,
-            hi: 0xBF,
-        },
+        }),
+        0xE0..=0xEF => Some(three_lead(b)),
+        0xF0..=0xF4 => Some(four_lead(b)),
+        _ => None,
     }
 }
 
@@ -197,12 +191,13 @@ pub fn read_value(s: &[u8]) -> Result<(u32, usize), Malformed>
     if b < 0x80 {
         return Ok((wide(b), 1));
     }
-    let l = lead_of(b);
+    let Some(l) = lead_of(b) else {
+        return Err(Malformed::Bad(0));
+    };
     let m = l.modulus;
     let v = wide(b % m);
     let n = l.len;
     match n {
-        0 => return Err(Malformed::Bad(0)),
         2 => return further(s, 1, v, l.lo, l.hi),
         3 => {
             let r = three(s, v, l.lo, l.hi);
@@ -225,112 +220,111 @@ pub fn key_of(v: u32) -> u32
     0x80 + v % 64
 }
 
-// 0 where the value of three bytes b, x, y is a noncharacter, else 3. Asks for bytes of such a value.
+// None where the value of three bytes b, x, y is a noncharacter, else 3. Asks for bytes of such a value.
 #[tactic(auto, using(crate::proofs::Plain::three_among))]
-fn three_permitted(b: u8, x: u8, y: u8) -> usize
+fn three_permitted(b: u8, x: u8, y: u8) -> Option<usize>
     requires { (224 ≤ b) × (b < 240) × (128 ≤ x) × (x < 192) × (128 ≤ y) × (y < 192) }
-    ensures { result ≡ pick (is_noncharacter ((b % 16 * 64 + (x - 128)) * 64 + (y - 128))) 0 3 }
+    ensures { result ≡ pick (is_noncharacter ((b % 16 * 64 + (x - 128)) * 64 + (y - 128))) None (Some 3) }
 {
     if b < 0xEF {
-        return 3;
+        return Some(3);
     }
     if x == 0xB7 {
         if y < 0x90 {
-            return 3;
+            return Some(3);
         }
         if y < 0xB0 {
-            return 0;
+            return None;
         }
-        return 3;
+        return Some(3);
     }
     if x == 0xBF {
         if y < 0xBE {
-            return 3;
+            return Some(3);
         }
-        return 0;
+        return None;
     }
-    3
+    Some(3)
 }
 
-// 0 where the value of four bytes b, x, y, z is a noncharacter, else 4. Asks for bytes of such a value; b does not matter.
+// None where the value of four bytes b, x, y, z is a noncharacter, else 4. Asks for bytes of such a value; b does not matter.
 #[tactic(auto, using(crate::proofs::Plain::four_free))]
-fn four_permitted(b: u8, x: u8, y: u8, z: u8) -> usize
+fn four_permitted(b: u8, x: u8, y: u8, z: u8) -> Option<usize>
     requires { (240 ≤ b) × (b < 245) × (128 ≤ x) × (x < 192) × (128 ≤ y) × (y < 192) × (128 ≤ z) × (z < 192) × (16 ≤ b % 8 * 64 + (x - 128)) }
-    ensures { result ≡ pick (is_noncharacter (((b % 8 * 64 + (x - 128)) * 64 + (y - 128)) * 64 + (z - 128))) 0 4 }
+    ensures { result ≡ pick (is_noncharacter (((b % 8 * 64 + (x - 128)) * 64 + (y - 128)) * 64 + (z - 128))) None (Some 4) }
 {
     if z < 0xBE {
-        return 4;
+        return Some(4);
     }
     if y < 0xBF {
-        return 4;
+        return Some(4);
     }
     if x % 16 < 15 {
-        return 4;
+        return Some(4);
     }
-    0
+    None
 }
 
-// The length N of a value at a place, whose first byte is b: 0 where it is not there whole, its last byte is `key`, or it is a noncharacter. Asks for
-// what b's row of Table 3-7 has.
-fn row_len<const N: usize>(s: &[u8], at: usize, b: u8, lo: u8, hi: u8, key: u32) -> usize
+// The length N of a value at a place, whose first byte is b: None where it is not there whole, its last byte is `key`, or it is a noncharacter.
+// Asks for what b's row of Table 3-7 has.
+fn row_len<const N: usize>(s: &[u8], at: usize, b: u8, lo: u8, hi: u8, key: u32) -> Option<usize>
     requires { (at < length s.now) × (b ≡ get_or s.now at 0) × ((lead_of b).len ≡ N) × (lo ≡ (lead_of b).lo) × (hi ≡ (lead_of b).hi) × (2 ≤ N) × (N ≤ 4) }
-    ensures { (result ≡ plain_len key (read_value (drop at s.now))) × (at + result ≤ length s.now) }
+    ensures { (result ≡ plain_len key (read_value (drop at s.now))) × IfSome result (λ l. at + l ≤ length s.now) }
 {
     if s.len() < at + N {
-        return 0;
+        return None;
     }
     let x = s[at + 1];
     if x < lo {
-        return 0;
+        return None;
     }
     if hi < x {
-        return 0;
+        return None;
     }
     if N == 2 {
         if wide(x) == key {
-            return 0;
+            return None;
         }
-        return 2;
+        return Some(2);
     }
     let y = s[at + 2];
     if y < 0x80 {
-        return 0;
+        return None;
     }
     if 0xBF < y {
-        return 0;
+        return None;
     }
     if N == 3 {
         if wide(y) == key {
-            return 0;
+            return None;
         }
         return three_permitted(b, x, y);
     }
     let z = s[at + 3];
     if z < 0x80 {
-        return 0;
+        return None;
     }
     if 0xBF < z {
-        return 0;
+        return None;
     }
     if wide(z) == key {
-        return 0;
+        return None;
     }
     four_permitted(b, x, y, z)
 }
 
-// The length of the value at a place whose first byte b is 80 or above, without the value: 0 where none stands there whole, or its key is
+// The length of the value at a place whose first byte b is 80 or above, without the value: None where no value stands there whole, or its key is
 // `key`. Asks for such a byte there.
-pub fn plain_len(s: &[u8], at: usize, b: u8, key: u32) -> usize
+pub fn plain_len(s: &[u8], at: usize, b: u8, key: u32) -> Option<usize>
     requires { (at < length s.now) × (b ≡ get_or s.now at 0) × (128 ≤ b) }
-    ensures { (result ≡ plain_len key (read_value (drop at s.now))) × (at + result ≤ length s.now) }
+    ensures { (result ≡ plain_len key (read_value (drop at s.now))) × IfSome result (λ l. at + l ≤ length s.now) }
 {
-    let l = lead_of(b);
+    let l = lead_of(b)?;
     let n = l.len;
     match n {
         2 => row_len::<2>(s, at, b, l.lo, l.hi, key),
         3 => row_len::<3>(s, at, b, l.lo, l.hi, key),
-        4 => row_len::<4>(s, at, b, l.lo, l.hi, key),
-        _ => 0,
+        _ => row_len::<4>(s, at, b, l.lo, l.hi, key),
     }
 }
 

@@ -18,8 +18,8 @@ returns-then-b c = plained Utf8 c.args.key c.args.s.now c.args.at _ _ (first_end
 pub returns-then-b-2 : goal.returns-then-b-2
 returns-then-b-2 c = plained Utf8 c.args.key c.args.s.now c.args.at _ _ (first_start c.args.s.now c.args.at c.requires c.if-b-2.true) refl
 
-pub returns-then-l-eq0 : goal.returns-then-l-eq0
-returns-then-l-eq0 c = length_none c.args.s.now c.args.at c.args.key c.requires c.if-b-2.false c.if-b.false _ c.plain_len-l.ensures.0 c.if-l-eq0.true
+pub returns-in_default : goal.returns-in_default
+returns-in_default c = length_none c.args.s.now c.args.at c.args.key c.requires c.if-b-2.false c.if-b.false _ c.plain_len.ensures.0 c.in_default.is
 
 pub returns : goal.returns
-returns c = length_some c.args.s.now c.args.at c.args.key c.requires c.if-b-2.false c.if-b.false _ c.plain_len-l.ensures.0 c.if-l-eq0.false
+returns c = length_some c.args.s.now c.args.at c.args.key c.requires c.if-b-2.false c.if-b.false _ c.plain_len.ensures.0 _ c.in-Some.is

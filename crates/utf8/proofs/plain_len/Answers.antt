@@ -1,18 +1,18 @@
 -- `utf8::plain_len` meets its contract: by the row of its first byte. Assumes nothing but what it asks.
-use mathlib.Core.Path.{sym, ◌∙◌, ap}
+use mathlib.Core.Path.{sym, ◌∙◌, ap, subst}
 use native.Mathlib.Omega.{arith}
 use Rattle.utf8.specs.declared.Lead.{Lead}
-use Rattle.utf8.proofs.Lengths.{none_begun}
+use Rattle.utf8.proofs.Rows.{found, found_four}
+use Rattle.utf8.proofs.Lengths.{Told, none_begun}
 use Rattle.utf8.proofs.plain_len.Goals as goal
 
-pub row_len-requires : goal.row_len-requires
-row_len-requires c = let e = c.lead_of-l.ensures in (c.requires.0, c.requires.1, sym (ap (λ (l : Lead). l.len) e) ∙ c.in-2.is, ap (λ (l : Lead). l.lo) e, ap (λ (l : Lead). l.hi) e, omega arith, omega arith)
+pub returns-in_err-l : goal.returns-in_err-l
+returns-in_err-l c = subst (Told c.args.key c.args.s.now c.args.at) (sym c.from_residual.ensures) (none_begun c.args.key c.args.s.now c.args.at c.args.b c.requires _ c.lead_of.ensures c.in_err-l.was)
 
-pub row_len-requires-in-3 : goal.row_len-requires-in-3
-row_len-requires-in-3 c = let e = c.lead_of-l.ensures in (c.requires.0, c.requires.1, sym (ap (λ (l : Lead). l.len) e) ∙ c.in-3.is, ap (λ (l : Lead). l.lo) e, ap (λ (l : Lead). l.hi) e, omega arith, omega arith)
-
-pub row_len-requires-in-4 : goal.row_len-requires-in-4
-row_len-requires-in-4 c = let e = c.lead_of-l.ensures in (c.requires.0, c.requires.1, sym (ap (λ (l : Lead). l.len) e) ∙ c.in-4.is, ap (λ (l : Lead). l.lo) e, ap (λ (l : Lead). l.hi) e, omega arith, omega arith)
-
-pub returns-in_default : goal.returns-in_default
-returns-in_default c = let e = ap (λ (l : Lead). l.len) c.lead_of-l.ensures in let m = c.in_default.in_default-own.rest in none_begun c.args.key c.args.s.now c.args.at c.args.b c.requires (omega arith) (λ q. m.0.0.1 (e ∙ q)) (λ q. m.0.1 (e ∙ q)) (λ q. m.1 (e ∙ q))
+pub row_len-requires-in_default : goal.row_len-requires-in_default
+row_len-requires-in_default c =
+    let d = found _ _ _ c.lead_of.ensures c.in_ok-l.was in
+    let m = c.in_default.in_default-own.rest in
+    let n = found_four c.args.b (omega arith) _ d c.requires.2 m.0.1 m.1 in
+    let e = d.same in
+    (c.requires.0, c.requires.1, sym (ap (λ (l : Lead). l.len) e) ∙ n, ap (λ (l : Lead). l.lo) e, ap (λ (l : Lead). l.hi) e, omega arith, omega arith)
