@@ -12,16 +12,18 @@ use borrow.Author.Tests.{ne_eqb}
 use Rattle.base.specs.Meaning.{pick}
 use Rattle.base.proofs.Tests.{same}
 use Rattle.coding.specs.declared.Coding.{Coding}
-use Rattle.coding.specs.Reading.{read_token, mark_len}
+use Rattle.coding.specs.Reading.{read_token}
 use Rattle.coding.proofs.Codings.{growing}
 use Rattle.table.specs.Reading.{steps_from, check_steps, at_end, table_of}
 use Rattle.tablefeed.specs.declared.Run.{Run}
-use Rattle.tablefeed.specs.Reading.{going, stopped, run_of}
+use Rattle.tablefeed.specs.Reading.{going, stopped, run_of, halt_number}
 use Rattle.tablefeed.proofs.Turns.{Turn, On, Stop, Wait, turn_of, run_on, check_on, TurnIn, turns}
-use Rattle.std.specs.Prelude.{Result, Err}
+use Rattle.std.specs.Prelude.{Result, Ok, Err}
 use Rattle.table.specs.declared.Fault.{Fault}
-use Rattle.table.specs.declared.Fault.TheVariants.{Bad as TableBad, Trailing}
-use Rattle.token.specs.declared.Token.{Token}
+use Rattle.table.specs.declared.Fault.TheVariants.{Bad as FaultBad, Trailing as FaultTrailing}
+use Rattle.tablefeed.specs.declared.Halt.TheVariants.{Bad as TableBad, Trailing}
+use Rattle.token.specs.declared.Token.TheVariants.{Value as TokenValue, Start as TokenStart, End as TokenEnd}
+use Rattle.token.specs.Reading.{Step}
 use Rattle.token.specs.declared.Malformed.TheVariants.{Cut, Bad}
 
 -- the same with its place d further on
@@ -30,13 +32,13 @@ moved d r = record { ended = r.ended; opened = r.opened; halted = r.halted; plac
 
 -- where a run through q rests that began at a place with g descriptions complete
 abbrev pub Rests : ℕ → ℕ → List ℕ → Run → Type 0
-Rests g at q r = (g ≤ r.ended) × (r.place ≤ at + length q) × (r.halted ≡ 0 → (at ≤ r.place) × (at + length q < r.place + 4))
+Rests g at q r = (g ≤ r.ended) × (r.place ≤ at + length q) × (halt_number r.halted ≡ 0 → (at ≤ r.place) × (at + length q < r.place + 4))
 
 -- what the check says of bytes that end at e, of a table of n descriptions
 abbrev pub table_told : ℕ → ℕ → Run → Result (Unit {0}) Fault
 table_told n e r =
-    pick (eqb r.halted 0) (at_end r.ended (n - r.ended) e)
-    (pick (eqb r.halted 12) (Err (Trailing r.place)) (Err (TableBad r.place r.ended)))
+    pick (eqb (halt_number r.halted) 0) (at_end r.ended (n - r.ended) e)
+    (pick (eqb (halt_number r.halted) 12) (Err (FaultTrailing r.place)) (Err (FaultBad r.place r.ended)))
 
 -- every turn keeps the number of descriptions that are wanted, and leaves no fewer complete
 abbrev Keeps : ℕ → ℕ → Turn → Type 0
@@ -44,14 +46,14 @@ Keeps g k (On g' n' o l) = (g ≤ g') × (g' + n' ≡ k)
 Keeps g k (Stop j) = Unit {0}
 Keeps g k Wait = Unit {0}
 
-keeps : (m g n : ℕ) (o : Bool) (t : Token) → Keeps g (g + suc n) (turn_of m g n o t)
-keeps m g n o (Value v l) = (omega arith, refl)
-keeps m g n true Start = tt
-keeps m g n false Start = (omega arith, refl)
-keeps m g n true End = tt
-keeps m g n false End = (omega arith, omega arith)
-keeps m g n o Cut = tt
-keeps m g n o (Bad k) = tt
+keeps : (g n : ℕ) (o : Bool) (t : Step) → Keeps g (g + suc n) (turn_of g n o t)
+keeps g n o (Ok (TokenValue v, l)) = (omega arith, refl)
+keeps g n true (Ok (TokenStart, l)) = tt
+keeps g n false (Ok (TokenStart, l)) = (omega arith, refl)
+keeps g n true (Ok (TokenEnd, l)) = tt
+keeps g n false (Ok (TokenEnd, l)) = (omega arith, omega arith)
+keeps g n o (Err Cut) = tt
+keeps g n o (Err (Bad k)) = tt
 
 module _ (c : Coding) where
   -- from another place
@@ -64,7 +66,7 @@ module _ (c : Coding) where
   shifts (suc fuel) (b ∷ q) h d at g zero o = refl
   shifts (suc fuel) (b ∷ q) h d at g (suc n) o =
       (turns c g n (d + at) b q o).0
-      ∙ go (turn_of (mark_len c) g n o (read_token c (b ∷ q))) (turns c g n at b q o).2 (λ p. shifts fuel p)
+      ∙ go (turn_of g n o (read_token c (b ∷ q))) (turns c g n at b q o).2 (λ p. shifts fuel p)
       ∙ ap (moved d) (sym (turns c g n at b q o).0)
     where
       go : (x : Turn) → TurnIn (length (b ∷ q)) x →
@@ -74,7 +76,7 @@ module _ (c : Coding) where
           let e : d + at + l ≡ d + (at + l) = omega arith in
           let k = length-drop l (b ∷ q) in
           rw e (ih (drop l (b ∷ q)) (omega (arith, z.0)) d (at + l) g' n' o')
-      go (Stop k) z ih = let e : d + at + k ≡ d + (at + k) = omega arith in ap (stopped 11 g) e
+      go (Stop k) z ih = let e : d + at + k ≡ d + (at + k) = omega arith in ap (stopped TableBad g) e
       go Wait z ih = refl
 
   pub shift : (q : List ℕ) (d at g n : ℕ) (o : Bool) → run_of g n o (d + at) (steps_from c (d + at) 0 q) ≡ moved d (run_of g n o at (steps_from c at 0 q))
@@ -89,7 +91,7 @@ module _ (c : Coding) where
   resting (suc fuel) (b ∷ q) h at g zero o = (omega arith, omega arith, λ e. absurd (omega arith))
   resting (suc fuel) (b ∷ q) h at g (suc n) o =
       subst (Rests g at (b ∷ q)) (sym (turns c g n at b q o).0)
-      (go (turn_of (mark_len c) g n o (read_token c (b ∷ q))) (turns c g n at b q o).2 (keeps (mark_len c) g n o (read_token c (b ∷ q))) (λ p. resting fuel p))
+      (go (turn_of g n o (read_token c (b ∷ q))) (turns c g n at b q o).2 (keeps g n o (read_token c (b ∷ q))) (λ p. resting fuel p))
     where
       go : (x : Turn) → TurnIn (length (b ∷ q)) x → Keeps g (g + suc n) x →
           ((p : List ℕ) → length p ≤ fuel → (at g n : ℕ) (o : Bool) → Rests g at p (run_of g n o at (steps_from c at 0 p))) →
@@ -106,7 +108,7 @@ module _ (c : Coding) where
 
   -- on through more bytes
   abbrev pub onward : ℕ → List ℕ → ℕ → List ℕ → Run → Run
-  onward k s at q r = pick (eqb r.halted 0) (run_of r.ended (k - r.ended) r.opened r.place (steps_from c r.place 0 (drop (r.place - at) q ++ s))) r
+  onward k s at q r = pick (eqb (halt_number r.halted) 0) (run_of r.ended (k - r.ended) r.opened r.place (steps_from c r.place 0 (drop (r.place - at) q ++ s))) r
 
   joins : (s : List ℕ) (fuel : ℕ) (q : List ℕ) → length q ≤ fuel → (at g n : ℕ) (o : Bool) →
       run_of g n o at (steps_from c at 0 (q ++ s)) ≡ onward (g + n) s at q (run_of g n o at (steps_from c at 0 q))
@@ -118,7 +120,7 @@ module _ (c : Coding) where
   joins s (suc fuel) (b ∷ q) h at g (suc n) o = by ((growing c).kept (b ∷ q) s) (λ p. joins s fuel p)
     where
       T : List ℕ → Turn
-      T p = turn_of (mark_len c) g n o (read_token c p)
+      T p = turn_of g n o (read_token c p)
 
       -- nothing is read yet
       waits : run_of g (suc n) o at (steps_from c at 0 (b ∷ (q ++ s))) ≡ onward (g + suc n) s at (b ∷ q) (going g o at)
@@ -135,26 +137,26 @@ module _ (c : Coding) where
           let i = rests (drop l (b ∷ q)) (at + l) g' n' o' in
           let f : onward (g' + n') s (at + l) (drop l (b ∷ q)) r ≡ onward (g + suc n) s at (b ∷ q) r =
           ⊎_elim
-          (λ (y : r.halted ≡ 0).
+          (λ (y : (halt_number r.halted) ≡ 0).
           let j : l + (r.place - (at + l)) ≡ r.place - at = omega (arith, (i.2 y).0) in
           let d : drop (r.place - (at + l)) (drop l (b ∷ q)) ≡ drop (r.place - at) (b ∷ q) = drop-drop (r.place - (at + l)) l (b ∷ q) ∙ ap (λ (m : ℕ). drop m (b ∷ q)) j in
           rw (w.1, d))
-          (λ (y : r.halted ≡ 0 → ⊥). rw (ne_eqb r.halted 0 y))
-          (same r.halted 0) in
+          (λ (y : (halt_number r.halted) ≡ 0 → ⊥). rw (ne_eqb (halt_number r.halted) 0 y))
+          (same (halt_number r.halted) 0) in
           e ∙ rw a (ih (drop l (b ∷ q)) (omega (arith, z.0)) (at + l) g' n' o') ∙ f
       go (Stop k) z w e ih = e
       go Wait z w e ih = waits
 
-      by : (read_token c (b ∷ q) ≡ Cut) ⊎ (read_token c (b ∷ (q ++ s)) ≡ read_token c (b ∷ q)) →
+      by : (read_token c (b ∷ q) ≡ Err Cut) ⊎ (read_token c (b ∷ (q ++ s)) ≡ read_token c (b ∷ q)) →
           ((p : List ℕ) → length p ≤ fuel → (at g n : ℕ) (o : Bool) → run_of g n o at (steps_from c at 0 (p ++ s)) ≡ onward (g + n) s at p (run_of g n o at (steps_from c at 0 p))) →
           run_of g (suc n) o at (steps_from c at 0 (b ∷ (q ++ s))) ≡ onward (g + suc n) s at (b ∷ q) (run_of g (suc n) o at (steps_from c at 0 (b ∷ q)))
       by (inl e) ih =
-          let r : run_of g (suc n) o at (steps_from c at 0 (b ∷ q)) ≡ going g o at = (turns c g n at b q o).0 ∙ ap (λ (x : Token). run_on c g o at (b ∷ q) (turn_of (mark_len c) g n o x)) e in
+          let r : run_of g (suc n) o at (steps_from c at 0 (b ∷ q)) ≡ going g o at = (turns c g n at b q o).0 ∙ ap (λ (x : Step). run_on c g o at (b ∷ q) (turn_of g n o x)) e in
           waits ∙ ap (onward (g + suc n) s at (b ∷ q)) (sym r)
       by (inr e) ih =
           let f : run_of g (suc n) o at (steps_from c at 0 (b ∷ (q ++ s))) ≡ run_on c g o at (b ∷ (q ++ s)) (T (b ∷ q)) =
-          (turns c g n at b (q ++ s) o).0 ∙ ap (λ (x : Token). run_on c g o at (b ∷ (q ++ s)) (turn_of (mark_len c) g n o x)) e in
-          go (T (b ∷ q)) (turns c g n at b q o).2 (keeps (mark_len c) g n o (read_token c (b ∷ q))) f ih
+          (turns c g n at b (q ++ s) o).0 ∙ ap (λ (x : Step). run_on c g o at (b ∷ (q ++ s)) (turn_of g n o x)) e in
+          go (T (b ∷ q)) (turns c g n at b q o).2 (keeps g n o (read_token c (b ∷ q))) f ih
           ∙ ap (onward (g + suc n) s at (b ∷ q)) (sym (turns c g n at b q o).0)
 
   pub join : (q s : List ℕ) (at g n : ℕ) (o : Bool) → run_of g n o at (steps_from c at 0 (q ++ s)) ≡ onward (g + n) s at q (run_of g n o at (steps_from c at 0 q))
@@ -170,7 +172,7 @@ module _ (c : Coding) where
   checks (suc fuel) (b ∷ q) h at g zero o = refl
   checks (suc fuel) (b ∷ q) h at g (suc n) o =
       (turns c g n at b q o).1 (at + length (b ∷ q))
-      ∙ go (turn_of (mark_len c) g n o (read_token c (b ∷ q))) (turns c g n at b q o).2 (keeps (mark_len c) g n o (read_token c (b ∷ q))) (λ p. checks fuel p)
+      ∙ go (turn_of g n o (read_token c (b ∷ q))) (turns c g n at b q o).2 (keeps g n o (read_token c (b ∷ q))) (λ p. checks fuel p)
       ∙ ap (table_told (g + suc n) (at + length (b ∷ q))) (sym (turns c g n at b q o).0)
     where
       go : (x : Turn) → TurnIn (length (b ∷ q)) x → Keeps g (g + suc n) x →

@@ -4,11 +4,13 @@
 
 ghost use Rattle.std.specs.Prelude.{◌≡◌, ◌+◌, ◌-◌, ◌≤◌, ◌<◌, length};
 ghost use Rattle.table.specs.Reading.{steps_at};
-ghost use Rattle.tablefeed.specs.Reading.{going, stopped, run_of, flag_of, is_set, settled, table_fed};
+ghost use Rattle.tablefeed.specs.declared.Halt.TheVariants.{Bad as TableBad};
+ghost use Rattle.tablefeed.specs.Reading.{going, stopped, unread, run_of, flag_of, is_set, halt_number, settled, table_fed};
 ghost use Rattle.tablefeed.specs.Bounds.{Resting};
 
 use coding::Coding;
-use table::Step;
+use table::Steps;
+use token::{Malformed, Token};
 use unfinished::Held;
 
 // How far a table has been read: the descriptions complete, 1 just after a start mark (else 0); 0, or the number of the refusal that it has
@@ -23,12 +25,19 @@ pub struct Standing {
     pub place: usize,
 }
 
+// Why reading stops for good, by the number of the refusal.
+#[derive(Clone, Copy, Debug, PartialEq, Eq)]
+pub enum Halt {
+    Bad = 11,
+    Trailing = 12,
+}
+
 // The same within some bytes, its place counted there.
 #[derive(Clone, Copy)]
 pub struct Run {
     pub ended: usize,
     pub opened: bool,
-    pub halted: usize,
+    pub halted: Option<Halt>,
     pub place: usize,
 }
 
@@ -58,19 +67,19 @@ fn going_at(g: usize, opened: bool, at: usize) -> Run
     Run {
         ended: g,
         opened: opened,
-        halted: 0,
+        halted: None,
         place: at,
     }
 }
 
 // Refused at a place.
-fn stopped_at(why: usize, g: usize, at: usize) -> Run
+fn stopped_at(why: Halt, g: usize, at: usize) -> Run
     ensures { result ≡ stopped why g at }
 {
     Run {
         ended: g,
         opened: false,
-        halted: why,
+        halted: Some(why),
         place: at,
     }
 }
@@ -78,9 +87,19 @@ fn stopped_at(why: usize, g: usize, at: usize) -> Run
 // A mark that ends at `next` where a value must stand. Asks for a place: a mark stands before it.
 fn misplaced(g: usize, next: usize) -> Run
     requires { 1 ≤ next }
-    ensures { result ≡ stopped 11 g (next - 1) }
+    ensures { result ≡ stopped TableBad g (next - 1) }
 {
-    stopped_at(11, g, next - 1)
+    stopped_at(Halt::Bad, g, next - 1)
+}
+
+// Where nothing can be read at a place: what is cut there is read again with the bytes that follow, anything else is refused.
+fn unread_at(m: Malformed, g: usize, opened: bool, at: usize) -> Run
+    ensures { result ≡ unread g opened at m }
+{
+    match m {
+        Malformed::Cut => going_at(g, opened, at),
+        Malformed::Bad(k) => stopped_at(Halt::Bad, g, k),
+    }
 }
 
 // Whole values and marks of s from `start` on, of a table of n descriptions.
@@ -90,33 +109,30 @@ fn run_through(c: Coding, s: &[u8], start: usize, n: usize, ended: usize, opened
     let mut g = ended;
     let mut after = opened;
     let mut at = start;
-    while at < s.len() {
+    for step in Steps::new(c, s, start) {
         if n <= g {
-            return stopped_at(12, g, at);
+            return stopped_at(Halt::Trailing, g, at);
         }
-        let t = table::step_at(c, s, at);
-        match t {
-            Step::Value(_, next) => {
-                after = false;
-                at = next;
-            }
-            Step::Start(next) => {
+        let (token, next) = match step {
+            Ok(read) => read,
+            Err(m) => return unread_at(m, g, after, at),
+        };
+        match token {
+            Token::Value(_) => after = false,
+            Token::Start => {
                 if after {
                     return misplaced(g, next);
                 }
                 after = true;
-                at = next;
             }
-            Step::End(next) => {
+            Token::End => {
                 if after {
                     return misplaced(g, next);
                 }
                 g += 1;
-                at = next;
             }
-            Step::Cut => return going_at(g, after, at),
-            Step::Bad(k) => return stopped_at(11, g, k),
         }
+        at = next;
     }
     going_at(g, after, at)
 }
@@ -128,6 +144,16 @@ fn flag_of(b: bool) -> usize
         return 1;
     }
     0
+}
+
+// The number of the refusal that a run has met, 0 for none.
+fn halt_number(halted: Option<Halt>) -> usize
+    ensures { result ≡ halt_number halted }
+{
+    match halted {
+        None => 0,
+        Some(why) => why as usize,
+    }
 }
 
 fn is_set(n: usize) -> bool
@@ -147,10 +173,10 @@ fn settle(s: &[u8], at: usize, r: Run) -> Fed
     let standing = Standing {
         ended: r.ended,
         opened: flag_of(opened),
-        halted: r.halted,
+        halted: halt_number(r.halted),
         place: at + place,
     };
-    if r.halted != 0 {
+    if r.halted.is_some() {
         return Fed {
             held: unfinished::none(),
             standing: standing,
@@ -174,7 +200,7 @@ fn behind_held(c: Coding, n: usize, at: usize, h: Held, t: Standing, part: &[u8]
     let bytes = joined.bytes;
     let end = k + m;
     let r = run_through(c, &bytes[..end], 0, n, t.ended, is_set(t.opened));
-    if r.halted != 0 {
+    if r.halted.is_some() {
         return settle(&bytes[..end], at - k, r);
     }
     if r.place < k {

@@ -9,7 +9,7 @@ use lib.Seq.{length-take-le}
 use Rattle.table.specs.Reading.{steps_from}
 use Rattle.unfinished.specs.Reading.{held_bytes}
 use Rattle.tablefeed.specs.Reading.{run_of, is_set}
-use Rattle.tablefeed.proofs.Feeding.{at_rest, split, stops, short, goes_on}
+use Rattle.tablefeed.proofs.Feeding.{met, unmet, at_rest, split, stops, short, goes_on}
 use Rattle.tablefeed.proofs.behind_held.Goals as goal
 
 pub slice_bounds-put-end : goal.slice_bounds-put-end
@@ -56,8 +56,8 @@ settle-requires c = let a = c.args in
     let i = at_rest a.c q 0 _ _ _ _ (omega arith) f in
     (i, omega (arith, lq))
 
-pub returns-then-r-ne0 : goal.returns-then-r-ne0
-returns-then-r-ne0 c = let a = c.args in
+pub returns-then-is_some : goal.returns-then-is_some
+returns-then-is_some c = let a = c.args in
     let m : ℕ = c.min-m.result in
     let lm : length (take m a.part.now) ≡ m = length-take-le m a.part.now (omega arith) in
     let p = c.put-joined.ensures.held in
@@ -69,7 +69,7 @@ returns-then-r-ne0 c = let a = c.args in
     let e : held_bytes a.h ++ a.part.now ≡ q ++ drop m a.part.now =
     split (held_bytes a.h) a.part.now m ∙ ap (λ (x : List ℕ). x ++ drop m a.part.now) (sym (rw n at p.0)) in
     let f : c.run_through-r.result ≡ run_of a.t.ended (a.n - a.t.ended) (is_set a.t.opened) 0 (steps_from a.c 0 0 q) = rw c.is_set.ensures at c.run_through-r.ensures in
-    stops a.c a.n a.at a.t a.h a.part.now q _ c.requires.0 l (omega (arith, c.requires.2)) e _ f c.if-r-ne0.true _ c.settle.ensures
+    stops a.c a.n a.at a.t a.h a.part.now q _ c.requires.0 l (omega (arith, c.requires.2)) e _ f (met _ (sym c.is_some.ensures ∙ c.if-is_some.true)) _ c.settle.ensures
 
 pub slice_bounds-settle-end-then-r-k : goal.slice_bounds-settle-end-then-r-k
 slice_bounds-settle-end-then-r-k c = let a = c.args in
@@ -110,7 +110,7 @@ returns-then-r-k c = let a = c.args in
     split (held_bytes a.h) a.part.now m ∙ ap (λ (x : List ℕ). x ++ drop m a.part.now) (sym (rw n at p.0)) in
     let f : c.run_through-r.result ≡ run_of a.t.ended (a.n - a.t.ended) (is_set a.t.opened) 0 (steps_from a.c 0 0 q) = rw c.is_set.ensures at c.run_through-r.ensures in
     let i = at_rest a.c q 0 _ _ _ _ (omega arith) f in
-    let j = i.1 c.if-r-ne0.false in
+    let j = i.1 (unmet _ (sym c.is_some.ensures ∙ c.if-is_some.false)) in
     let k : m ≡ length a.part.now = omega (arith, lq, j) in
     let d : drop m a.part.now ≡ [] = drop_of_length-le a.part.now {i = m} (omega arith) in
     short a.c a.n a.at a.t a.h a.part.now q _ c.requires.0 l (omega (arith, c.requires.2)) e _ f d _ c.settle-then-r-k.ensures
@@ -145,4 +145,4 @@ returns c = let a = c.args in
     split (held_bytes a.h) a.part.now m ∙ ap (λ (x : List ℕ). x ++ drop m a.part.now) (sym (rw n at p.0)) in
     let f : c.run_through-r.result ≡ run_of a.t.ended (a.n - a.t.ended) (is_set a.t.opened) 0 (steps_from a.c 0 0 q) = rw c.is_set.ensures at c.run_through-r.ensures in
     let i = at_rest a.c q 0 _ _ _ _ (omega arith) f in
-    goes_on a.c a.n a.at a.t a.h a.part.now q _ c.requires.0 l (omega (arith, c.requires.2)) e _ f c.if-r-ne0.false (omega arith) (omega (arith, i.0)) _ c.run_through-x.ensures _ c.settle-2.ensures
+    goes_on a.c a.n a.at a.t a.h a.part.now q _ c.requires.0 l (omega (arith, c.requires.2)) e _ f (unmet _ (sym c.is_some.ensures ∙ c.if-is_some.false)) (omega arith) (omega (arith, i.0)) _ c.run_through-x.ensures _ c.settle-2.ensures
