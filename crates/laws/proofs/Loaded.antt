@@ -37,7 +37,7 @@ use Rattle.entryfeed.specs.Reading.{after_scan, sums_of, whole_in, entries_read,
 use Rattle.entryfeed.proofs.Scanning.{scan_drop, scan_front}
 use Rattle.tablefeed.specs.declared.Run.{Run}
 use Rattle.tablefeed.specs.declared.Standing.{Standing}
-use Rattle.tablefeed.specs.Reading.{run_of, is_set, settled, table_read, table_fed}
+use Rattle.tablefeed.specs.Reading.{run_of, halt_number, is_set, settled, table_read, table_fed}
 use Rattle.tablefeed.proofs.Running.{table_told, told}
 use Rattle.loader.specs.declared.Loader.{Loader}
 use Rattle.loader.specs.Reading.{entry_number, part_of, entries_in, table_in, counted, font_fed, said_fed, body_fed, headed, past_limit, fresh_of, is_open, fed_of, kind_told, entries_told, tail_told, font_told, answer_of}
@@ -69,12 +69,12 @@ first_table : (c : Coding) (n at : ℕ) (q : List ℕ) → table_fed c n at (hel
 unfolding table_fed
 first_table c n at q = let l = held_len [] in let e : at - (held_of []).len ≡ at = omega arith in rw (e, held [])
 
-no_run : (c : Coding) (n : ℕ) (q : List ℕ) → length q ≡ 0 → (0 ≡ (run_of 0 n false 0 (steps_from c 0 0 q)).ended) × (0 ≡ (run_of 0 n false 0 (steps_from c 0 0 q)).halted)
+no_run : (c : Coding) (n : ℕ) (q : List ℕ) → length q ≡ 0 → (0 ≡ (run_of 0 n false 0 (steps_from c 0 0 q)).ended) × (0 ≡ halt_number (run_of 0 n false 0 (steps_from c 0 0 q)).halted)
 unfolding run_of steps_from
 no_run c n [] e = (refl, refl)
 no_run c n (b ∷ q) e = absurd (omega arith)
 
-read_standing : (c : Coding) (n at : ℕ) (q : List ℕ) → ((table_read c n at unread q).standing.ended ≡ (run_of 0 n false 0 (steps_from c 0 0 q)).ended) × ((table_read c n at unread q).standing.halted ≡ (run_of 0 n false 0 (steps_from c 0 0 q)).halted) × ((table_read c n at unread q).standing.place ≡ at + (run_of 0 n false 0 (steps_from c 0 0 q)).place)
+read_standing : (c : Coding) (n at : ℕ) (q : List ℕ) → ((table_read c n at unread q).standing.ended ≡ (run_of 0 n false 0 (steps_from c 0 0 q)).ended) × ((table_read c n at unread q).standing.halted ≡ halt_number (run_of 0 n false 0 (steps_from c 0 0 q)).halted) × ((table_read c n at unread q).standing.place ≡ at + (run_of 0 n false 0 (steps_from c 0 0 q)).place)
 unfolding table_read settled is_set
 read_standing c n at q = let e : n - 0 ≡ n = omega arith in rw e (refl, refl, refl)
 
@@ -144,9 +144,9 @@ module _ (f : Font) (s : List ℕ) (within : f.end ≤ length s) (short : length
   Q = let a : f.end - 0 ≡ f.end = omega arith in ap (λ (n : ℕ). drop n (take (limit - 0) s)) a ∙ ap (λ (x : List ℕ). drop f.end x) (take_all limit s short)
 
   -- a standing that a run through the whole tail came to
-  tail_by : (r : Run) (t : Standing) → t.ended ≡ r.ended → t.halted ≡ r.halted → ((r.halted ≡ 0 → ⊥) → t.place ≡ f.end + r.place) → f.table ≡ true →
+  tail_by : (r : Run) (t : Standing) → t.ended ≡ r.ended → t.halted ≡ halt_number r.halted → ((halt_number r.halted ≡ 0 → ⊥) → t.place ≡ f.end + r.place) → f.table ≡ true →
       tail_told f (length s) t ≡ answered f (table_told f.count (length (tail_of s f)) r)
-  tail_by r t e h p b = go (same r.halted 0) (same r.halted 12)
+  tail_by r t e h p b = go (same (halt_number r.halted) 0) (same (halt_number r.halted) 12)
     where
       l : length (tail_of s f) ≡ length s - f.end
       l = length-drop f.end s
@@ -159,10 +159,10 @@ module _ (f : Font) (s : List ℕ) (within : f.end ≤ length s) (short : length
       at_whole zero z q = refl
       at_whole (suc k) z q = absurd (omega arith)
 
-      going : r.halted ≡ 0 → answered f (at_end r.ended (f.count - r.ended) (length (tail_of s f))) ≡ answered f (table_told f.count (length (tail_of s f)) r)
-      going z = rw (eq-eqb r.halted 0 z)
+      going : (halt_number r.halted) ≡ 0 → answered f (at_end r.ended (f.count - r.ended) (length (tail_of s f))) ≡ answered f (table_told f.count (length (tail_of s f)) r)
+      going z = rw (eq-eqb (halt_number r.halted) 0 z)
 
-      go : (r.halted ≡ 0) ⊎ (r.halted ≡ 0 → ⊥) → (r.halted ≡ 12) ⊎ (r.halted ≡ 12 → ⊥) → tail_told f (length s) t ≡ answered f (table_told f.count (length (tail_of s f)) r)
+      go : (halt_number r.halted ≡ 0) ⊎ (halt_number r.halted ≡ 0 → ⊥) → (halt_number r.halted ≡ 12) ⊎ (halt_number r.halted ≡ 12 → ⊥) → tail_told f (length s) t ≡ answered f (table_told f.count (length (tail_of s f)) r)
       go (inl z) y =
           ⊎_elim
           (λ (k : r.ended < f.count). sym (table_cut f (length s) t b (h ∙ z) (omega arith)) ∙ ap (λ (m : ℕ). Err (refusal_at TableCut (length s) m)) e ∙ at_cut (f.count - r.ended) refl k ∙ going z)
@@ -171,11 +171,11 @@ module _ (f : Font) (s : List ℕ) (within : f.end ≤ length s) (short : length
       go (inr z) (inl y) =
           sym (table_over f (length s) t b (λ k. z (sym h ∙ k)) (h ∙ y))
           ∙ ap (λ (m : ℕ). Err (refusal Trailing m)) (p z)
-          ∙ rw (ne_eqb r.halted 0 z, eq-eqb r.halted 12 y)
+          ∙ rw (ne_eqb (halt_number r.halted) 0 z, eq-eqb (halt_number r.halted) 12 y)
       go (inr z) (inr y) =
           sym (table_bad f (length s) t b (λ k. z (sym h ∙ k)) (λ k. y (sym h ∙ k)))
           ∙ (λ i. Err (refusal_at TableBad (p z i) (e i)))
-          ∙ rw (ne_eqb r.halted 0 z, ne_eqb r.halted 12 y)
+          ∙ rw (ne_eqb (halt_number r.halted) 0 z, ne_eqb (halt_number r.halted) 12 y)
 
   abbrev R : Run
   R = run_of 0 f.count false 0 (steps_from C 0 0 (tail_of s f))
@@ -189,7 +189,7 @@ module _ (f : Font) (s : List ℕ) (within : f.end ≤ length s) (short : length
           ap (λ (y : tables.Fed). tail_told f (length s) y.standing) (sym (no_tail f 0 h unread s _ refl z))
           ∙ tail_by R unread (empty z).0 (empty z).1 (λ k. absurd (k (sym (empty z).1))) b
         where
-          empty : length (part_of 0 f.end limit s) ≡ 0 → (0 ≡ R.ended) × (0 ≡ R.halted)
+          empty : length (part_of 0 f.end limit s) ≡ 0 → (0 ≡ R.ended) × (0 ≡ halt_number R.halted)
           empty z = no_run C f.count (tail_of s f) (sym (ap (λ (x : List ℕ). length x) Q) ∙ z)
 
       some : (length (part_of 0 f.end limit s) ≡ 0 → ⊥) → tail_told f (length s) (table_in f 0 h unread s).standing ≡ answered f (table_told f.count (length (tail_of s f)) R)

@@ -15,9 +15,10 @@ use Rattle.utf8.specs.Reading.{read_value, read_utf8, as_token}
 use Rattle.utf8.proofs.Rows.{row_y}
 use Rattle.utf8.proofs.First.{no_value, no_bytes, empty, no_mark, back_value}
 use Rattle.utf8.proofs.Writing.{bytes1, bytes2, bytes3, bytes4}
-use Rattle.utf8.proofs.Coding.{first_byte, coded_utf8}
+use Rattle.utf8.proofs.Coding.{First, first_byte, coded_utf8}
 use Rattle.std.specs.Prelude.{Ok, Err}
 use Rattle.token.specs.declared.Malformed.TheVariants.{Bad}
+use Rattle.token.specs.declared.Token.TheVariants.{Value}
 
 list2 : (a b x y : ℕ) → a ≡ x → b ≡ y → a ∷ b ∷ [] ≡ x ∷ y ∷ []
 list2 a b x y p q = cc
@@ -130,16 +131,16 @@ not_mark b t v l h e = go (below b 245)
     go (inr k) = let r = no_value (b ∷ t) (omega arith) _ (row_y b k h) refl in let z : Err (Bad 0) ≡ Ok (v, l) = r ∙ e in let y : ◌≡◌ {A = ℕ} 0 1 = cc in absurd (omega arith)
 
 -- the reader of one value and that of one token agree on a value
-value_token : (s : List ℕ) → Bytes s → (v l : ℕ) → read_value s ≡ Ok (v, l) → read_utf8 s ≡ Value v l
+value_token : (s : List ℕ) → Bytes s → (v l : ℕ) → read_value s ≡ Ok (v, l) → read_utf8 s ≡ Ok (Value v, l)
 value_token [] y v l e = let z = no_bytes [] refl ∙ e in let x : ◌≡◌ {A = ℕ} 0 1 = cc in absurd (omega arith)
 value_token (b ∷ t) y v l e =
     let h = not_mark b t v l y.0 e in
     sym (no_mark (b ∷ t) (omega arith) (λ z. absurd (omega arith)) (λ z. absurd (omega arith))) ∙ ap as_token e
 
-token_value : (s : List ℕ) → Bytes s → (v l : ℕ) → read_utf8 s ≡ Value v l → read_value s ≡ Ok (v, l)
+token_value : (s : List ℕ) → Bytes s → (v l : ℕ) → read_utf8 s ≡ Ok (Value v, l) → read_value s ≡ Ok (v, l)
 token_value [] y v l e = let z = empty [] refl ∙ e in let x : ◌≡◌ {A = ℕ} 0 1 = cc in absurd (omega arith)
 token_value (b ∷ t) y v l e =
-    let h : b < 254 = rw e at (first_byte b t y.0) in
+    let h : First b (Ok (Value v, l)) = rw e at (first_byte b t y.0) in
     back_value _ v l (no_mark (b ∷ t) (omega arith) (λ z. absurd (omega arith)) (λ z. absurd (omega arith)) ∙ e)
 
 begins_rest : (p s : List ℕ) → Begins p s → s ≡ p ++ drop (length p) s
@@ -155,4 +156,4 @@ value_exactly s y v l = (there, back)
 
     back : Utf8Value v × (l ≡ length (utf8_bytes v)) × Begins (utf8_bytes v) s → read_value s ≡ Ok (v, l)
     back (p, e, b) =
-        token_value s y v l (ap read_utf8 (begins_rest (utf8_bytes v) s b) ∙ coded_utf8.value_read v (drop (length (utf8_bytes v)) s) p ∙ ap (Value v) (sym e))
+        token_value s y v l (ap read_utf8 (begins_rest (utf8_bytes v) s b) ∙ coded_utf8.value_read v (drop (length (utf8_bytes v)) s) p ∙ ap (λ (m : ℕ). Ok (Value v, m)) (sym e))
