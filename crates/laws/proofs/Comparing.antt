@@ -24,7 +24,7 @@ use Rattle.differences.specs.Meaning.{numbers}
 use Rattle.differences.specs.Reading.{pairs_of, fitted, compared_with, compared_by, compare_answer, found_with, found_by, differences_of, left_by, compare_into}
 use Rattle.differences.proofs.Pairs.{numbers_length}
 use Rattle.differences.proofs.Cases.{no_room, has_room, pairs_most}
-use Rattle.laws.specs.Meaning.{Exact, gives, refuses, told, Before, Each, Ordered, swapped, compared_says, whose_refusal, CompareRows, Listed}
+use Rattle.laws.specs.Meaning.{Exact, gives, refuses, Before, Each, Ordered, swapped, compared_says, whose_refusal, CompareRows, Listed}
 use Rattle.laws.proofs.Exactly.{is, row, own_first, less, clash}
 use Rattle.laws.proofs.Pairing.{In}
 use Rattle.laws.proofs.Differing.{none_exactly, same_self}

@@ -50,7 +50,7 @@ use Rattle.conversion.proofs.Ready.{psf1_suits}
 use Rattle.convert.specs.Reading.{converted_of, converted_into}
 use Rattle.convert.proofs.Cases.{unprepared, no_room, wrote}
 use Rattle.convert.proofs.Asks.{ready, ready_even, ready_long}
-use Rattle.laws.specs.Meaning.{gives, refuses, converted_says, Keeps, Wrote}
+use Rattle.laws.specs.Meaning.{gives, refuses, says, Keeps, Wrote}
 use Rattle.laws.proofs.Asking.{described, read_as, item_with, item_asked, value_with, value_asked, sequence_with, sequence_asked}
 use Rattle.laws.proofs.Located.{part_asked, row_asked, pixel_asked, metrics_asked}
 use Rattle.std.specs.Prelude.{Result, Ok, Err}
@@ -416,11 +416,11 @@ module _ (c : Conversion) (s xs : List ℕ) where
         ap (take n) w.2 ∙ front_is (output_of c s w.0) xs n (output_length c s w.0 n y w.1)
 
 -- an answer by what it says
-pub wrote_said : (x : Result ℕ Refusal) (n : ℕ) → converted_says x ≡ gives n → x ≡ Ok n
+pub wrote_said : (x : Result ℕ Refusal) (n : ℕ) → says x ≡ gives n → x ≡ Ok n
 wrote_said (Ok k) n e = let h : k ≡ n = cc in ap Ok h
 wrote_said (Err r) n e = let z : ◌≡◌ {A = ℕ} 0 1 = cc in absurd (omega arith)
 
-pub refused_said : (x : Result ℕ Refusal) (n p : ℕ) → converted_says x ≡ refuses n p → (r : Refusal) × (x ≡ Err r)
+pub refused_said : (x : Result ℕ Refusal) (n p : ℕ) → says x ≡ refuses n p → (r : Refusal) × (x ≡ Err r)
 refused_said (Ok k) n p e = let z : ◌≡◌ {A = ℕ} 0 1 = cc in absurd (omega arith)
 refused_said (Err r) n p e = (r, refl)
 

@@ -11,7 +11,7 @@ use lib.ListN.{length, drop, drop_of_length-le}
 use borrow.Author.Tests.{lt-ltb, le-ltb}
 use Rattle.base.specs.Meaning.{Bytes}
 use Rattle.base.specs.Reading.{when}
-use Rattle.base.proofs.Tests.{below, same, by_when}
+use Rattle.base.proofs.Tests.{below, by_when}
 use Rattle.coding.specs.declared.Coding.{Coding}
 use Rattle.table.specs.Meaning.{Desc, items_of, items, encode, Readable}
 use Rattle.table.proofs.Accepts.{items_inj}

@@ -5,8 +5,9 @@ use mathlib.Core.Path.{◌≡◌, refl, sym, ◌∙◌, ap, subst}
 use mathlib.Core.Bool.{Bool, true, false}
 use mathlib.Core.Logic.{◌↔◌}
 use mathlib.Core.List.{List, [], ◌∷◌, ◌++◌, append-nil}
-use Prim.Native.Nat.{ℕ, ◌+◌, ◌≤◌, ◌<◌}
+use Prim.Native.Nat.{ℕ, ◌≤◌, ◌<◌}
 use native.Mathlib.Omega.{arith}
+use Rattle.header.specs.declared.Font.{Font}
 use Rattle.refusal.specs.declared.Refusal.{Refusal}
 use Rattle.refusal.specs.declared.Reason.TheVariants.{Late}
 use Rattle.refusal.specs.Meaning.{refusal}
@@ -77,7 +78,7 @@ late_feed_exactly l = (
 pub late_close_exactly : (l : Loader) → (close_answer l ≡ Err (refusal Late 0)) ↔ (is_open l ≡ false)
 late_close_exactly l = (
   λ (e : close_answer l ≡ Err (refusal Late 0)). one_of (is_open l ≡ false) (is_open l)
-      (λ o. let h : Early (Err (refusal Late 0)) = subst Early (answers l o ∙ e) (early_answer l) in absurd (omega (arith, h))) (λ o. o),
+      (λ o. let h : Early {A = Font} (Err (refusal Late 0)) = subst Early (answers l o ∙ e) (early_answer l) in absurd (omega (arith, h))) (λ o. o),
   λ (o : is_open l ≡ false). sym (close_late l o),
 )
 

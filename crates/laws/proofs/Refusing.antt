@@ -42,7 +42,7 @@ use Rattle.conversion.specs.Reading.{same_kind, is_psf1_count, suits_psf1, is_ev
 use Rattle.conversion.proofs.Cases.{kind_same, right_kind, wrong_kind, not_opened, count_256, count_512, count_wrong, width_other, width_eight, last_logical, uneven_within, measured_is, suits_is, too_large, fits, suited, unsuited, opened_as}
 use Rattle.conversion.proofs.Ready.{even_fields}
 use Rattle.convert.specs.Reading.{converted, converted_of}
-use Rattle.laws.specs.Meaning.{Exact, refuses, converted_says, GlyphsAt, Holds, FirstValue, ValueAt, needed, ConversionRows}
+use Rattle.laws.specs.Meaning.{Exact, refuses, says, GlyphsAt, Holds, FirstValue, ValueAt, needed, ConversionRows}
 use Rattle.laws.proofs.Exactly.{is, row, row_at, own_first, reading_of, less}
 use Rattle.laws.proofs.Asking.{described, read_as}
 use Rattle.std.specs.Prelude.{Result, Ok, Err, Option, Some, None}
@@ -402,8 +402,8 @@ module _ (c : Conversion) (s : List ℕ) (f : Font) (m : ℕ) (y : Bytes s) (e :
   from_font : (p : Result (Font × ℕ) Refusal) → p ≡ prepared_on c s f → converted_of c s m ≡ converted p m
   from_font p z = from_prepared c s m p (z ∙ on_kind c s m f e q)
 
-  glyphs_given : (p : ℕ) → GlyphsAt c s f p → converted_says (converted_of c s m) ≡ refuses 18 p
-  glyphs_given p g = let w = glyphs_by s f y e c p g in ap converted_says (from_font (Err (refusal_at Glyphs p w.0)) (unsuited c s f (refusal_at Glyphs p w.0) w.1))
+  glyphs_given : (p : ℕ) → GlyphsAt c s f p → says (converted_of c s m) ≡ refuses 18 p
+  glyphs_given p g = let w = glyphs_by s f y e c p g in ap says (from_font (Err (refusal_at Glyphs p w.0)) (unsuited c s f (refusal_at Glyphs p w.0) w.1))
 
   suits : Never (GlyphsAt c s f) → suits_of c s f ≡ Ok tt
   suits n = go (suits_or s f y e c)
@@ -412,10 +412,10 @@ module _ (c : Conversion) (s : List ℕ) (f : Font) (m : ℕ) (y : Bytes s) (e :
       go (inl z) = z
       go (inr (p, g)) = absurd (n p g)
 
-  value_given : Never (GlyphsAt c s f) → (k : ℕ) → ValueAt c ds k → converted_says (converted_of c s m) ≡ refuses 19 (f.end + k)
+  value_given : Never (GlyphsAt c s f) → (k : ℕ) → ValueAt c ds k → says (converted_of c s m) ≡ refuses 19 (f.end + k)
   value_given n k v =
       let w = value_by c (tail_of s f) ds of_source.0 of_source.1 k ((value_first c ds k of_source.0).0 v) in
-      ap converted_says (from_font (measured_then c f (tail_of s f) (measured_of c (tail_of s f))) (suited c s f (suits n)) ∙ ap (λ (x : Result ℕ ℕ). converted (measured_then c f (tail_of s f) x) m) w)
+      ap says (from_font (measured_then c f (tail_of s f) (measured_of c (tail_of s f))) (suited c s f (suits n)) ∙ ap (λ (x : Result ℕ ℕ). converted (measured_then c f (tail_of s f) x) m) w)
 
   fitted : Never (GlyphsAt c s f) → Never (ValueAt c ds) → converted_of c s m ≡ converted (fitting f (needed c f ds)) m
   fitted n v = go (carried_or c (tail_of s f) ds of_source.0 of_source.1)
@@ -478,16 +478,16 @@ not_wrong a b n = go (one_kind a b)
     go (inr m) = absurd (n m)
 
 -- all rows
-pub conversion_rows : (c : Conversion) (s : List ℕ) (m : ℕ) → Bytes s → Exact (converted_says (converted_of c s m)) (ConversionRows c s m)
+pub conversion_rows : (c : Conversion) (s : List ℕ) (m : ℕ) → Bytes s → Exact (says (converted_of c s m)) (ConversionRows c s m)
 conversion_rows c s m y =
-    own_first s (λ r e. ap converted_says (own_given c s m r e)) (λ f e.
-    row (wrong_or f.kind (source_kind c)) (λ n. ap converted_says (kind_given c s m f e n)) (λ n.
+    own_first s (λ r e. ap says (own_given c s m r e)) (λ f e.
+    row (wrong_or f.kind (source_kind c)) (λ n. ap says (kind_given c s m f e n)) (λ n.
     let q = not_wrong f.kind (source_kind c) n in
     reading_of s f (described s f y e) (λ ds d.
     let r = read_as s f y e ds d in
     row_at (glyphs_or c s f m y e q ds r) (glyphs_given c s f m y e q ds r) (λ ng.
     row_at (value_or c s f m y e q ds r) (value_given c s f m y e q ds r ng) (λ nv.
-    row (less limit (needed c f ds)) (λ h. ap converted_says (size_given c s f m y e q ds r ng nv h)) (λ h.
+    row (less limit (needed c f ds)) (λ h. ap says (size_given c s f m y e q ds r ng nv h)) (λ h.
     let small : needed c f ds ≤ limit = omega arith in
-    row (less m (needed c f ds)) (λ l. ap converted_says (room_given c s f m y e q ds r ng nv small l)) (λ l.
-    is _ _ (ap converted_says (wrote_given c s f m y e q ds r ng nv small (omega arith))))))))))
+    row (less m (needed c f ds)) (λ l. ap says (room_given c s f m y e q ds r ng nv small l)) (λ l.
+    is _ _ (ap says (wrote_given c s f m y e q ds r ng nv small (omega arith))))))))))
