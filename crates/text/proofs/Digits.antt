@@ -92,10 +92,6 @@ pub hexadecimal_8 : (v : ℕ) → v < 4294967296 → length (numeral 16 v) ≤ 8
 unfolding numeral
 hexadecimal_8 v h = short 16 16 (omega arith) (omega arith) 7 v v (omega arith)
 
--- a number under another name
-pub same_numeral : (b m n : ℕ) (xs ys : List ℕ) (k : ℕ) → m ≡ n → (k ≡ length (numeral b m)) × (ys ≡ over (numeral b m) xs) → (k ≡ length (numeral b n)) × (ys ≡ over (numeral b n) xs)
-same_numeral b m n xs ys k e = subst (λ (x : ℕ). (k ≡ length (numeral b x)) × (ys ≡ over (numeral b x) xs)) e
-
 pub number_text_lem : (n b : ℕ) → number_text n b ≡ numeral 10 n ++ (b ∷ [])
 unfolding number_text
 number_text_lem n b = refl
