@@ -25,7 +25,7 @@ use Rattle.content.specs.Meaning.{Describes}
 use Rattle.content.proofs.Tails.{Tail, tail_known}
 use Rattle.fonts.specs.Reading.{item_of, value_glyph, sequence_glyph}
 use Rattle.laws.specs.Meaning.{Exact, Said, gives, refuses, says, Row, Gives, ItemRows, ValueRows, SequenceRows}
-use Rattle.laws.proofs.Exactly.{row, handed_own, own_first, reading_of, is_some, less}
+use Rattle.laws.proofs.Exactly.{no_refusal_lem, row, handed_own, own_first, reading_of, is_some, less}
 use Rattle.std.specs.Prelude.{Result, Ok, Err, Option, Some, None}
 
 -- the reading of a sound font
@@ -58,11 +58,7 @@ not_bare false n = absurd (n refl)
 -- the end of a chain: nothing is found, or what is found is given
 found : {A N : Type 0} {P : A → Type 0} {n : ℕ} (x : Said A) → ((v : A) × P v) ⊎ N → (N → x ≡ refuses n 0) → ((v : A) → P v → x ≡ gives v) → Exact x (Row N n 0 (Gives P))
 found x (inr z) f g = row (inl z) f (λ m. absurd (m z))
-found {A} {N} {P} {n} x (inl (v, p)) f g = row (inr (λ z. never (sym (g v p) ∙ f z))) f (λ m. is_some x (v, p) g)
-  where
-    never : gives v ≡ refuses n 0 → ⊥
-    never e = let z : ◌≡◌ {A = ℕ} 0 1 = cc in omega arith
-
+found x (inl (v, p)) f g = row (inr (λ z. no_refusal_lem (sym (g v p) ∙ f z))) f (λ m. is_some x (v, p) g)
 -- a walk or a lookup found what has P, or nothing
 found_or : {A N : Type 0} {P : A → Type 0} (w : Option A) → ((v : A) → (w ≡ Some v) ↔ P v) → (w ≡ None) ↔ N → ((v : A) × P v) ⊎ N
 found_or (Some v) m o = inl (v, (m v).0 refl)

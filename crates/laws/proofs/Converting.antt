@@ -51,6 +51,7 @@ use Rattle.convert.specs.Reading.{converted_of, converted_into}
 use Rattle.convert.proofs.Cases.{unprepared, no_room, wrote}
 use Rattle.convert.proofs.Asks.{ready, ready_even, ready_long}
 use Rattle.laws.specs.Meaning.{gives, refuses, says, Keeps, Wrote}
+use Rattle.laws.proofs.Refusals.{not_both}
 use Rattle.laws.proofs.Asking.{described, read_as, item_with, item_asked, value_with, value_asked, sequence_with, sequence_asked}
 use Rattle.laws.proofs.Located.{part_asked, row_asked, pixel_asked, metrics_asked}
 use Rattle.std.specs.Prelude.{Result, Ok, Err}
@@ -359,9 +360,6 @@ keeps_twice s o p f g j k a e b =
       sequences = λ vs. b.sequences vs ∙ a.sequences vs;
       content = λ m h. b.content m (a.content m h);
     }
-
-not_both : {A : Type 0} (x : Result ℕ Refusal) (n : ℕ) (r : Refusal) → x ≡ Ok n → x ≡ Err r → A
-not_both x n r e q = let z : ◌≡◌ {A = ℕ} 0 1 = cc in absurd (omega arith)
 
 -- the front and the rest of a buffer over which something was laid
 front_is : (p xs : List ℕ) (n : ℕ) → length p ≡ n → take n (over p xs) ≡ p

@@ -42,7 +42,7 @@ use Rattle.mapping.proofs.Places.{Hole, Gap, hole_or_gap}
 use Rattle.edit.proofs.Cases as cases
 use Rattle.edit.specs.Reading.{longer, sought_at, sought_on, sought_in, sought_of, fitted, insert_answer, adding, dropping, inserted_at, removed_at, left_by, add_answer, add_into, drop_answer, drop_into}
 use Rattle.laws.specs.Meaning.{Exact, Said, gives, refuses, says, In, given, skipped, own as own_given, sound as sound-given, reads, EditRows, AddLast, AddRows, DropLast, DropRows}
-use Rattle.laws.proofs.Exactly.{is, row, own_first, reading_of, less, at_most, either}
+use Rattle.laws.proofs.Exactly.{given_same, no_refusal_lem, is, row, own_first, reading_of, less, at_most, either}
 use Rattle.laws.proofs.Asking.{described, bare_or, not_bare}
 use Rattle.laws.proofs.Listed.{no_value, listed_value}
 use Rattle.laws.proofs.Refusing.{alike, not_alike, wrong_or, not_wrong}
@@ -162,14 +162,6 @@ module _ (xs : List ℕ) (len g v : ℕ) where
 
           found : g < f.count → Scalar v → sought_of xs len g v ≡ sought_at f.end (mapping_of Utf8 g v (tail_of file f))
           found l p = right ∙ sym (cases.sought_at_lem file g v f marked l (is_scalar v) refl ((scalar_exactly v).1 p))
-
--- a length that is given
-pub given_length : {n m : ℕ} → ◌≡◌ {A = Said ℕ} (gives n) (gives m) → n ≡ m
-given_length e = cc
-
--- and is no refusal
-pub no_refusal_lem : {A : Type 0} {n p q : ℕ} → ◌≡◌ {A = Said ℕ} (gives n) (refuses p q) → A
-no_refusal_lem e = let z : ◌≡◌ {A = ℕ} 0 1 = cc in absurd (omega arith)
 
 -- a value of UTF-8
 pub scalar_value : (v : ℕ) → Scalar v → (Noncharacter v → ⊥) → ValueOf Utf8 v
@@ -380,14 +372,14 @@ module _ (xs : List ℕ) (y : Bytes xs) (len g v : ℕ) where
       go ds a (skipped o (skipped l (skipped h (given k q)))) b = no_refusal_lem q
       go ds a (skipped o (skipped l (skipped h (skipped k q)))) (inl p) = absurd (l p.listed)
       go ds a (skipped o (skipped l (skipped h (skipped k q)))) (inr p) =
-          record { reading = ds; editable = a; gap = p; character = o; small = omega arith; room = omega arith; grown = given_length q }
+          record { reading = ds; editable = a; gap = p; character = o; small = omega arith; room = omega arith; grown = given_same q }
 
   pub drop_good : (n : ℕ) → says (drop_answer xs len g v) ≡ gives n → DropGood n
   drop_good n e = let r = last_rows n ((drop_rows (gives n)).0 e) in go r.0 r.1 r.2 (either_way r.0 r.1)
     where
       go : (ds : List Desc) (a : Editable xs len g v ds) → DropLast len g v ds (gives n) → Hole Utf8 v g ds ⊎ Gap Utf8 v g ds → DropGood n
       go ds a (given l q) b = no_refusal_lem q
-      go ds a (skipped l q) (inl h) = record { reading = ds; editable = a; hole = h; shrunk = given_length q }
+      go ds a (skipped l q) (inl h) = record { reading = ds; editable = a; hole = h; shrunk = given_same q }
       go ds a (skipped l q) (inr p) = absurd (l p.unlisted)
 
 -- an answer that gives nothing is a refusal, and leaves the buffer

