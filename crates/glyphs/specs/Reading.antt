@@ -1,5 +1,5 @@
 -- How glyph g of two fonts differs: its metrics, and its pixels.
-use Rattle.std.specs.Prelude.{ℕ, ◌+◌, Bool, ◌&&◌, List, take, drop, Result, Ok, Err, Option, Some, None}
+use Rattle.std.specs.Prelude.{ℕ, Bool, ◌&&◌, List, take, drop, Result, Ok, Err, Option, Some, None}
 use Rattle.std.specs.Ordering.{int_eq}
 use Rattle.base.specs.Reading.{when}
 use Rattle.header.specs.declared.Font.{Font}

@@ -16,8 +16,6 @@ use Rattle.base.specs.Meaning.{Bytes}
 use Rattle.base.specs.Reading.{when}
 use Rattle.base.proofs.Parts.{bytes_drop, bytes_take}
 use Rattle.base.proofs.Tests.{below}
-use Rattle.header.specs.declared.Kind.{Kind}
-use Rattle.header.specs.declared.Kind.TheVariants.{Psf1, Psf2, Vfont2}
 use Rattle.header.specs.declared.Font.{Font}
 use Rattle.header.specs.Meaning.{row_bytes}
 use Rattle.header.specs.Bounds.{Placed}
@@ -36,7 +34,6 @@ use Rattle.glyphs.proofs.Metrics.{equal_exactly}
 use Rattle.glyphs.proofs.Cases.{same_sizes, other_metrics, same_metrics, glyph_kind_lem}
 use Rattle.stages.specs.Reading.{check_of}
 use Rattle.content.specs.Meaning.{Drawing, bitmap_in, Draws, SameDrawing}
-use Rattle.content.proofs.Evens.{le16_small}
 use Rattle.content.proofs.Found.{glyph_found, glyph_missing}
 use Rattle.content.proofs.Same.{pixel_within}
 use Rattle.content.proofs.Source.{is_placed}

@@ -59,6 +59,7 @@ not_bare false n = absurd (n refl)
 found : {A N : Type 0} {P : A → Type 0} {n : ℕ} (x : Said A) → ((v : A) × P v) ⊎ N → (N → x ≡ refuses n 0) → ((v : A) → P v → x ≡ gives v) → Exact x (Row N n 0 (Gives P))
 found x (inr z) f g = row (inl z) f (λ m. absurd (m z))
 found x (inl (v, p)) f g = row (inr (λ z. no_refusal_lem (sym (g v p) ∙ f z))) f (λ m. is_some x (v, p) g)
+
 -- a walk or a lookup found what has P, or nothing
 found_or : {A N : Type 0} {P : A → Type 0} (w : Option A) → ((v : A) → (w ≡ Some v) ↔ P v) → (w ≡ None) ↔ N → ((v : A) × P v) ⊎ N
 found_or (Some v) m o = inl (v, (m v).0 refl)

@@ -8,7 +8,6 @@ use mathlib.Core.List.{List, [], ◌∷◌, ◌++◌, append-nil}
 use Prim.Native.Nat.{ℕ, ◌≤◌, ◌<◌}
 use native.Mathlib.Omega.{arith}
 use Rattle.header.specs.declared.Font.{Font}
-use Rattle.refusal.specs.declared.Refusal.{Refusal}
 use Rattle.refusal.specs.declared.Reason.TheVariants.{Late}
 use Rattle.refusal.specs.Meaning.{refusal}
 use Rattle.stages.specs.Reading.{check_of}
@@ -22,7 +21,7 @@ use Rattle.laws.proofs.Pieces.{fed_twice, stays_open}
 use Rattle.laws.proofs.Loaded.{loaded, fresh_open, fresh_kept, fresh_empty}
 use Rattle.laws.proofs.Refusals.{not_both}
 use Rattle.laws.proofs.Early.{Early, early_answer}
-use Rattle.std.specs.Prelude.{Ok, Err, Result}
+use Rattle.std.specs.Prelude.{Ok, Err}
 
 -- pieces after a first one are one piece with it
 with_first : (l : Loader) (p : List ℕ) (ps : List (List ℕ)) → is_open l ≡ true → Kept l.held → fed_all (fed_of l p) ps ≡ fed_of l (p ++ together ps)

@@ -1,5 +1,5 @@
 -- Numbers as digits: one digit, or the digits of the number divided and one more; how many there are.
-use mathlib.Core.Path.{◌≡◌, refl, ◌∙◌, ap, subst}
+use mathlib.Core.Path.{◌≡◌, refl, ◌∙◌, ap}
 use mathlib.Core.Logic.{◌⊎◌, inl, inr}
 use mathlib.Core.List.{List, [], ◌∷◌, ◌++◌}
 use Prim.Native.Nat.{ℕ, zero, suc, ◌+◌, ◌*◌, ◌/◌, ◌%◌, ◌≤◌, ◌<◌}
@@ -10,7 +10,6 @@ use lib.ListN.{length, length-append}
 use borrow.Author.Tests.{lt-ltb, le-ltb}
 use Rattle.base.specs.Meaning.{pick}
 use Rattle.base.proofs.Tests.{below}
-use Rattle.base.specs.Reading.{over}
 use Rattle.text.specs.Meaning.{number_text}
 use Rattle.text.specs.Reading.{digit_of, digits, numeral}
 

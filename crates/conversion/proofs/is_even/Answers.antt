@@ -2,7 +2,6 @@
 use Rattle.conversion.proofs.Cases as cases
 use mathlib.Core.Path.{◌∙◌}
 use native.Mathlib.Omega.{arith}
-use borrow.Author.Rules.{rules}
 use Rattle.conversion.proofs.is_even.Goals as goal
 
 pub returns-then-get32-eq0 : goal.returns-then-get32-eq0
