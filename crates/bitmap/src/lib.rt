@@ -53,8 +53,8 @@ fn entry_located(file: &[u8], f: Font, g: usize, at: usize) -> Result<Bitmap, Re
     match e {
         Entry::Empty => Err(refusal::refuse(Reason::NoGlyph, 0)),
         Entry::Glyph(rows, cols) => Ok(Bitmap {
-            start: f.bitmaps + base::size(base::get32(file, at)),
-            len: base::size(base::get32(file, at + 4)),
+            start: f.bitmaps + base::get32(file, at) as usize,
+            len: base::get32(file, at + 4) as usize,
             height: rows,
             width: cols,
         }),
@@ -177,8 +177,8 @@ fn even_metrics(height: usize, width: usize) -> Metrics
     }
 }
 
-// Glyph g's metrics, by the font's kind. Asks for one of the font's glyphs.
-fn kind_metrics(file: &[u8], f: Font, g: usize) -> Metrics
+// Glyph g's metrics, by the font's kind, those of its entry where it has no bitmap. Asks for one of the font's glyphs.
+pub fn kind_metrics(file: &[u8], f: Font, g: usize) -> Metrics
     requires { Placed file.now f × (g < f.count) }
     ensures { result ≡ kind_metrics file.now f g f.kind }
 {

@@ -120,7 +120,7 @@ fn is_even(file: &[u8], height: usize, width: usize, at: usize) -> bool
     if base::get32(file, at + 4) == 0 {
         return false;
     }
-    if base::size(base::get16(file, at + 8)) != height {
+    if base::get16(file, at + 8) as usize != height {
         return false;
     }
     if base::get16(file, at + 10) != 0 {
@@ -129,10 +129,10 @@ fn is_even(file: &[u8], height: usize, width: usize, at: usize) -> bool
     if base::get16(file, at + 12) != 0 {
         return false;
     }
-    if base::size(base::get16(file, at + 14)) != width {
+    if base::get16(file, at + 14) as usize != width {
         return false;
     }
-    base::size(base::get16(file, at + 16)) == width
+    base::get16(file, at + 16) as usize == width
 }
 
 // The first of n entries of the table that begins at `start` that is not even. Asks that they stand in the file.

@@ -75,7 +75,7 @@ pub fn rows_at(file: &[u8], at: usize) -> usize
     requires { at + 18 ≤ length file.now }
     ensures { (result ≡ rows_at file.now at) × (result < 65536) }
 {
-    base::size(span(base::get16(file, at + 8), base::get16(file, at + 10)))
+    span(base::get16(file, at + 8), base::get16(file, at + 10)) as usize
 }
 
 // The columns of the entry at `at`. Asks that the entry stands in the file: each caller has tested the length.
@@ -83,7 +83,7 @@ pub fn cols_at(file: &[u8], at: usize) -> usize
     requires { at + 18 ≤ length file.now }
     ensures { (result ≡ cols_at file.now at) × (result < 65536) }
 {
-    base::size(span(base::get16(file, at + 12), base::get16(file, at + 14)))
+    span(base::get16(file, at + 12), base::get16(file, at + 14)) as usize
 }
 
 // What the entry at `at` says, where the bitmaps have `total` bytes. Asks that the entry stands in the file: each caller has
@@ -92,7 +92,7 @@ pub fn entry_at(file: &[u8], total: usize, at: usize) -> Entry
     requires { at + 18 ≤ length file.now }
     ensures { result ≡ entry_of file.now total at }
 {
-    let size = base::size(base::get32(file, at + 4));
+    let size = base::get32(file, at + 4) as usize;
     if size == 0 {
         return Entry::Empty;
     }
@@ -113,7 +113,7 @@ pub fn entry_at(file: &[u8], total: usize, at: usize) -> Entry
     if size != header::glyph_bytes(rows, cols) {
         return Entry::Broken;
     }
-    let address = base::size(base::get32(file, at));
+    let address = base::get32(file, at) as usize;
     if total < address + size {
         return Entry::Broken;
     }

@@ -14,9 +14,10 @@ use Rattle.bitmap.specs.declared.Bitmap.{Bitmap}
 use Rattle.bitmap.specs.Reading.{bitmap_of}
 use Rattle.bitmap.specs.Bounds.{Inside}
 use Rattle.pixels.specs.Reading.{same_pixels}
-use Rattle.glyphs.specs.declared.Words.{Words}
-use Rattle.glyphs.specs.Reading.{words_of, same_words, bytes_of, pixel_kind, located_kind, glyph_kind}
-use Rattle.glyphs.proofs.Metrics.{rows_of, cols_of, same_words_lem, located_sizes}
+use Rattle.entries.specs.declared.Metrics.{Metrics}
+use Rattle.bitmap.specs.Meaning.{kind_metrics}
+use Rattle.glyphs.specs.Reading.{equal_metrics, bytes_of, pixel_kind, located_kind, glyph_kind}
+use Rattle.glyphs.proofs.Metrics.{rows_of, cols_of, equal_exactly, located_sizes}
 use Rattle.std.specs.Prelude.{Result, Ok}
 use Rattle.refusal.specs.declared.Refusal.{Refusal}
 
@@ -46,25 +47,25 @@ module _ (s : List ℕ) (p : Bitmap) (o : List ℕ) (q : Bitmap) (t : Bool) (r :
   some_pixel e = let z = read ∙ e in rw z
 
 -- a glyph that both fonts draw
-module _ (s : List ℕ) (f : Font) (o : List ℕ) (h : Font) (g : ℕ) (p q : Bitmap) (v w : Words) (ev : v ≡ words_of s f g f.kind) (ew : w ≡ words_of o h g h.kind) where
-  known_words : same_words v w ≡ same_words (words_of s f g f.kind) (words_of o h g h.kind)
-  known_words = λ i. same_words (ev i) (ew i)
+module _ (s : List ℕ) (f : Font) (o : List ℕ) (h : Font) (g : ℕ) (p q : Bitmap) (v w : Metrics) (ev : v ≡ kind_metrics s f g f.kind) (ew : w ≡ kind_metrics o h g h.kind) where
+  known_metrics : equal_metrics v w ≡ equal_metrics (kind_metrics s f g f.kind) (kind_metrics o h g h.kind)
+  known_metrics = λ i. equal_metrics (ev i) (ew i)
 
-  pub other_metrics : same_words v w ≡ false → 3 ≡ located_kind s f o h g (Ok p) (Ok q)
+  pub other_metrics : equal_metrics v w ≡ false → 3 ≡ located_kind s f o h g (Ok p) (Ok q)
   unfolding when
-  other_metrics e = let z = sym known_words ∙ e in rw z
+  other_metrics e = let z = sym known_metrics ∙ e in rw z
 
-  pub same_metrics : (k : ℕ) → same_words v w ≡ true → k ≡ pixel_kind s p o q → k ≡ located_kind s f o h g (Ok p) (Ok q)
+  pub same_metrics : (k : ℕ) → equal_metrics v w ≡ true → k ≡ pixel_kind s p o q → k ≡ located_kind s f o h g (Ok p) (Ok q)
   unfolding when
-  same_metrics k e r = let z = sym known_words ∙ e in rw z r
+  same_metrics k e r = let z = sym known_metrics ∙ e in rw z r
 
   -- with the same metrics it has the same rows and columns
-  pub same_sizes : Placed s f → Placed o h → g < f.count → g < h.count → bitmap_of s f g ≡ Ok p → bitmap_of o h g ≡ Ok q → same_words v w ≡ true →
+  pub same_sizes : Placed s f → Placed o h → g < f.count → g < h.count → bitmap_of s f g ≡ Ok p → bitmap_of o h g ≡ Ok q → equal_metrics v w ≡ true →
       (p.height ≡ q.height) × (p.width ≡ q.width)
   same_sizes ls lo bs bo ep eq e =
       let m = located_sizes s f g ls bs p ep in
       let n = located_sizes o h g lo bo q eq in
-      let z : words_of s f g f.kind ≡ words_of o h g h.kind = sym ev ∙ same_words_lem v w e ∙ ew in
+      let z : kind_metrics s f g f.kind ≡ kind_metrics o h g h.kind = sym ev ∙ (equal_exactly v w).0 e ∙ ew in
       (m.0 ∙ ap rows_of z ∙ sym n.0, m.1 ∙ ap cols_of z ∙ sym n.1)
 
 -- what was located

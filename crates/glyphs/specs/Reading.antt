@@ -1,37 +1,21 @@
--- How glyph g of two fonts differs: its metrics, as the numbers of 16 bits that a vfont2 entry has, and its pixels.
-use Rattle.std.specs.Prelude.{ℕ, ◌+◌, Bool, false, List, eqb, take, drop, Result, Ok, Err, Option, Some, None}
-use Rattle.base.specs.Meaning.{le16}
+-- How glyph g of two fonts differs: its metrics, and its pixels.
+use Rattle.std.specs.Prelude.{ℕ, Bool, ◌&&◌, List, take, drop, Result, Ok, Err, Option, Some, None}
+use Rattle.std.specs.Ordering.{int_eq}
 use Rattle.base.specs.Reading.{when}
-use Rattle.header.specs.declared.Kind.{Kind}
-use Rattle.header.specs.declared.Kind.TheVariants.{Psf1, Psf2, Vfont2}
 use Rattle.header.specs.declared.Font.{Font}
-use Rattle.entries.specs.Meaning.{entry_at}
+use Rattle.entries.specs.declared.Metrics as M
 use Rattle.bitmap.specs.declared.Bitmap.{Bitmap}
+use Rattle.bitmap.specs.Meaning.{kind_metrics}
 use Rattle.bitmap.specs.Reading.{bitmap_of}
 use Rattle.pixels.specs.Reading.{same_pixels}
-use Rattle.glyphs.specs.declared.Words.{Words}
 use Rattle.glyphs.specs.declared.Difference.{Difference}
 use Rattle.glyphs.specs.declared.Difference.TheVariants.{First, Second, Metrics, Pixels, Items, Table}
 use Rattle.refusal.specs.declared.Refusal.{Refusal}
 
--- "(height, 0, 0, width, width)"
-abbrev pub even_words : ℕ → ℕ → Words
-even_words h w = record { up = h; down = 0; left = 0; right = w; logical = w }
-
--- the entry's own
-abbrev pub entry_words : List ℕ → ℕ → Words
-entry_words s at = record { up = le16 s (at + 8); down = le16 s (at + 10); left = le16 s (at + 12); right = le16 s (at + 14); logical = le16 s (at + 16) }
-
--- glyph g's
-abbrev pub words_of : List ℕ → Font → ℕ → Kind → Words
-words_of s f g Psf1 = even_words f.height f.width
-words_of s f g Psf2 = even_words f.height f.width
-words_of s f g Vfont2 = entry_words s (entry_at f.entries g)
-
 -- whether two glyphs have the same metrics
-unfoldable pub same_words : Words → Words → Bool
-same_words a b =
-    when (eqb a.up b.up) (when (eqb a.down b.down) (when (eqb a.left b.left) (when (eqb a.right b.right) (eqb a.logical b.logical) false) false) false) false
+unfoldable pub equal_metrics : M.Metrics → M.Metrics → Bool
+equal_metrics a b =
+    int_eq a.up b.up && (int_eq a.down b.down && (int_eq a.left b.left && (int_eq a.right b.right && int_eq a.logical b.logical)))
 
 -- a bitmap's bytes
 abbrev pub bytes_of : List ℕ → Bitmap → List ℕ
@@ -43,7 +27,7 @@ pixel_kind s p o q = when (same_pixels (bytes_of s p) (bytes_of o q) p.height p.
 
 -- 3: "metrics differ or just one has no glyph"; "two missing glyphs agree"
 abbrev pub located_kind : List ℕ → Font → List ℕ → Font → ℕ → Result Bitmap Refusal → Result Bitmap Refusal → ℕ
-located_kind s f o h g (Ok p) (Ok q) = when (same_words (words_of s f g f.kind) (words_of o h g h.kind)) (pixel_kind s p o q) 3
+located_kind s f o h g (Ok p) (Ok q) = when (equal_metrics (kind_metrics s f g f.kind) (kind_metrics o h g h.kind)) (pixel_kind s p o q) 3
 located_kind s f o h g (Ok p) (Err r) = 3
 located_kind s f o h g (Err r) (Ok q) = 3
 located_kind s f o h g (Err r) (Err r') = 0

@@ -93,14 +93,14 @@ pub fn head_of(file: &[u8], fixed: usize) -> Result<Fields, Refusal>
     if 1 < flags {
         return Err(refusal::refuse(Reason::Version, 12));
     }
-    let header = base::size(base::get32(file, 8));
+    let header = base::get32(file, 8) as usize;
     if header < fixed {
         return Err(refusal::refuse(Reason::HeaderSize, 8));
     }
     if 4096 < header {
         return Err(refusal::refuse(Reason::HeaderSize, 8));
     }
-    let count = base::size(base::get32(file, 16));
+    let count = base::get32(file, 16) as usize;
     if count == 0 {
         return Err(refusal::refuse(Reason::Count, 16));
     }
@@ -110,9 +110,9 @@ pub fn head_of(file: &[u8], fixed: usize) -> Result<Fields, Refusal>
     Ok(Fields {
         header: header,
         count: count,
-        size: base::size(base::get32(file, 20)),
-        height: base::size(base::get32(file, 24)),
-        width: base::size(base::get32(file, 28)),
+        size: base::get32(file, 20) as usize,
+        height: base::get32(file, 24) as usize,
+        width: base::get32(file, 28) as usize,
         table: flags == 1,
     })
 }

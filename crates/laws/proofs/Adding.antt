@@ -22,10 +22,11 @@ use Rattle.mapping.proofs.Changing.{length_changed, readable_added, added_droppe
 use Rattle.mapping.proofs.Places.{Hole, Gap}
 use Rattle.mapping.proofs.Looking.{lower_of, added_other, sequence_same, added_value}
 use Rattle.edit.specs.Reading.{add_into, drop_answer, drop_into}
-use Rattle.laws.specs.Meaning.{gives, refuses, lookup_says, Edits}
+use Rattle.laws.specs.Meaning.{gives, refuses, says, Edits}
+use Rattle.laws.proofs.Exactly.{given_same, no_refusal_lem}
 use Rattle.laws.proofs.Converting.{rest_is}
 use Rattle.laws.proofs.Retabled.{over_front, over_over, Editable, same_front, new_tail, new_sound, edits, value_moved, sequence_moved, old_value, new_value}
-use Rattle.laws.proofs.Editing.{given_length, no_refusal_lem, scalar_value, either_way, drops, drops_into, adds_into, AddGood, longer_by}
+use Rattle.laws.proofs.Editing.{scalar_value, either_way, drops, drops_into, adds_into, AddGood, longer_by}
 use Rattle.std.specs.Prelude.{Ok, Option, Some, None}
 
 -- a good add: what the buffer holds then
@@ -83,17 +84,17 @@ module _ (xs : List ℕ) (y : Bytes xs) (len g v n : ℕ) (r : AddGood xs y len 
       new_value xs y len g v ds a (with_single v) values n out laid long small room
       ∙ ap lookup_of (added_value g ds v (let l = a.low in omega (arith, a.count)))
 
-  pub add_mapped : (h : ℕ) → lookup_says (value_glyph old v) ≡ gives h → lookup_says (value_glyph (take n out) v) ≡ gives (min g h)
-  add_mapped h e = ap lookup_says add_value ∙ go (find_value v 0 (items ds)) (sym (ap lookup_says (old_value xs y len g v ds a (with_single v) values n out laid long small room)) ∙ e)
+  pub add_mapped : (h : ℕ) → says (value_glyph old v) ≡ gives h → says (value_glyph (take n out) v) ≡ gives (min g h)
+  add_mapped h e = ap says add_value ∙ go (find_value v 0 (items ds)) (sym (ap says (old_value xs y len g v ds a (with_single v) values n out laid long small room)) ∙ e)
     where
-      go : (x : Option ℕ) → lookup_says (lookup_of x) ≡ gives h → gives (lower_of g x) ≡ gives (min g h)
-      go (Some j) q = let z : j ≡ h = given_length q in ap (λ (k : ℕ). gives (min g k)) z
+      go : (x : Option ℕ) → says (lookup_of x) ≡ gives h → gives (lower_of g x) ≡ gives (min g h)
+      go (Some j) q = let z : j ≡ h = given_same q in ap (λ (k : ℕ). gives (min g k)) z
       go None q = no_refusal_lem (sym q)
 
-  pub add_unmapped : lookup_says (value_glyph old v) ≡ refuses 15 0 → lookup_says (value_glyph (take n out) v) ≡ gives g
-  add_unmapped e = ap lookup_says add_value ∙ go (find_value v 0 (items ds)) (sym (ap lookup_says (old_value xs y len g v ds a (with_single v) values n out laid long small room)) ∙ e)
+  pub add_unmapped : says (value_glyph old v) ≡ refuses 15 0 → says (value_glyph (take n out) v) ≡ gives g
+  add_unmapped e = ap says add_value ∙ go (find_value v 0 (items ds)) (sym (ap says (old_value xs y len g v ds a (with_single v) values n out laid long small room)) ∙ e)
     where
-      go : (x : Option ℕ) → lookup_says (lookup_of x) ≡ refuses 15 0 → gives (lower_of g x) ≡ gives g
+      go : (x : Option ℕ) → says (lookup_of x) ≡ refuses 15 0 → gives (lower_of g x) ≡ gives g
       go (Some j) q = no_refusal_lem q
       go None q = refl
 

@@ -6,34 +6,34 @@ use mathlib.Core.Option.{Option, none, some}
 use mathlib.Core.List.{List}
 use Prim.Native.Nat.{ℕ, ◌+◌, ◌-◌, ◌*◌, ◌/◌, ◌%◌, ◌≤◌, ◌<◌}
 use native.Mathlib.Omega.{arith}
+use lib.Dec.{eqb}
 use lib.IntN.{pos, negsuc}
+use borrow.Author.Tests.{eq-eqb, ne_eqb}
+use Rattle.std.specs.Ordering.{int_eq}
+use Rattle.std.proofs.lemmas.Bool.Decides.{Decides-int_eq, not_from_Decides}
 use lib.ListN.{get_or, drop}
 use Rattle.base.specs.Meaning.{Bytes}
 use Rattle.base.specs.Reading.{when}
 use Rattle.base.proofs.Parts.{bytes_drop, bytes_take}
 use Rattle.base.proofs.Tests.{below}
-use Rattle.header.specs.declared.Kind.{Kind}
-use Rattle.header.specs.declared.Kind.TheVariants.{Psf1, Psf2, Vfont2}
 use Rattle.header.specs.declared.Font.{Font}
 use Rattle.header.specs.Meaning.{row_bytes}
 use Rattle.header.specs.Bounds.{Placed}
 use Rattle.entries.specs.declared.Metrics.{Metrics}
-use Rattle.entries.specs.Meaning.{signed16, metrics_at, entry_at}
+use Rattle.entries.specs.Meaning.{signed16}
 use Rattle.entries.proofs.Sums.{low, high}
 use Rattle.bitmap.specs.declared.Bitmap.{Bitmap}
-use Rattle.bitmap.specs.Meaning.{even_metrics, kind_metrics, bit_of, pixel_in}
+use Rattle.bitmap.specs.Meaning.{kind_metrics, bit_of, pixel_in}
 use Rattle.bitmap.specs.Reading.{bitmap_of}
 use Rattle.bitmap.specs.Bounds.{Inside, LocatedInside}
 use Rattle.bitmap.proofs.Places.{located_inside}
 use Rattle.pixels.specs.Reading.{pixel_at, same_pixels}
 use Rattle.pixels.proofs.Meaning.{same_all, differ_some}
-use Rattle.glyphs.specs.declared.Words.{Words}
-use Rattle.glyphs.specs.Reading.{even_words, words_of, same_words, bytes_of, pixel_kind, glyph_kind}
-use Rattle.glyphs.proofs.Metrics.{same_words_lem, words_same}
+use Rattle.glyphs.specs.Reading.{equal_metrics, bytes_of, pixel_kind, glyph_kind}
+use Rattle.glyphs.proofs.Metrics.{equal_exactly}
 use Rattle.glyphs.proofs.Cases.{same_sizes, other_metrics, same_metrics, glyph_kind_lem}
 use Rattle.stages.specs.Reading.{check_of}
 use Rattle.content.specs.Meaning.{Drawing, bitmap_in, Draws, SameDrawing}
-use Rattle.content.proofs.Evens.{le16_small}
 use Rattle.content.proofs.Found.{glyph_found, glyph_missing}
 use Rattle.content.proofs.Same.{pixel_within}
 use Rattle.content.proofs.Source.{is_placed}
@@ -41,12 +41,8 @@ use Rattle.content.proofs.Stretches.{byte_of_part}
 use Rattle.laws.specs.Meaning.{OtherMetrics, OtherPixels}
 use Rattle.std.specs.Prelude.{Ok}
 
--- metrics as the numbers of 16 bits that stand for them
-abbrev as_metrics : Words → Metrics
-as_metrics w = record { up = signed16 w.up; down = signed16 w.down; left = signed16 w.left; right = signed16 w.right; logical = signed16 w.logical }
-
--- a signed number has one such number
-signed_same : (x y : ℕ) → x < 65536 → y < 65536 → signed16 x ≡ signed16 y → x ≡ y
+-- a signed number of 16 bits has one number of two bytes
+pub signed_same : (x y : ℕ) → x < 65536 → y < 65536 → signed16 x ≡ signed16 y → x ≡ y
 signed_same x y bx by e = go (below x 32768) (below y 32768)
   where
     go : (x < 32768) ⊎ (32768 ≤ x) → (y < 32768) ⊎ (32768 ≤ y) → x ≡ y
@@ -55,39 +51,13 @@ signed_same x y bx by e = go (below x 32768) (below y 32768)
     go (inr a) (inl b) = let q : negsuc (65535 - x) ≡ pos y = sym (high x a bx) ∙ e ∙ low y b in let z : ◌≡◌ {A = ℕ} 0 1 = cc in absurd (omega arith)
     go (inr a) (inr b) = let q : negsuc (65535 - x) ≡ negsuc (65535 - y) = sym (high x a bx) ∙ e ∙ high y b by in let z : 65535 - x ≡ 65535 - y = cc in omega arith
 
-abbrev Small : Words → Type 0
-Small w = (w.up < 65536) × (w.down < 65536) × (w.left < 65536) × (w.right < 65536) × (w.logical < 65536)
-
-metrics_words : (a b : Words) → Small a → Small b → as_metrics a ≡ as_metrics b → a ≡ b
-metrics_words a b p q e = λ i. record {
-  up = signed_same a.up b.up p.0 q.0 (ap (λ (m : Metrics). m.up) e) i;
-  down = signed_same a.down b.down p.1 q.1 (ap (λ (m : Metrics). m.down) e) i;
-  left = signed_same a.left b.left p.2 q.2 (ap (λ (m : Metrics). m.left) e) i;
-  right = signed_same a.right b.right p.3 q.3 (ap (λ (m : Metrics). m.right) e) i;
-  logical = signed_same a.logical b.logical p.4 q.4 (ap (λ (m : Metrics). m.logical) e) i;
-}
-
--- a font's glyph
-module _ (s : List ℕ) (f : Font) (y : Bytes s) (p : Placed s f) (g : ℕ) where
-  even : (h w : ℕ) → h ≤ 255 → w ≤ 255 → even_metrics h w ≡ as_metrics (even_words h w)
-  even h w a b = λ i. record {
-    up = sym (low h (omega arith)) i;
-    down = sym (low 0 (omega arith)) i;
-    left = sym (low 0 (omega arith)) i;
-    right = sym (low w (omega arith)) i;
-    logical = sym (low w (omega arith)) i;
-  }
-
-  words_are : (k : Kind) → kind_metrics s f g k ≡ as_metrics (words_of s f g k)
-  unfolding metrics_at
-  words_are Psf1 = even f.height f.width p.3 p.4
-  words_are Psf2 = even f.height f.width p.3 p.4
-  words_are Vfont2 = refl
-
-  small : (k : Kind) → Small (words_of s f g k)
-  small Psf1 = (omega (arith, p.3), omega arith, omega arith, omega (arith, p.4), omega (arith, p.4))
-  small Psf2 = (omega (arith, p.3), omega arith, omega arith, omega (arith, p.4), omega (arith, p.4))
-  small Vfont2 = let at = entry_at f.entries g in (le16_small s y (at + 8), le16_small s y (at + 10), le16_small s y (at + 12), le16_small s y (at + 14), le16_small s y (at + 16))
+-- so metrics are the same exactly where the numbers of their entries are
+pub signed_agree : (x y : ℕ) → x < 65536 → y < 65536 → int_eq (signed16 x) (signed16 y) ≡ eqb x y
+signed_agree x y bx by = go (int_eq (signed16 x) (signed16 y)) refl
+  where
+    go : (t : Bool) → int_eq (signed16 x) (signed16 y) ≡ t → t ≡ eqb x y
+    go true q = sym (eq-eqb x y (signed_same x y bx by ((Decides-int_eq (signed16 x) (signed16 y)).0 q)))
+    go false q = sym (ne_eqb x y (λ e. not_from_Decides _ (Decides-int_eq (signed16 x) (signed16 y)) q (ap signed16 e)))
 
 -- a pixel of a bitmap in its file is one of its bytes
 pixel_there : (s : List ℕ) (b : Bitmap) (w : ℕ) → Inside s b → b.width ≡ w → (y x : ℕ) → y < b.height → x < b.width → pixel_at (bytes_of s b) w y x ≡ pixel_in s b y x
@@ -136,25 +106,24 @@ module _ (s : List ℕ) (f : Font) (ys : Bytes s) (es : check_of s ≡ Ok f) (o 
     inside_q : Inside o q
     inside_q = subst (LocatedInside o) found_q (located_inside o h g po lo)
 
-    abbrev v : Words
-    v = words_of s f g f.kind
+    abbrev v : Metrics
+    v = kind_metrics s f g f.kind
 
-    abbrev w : Words
-    w = words_of o h g h.kind
+    abbrev w : Metrics
+    w = kind_metrics o h g h.kind
 
     -- metrics
-    agree : same_words v w ≡ true → d.metrics ≡ e.metrics
-    agree t = sym a.1 ∙ words_are s f ys ps g f.kind ∙ ap as_metrics (same_words_lem v w t) ∙ sym (words_are o h yo po g h.kind) ∙ b.1
+    agree : equal_metrics v w ≡ true → d.metrics ≡ e.metrics
+    agree t = sym a.1 ∙ (equal_exactly v w).0 t ∙ b.1
 
-    disagree : same_words v w ≡ false → d.metrics ≡ e.metrics → ⊥
+    disagree : equal_metrics v w ≡ false → d.metrics ≡ e.metrics → ⊥
     disagree t m =
-        let z : as_metrics v ≡ as_metrics w = sym (words_are s f ys ps g f.kind) ∙ a.1 ∙ m ∙ sym b.1 ∙ words_are o h yo po g h.kind in
-        let r : false ≡ true = sym t ∙ words_same v w (metrics_words v w (small s f ys ps g f.kind) (small o h yo po g h.kind) z) in
+        let r : false ≡ true = sym t ∙ (equal_exactly v w).1 (a.1 ∙ m ∙ sym b.1) in
         let n : ◌≡◌ {A = ℕ} 0 1 = cc in
         omega arith
 
     -- pixels, where the metrics agree
-    module _ (t : same_words v w ≡ true) where
+    module _ (t : equal_metrics v w ≡ true) where
       sizes : (p.height ≡ q.height) × (p.width ≡ q.width)
       sizes = same_sizes s f o h g p q v w refl refl ps po ls lo found_p found_q t
 
@@ -187,16 +156,16 @@ module _ (s : List ℕ) (f : Font) (ys : Bytes s) (es : check_of s ≡ Ok f) (o 
           let lx : n.1 < d.columns = omega (arith, n.3, a.3) in
           by_pixels (rw z) (agree t, (n.0, n.1, ly, lx, λ m. n.4 (here n.0 n.1 ly lx ∙ m ∙ sym (there n.0 n.1 ly lx))))
 
-    by_words : (t : Bool) → same_words v w ≡ t → Compares (glyph_kind s f o h g) (some d) (some e)
-    by_words true t =
+    by_equal : (t : Bool) → equal_metrics v w ≡ t → Compares (glyph_kind s f o h g) (some d) (some e)
+    by_equal true t =
         subst (λ (k : ℕ). Compares k (some d) (some e))
         (glyph_kind_lem s f o h g (pixel_kind s p o q) _ _ found_p found_q (same_metrics s f o h g p q v w refl refl (pixel_kind s p o q) t refl))
         (by_bytes t (same_pixels (bytes_of s p) (bytes_of o q) p.height p.width) refl)
-    by_words false t =
+    by_equal false t =
         by_metrics (sym (glyph_kind_lem s f o h g 3 _ _ found_p found_q (other_metrics s f o h g p q v w refl refl t))) (disagree t)
 
     both_drawn : Compares (glyph_kind s f o h g) (some d) (some e)
-    both_drawn = by_words (same_words v w) refl
+    both_drawn = by_equal (equal_metrics v w) refl
 
   -- whatever they draw
   pub compared : (x z : Option Drawing) → Draws s f g x → Draws o h g z → Compares (glyph_kind s f o h g) x z

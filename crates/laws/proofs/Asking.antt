@@ -15,7 +15,7 @@ use Rattle.refusal.specs.declared.Refusal.{Refusal}
 use Rattle.table.specs.declared.Item.{Item}
 use Rattle.table.specs.Meaning.{Desc, encode, Readable}
 use Rattle.lookup.specs.Reading.{item_at, find_value, find_sequence}
-use Rattle.lookup.specs.Meaning.{Any, ListsValue, ListsSequence, Lowest, Nowhere, ItemIs}
+use Rattle.lookup.specs.Meaning.{Any}
 use Rattle.lookup.proofs.Meaning as looked
 use Rattle.header.specs.declared.Font.{Font}
 use Rattle.stages.specs.Meaning.{coding_of, tail_of}
@@ -24,8 +24,8 @@ use Rattle.questions.specs.Reading.{font_items, walk_of, lookup_of, any_high, as
 use Rattle.content.specs.Meaning.{Describes}
 use Rattle.content.proofs.Tails.{Tail, tail_known}
 use Rattle.fonts.specs.Reading.{item_of, value_glyph, sequence_glyph}
-use Rattle.laws.specs.Meaning.{Exact, Said, gives, refuses, walk_says, lookup_says, Row, Gives, ItemRows, ValueRows, SequenceRows}
-use Rattle.laws.proofs.Exactly.{row, own_first, reading_of, is_some, less}
+use Rattle.laws.specs.Meaning.{Exact, Said, gives, refuses, says, Row, Gives, ItemRows, ValueRows, SequenceRows}
+use Rattle.laws.proofs.Exactly.{no_refusal_lem, row, handed_own, own_first, reading_of, is_some, less}
 use Rattle.std.specs.Prelude.{Result, Ok, Err, Option, Some, None}
 
 -- the reading of a sound font
@@ -58,10 +58,12 @@ not_bare false n = absurd (n refl)
 -- the end of a chain: nothing is found, or what is found is given
 found : {A N : Type 0} {P : A → Type 0} {n : ℕ} (x : Said A) → ((v : A) × P v) ⊎ N → (N → x ≡ refuses n 0) → ((v : A) → P v → x ≡ gives v) → Exact x (Row N n 0 (Gives P))
 found x (inr z) f g = row (inl z) f (λ m. absurd (m z))
-found {A} {N} {P} {n} x (inl (v, p)) f g = row (inr (λ z. never (sym (g v p) ∙ f z))) f (λ m. is_some x (v, p) g)
-  where
-    never : gives v ≡ refuses n 0 → ⊥
-    never e = let z : ◌≡◌ {A = ℕ} 0 1 = cc in omega arith
+found x (inl (v, p)) f g = row (inr (λ z. no_refusal_lem (sym (g v p) ∙ f z))) f (λ m. is_some x (v, p) g)
+
+-- a walk or a lookup found what has P, or nothing
+found_or : {A N : Type 0} {P : A → Type 0} (w : Option A) → ((v : A) → (w ≡ Some v) ↔ P v) → (w ≡ None) ↔ N → ((v : A) × P v) ⊎ N
+found_or (Some v) m o = inl (v, (m v).0 refl)
+found_or None m o = inr (o.0 refl)
 
 -- a sequence may not be asked exactly when it is empty or has a value above 10FFFF
 abbrev High : ℕ → Type 0
@@ -170,72 +172,49 @@ module _ (s : List ℕ) (f : Font) (sound : check_of s ≡ Ok f) where
     unfolding sequence_glyph when
     seeks vs h = rw (sound, marked, h)
 
--- the font's own refusal
-module _ (s : List ℕ) (r : Refusal) (refused : check_of s ≡ Err r) where
-  item_own : (g k : ℕ) → item_of s g k ≡ Err r
-  unfolding item_of
-  item_own g k = rw refused
-
-  value_own : (v : ℕ) → value_glyph s v ≡ Err r
-  unfolding value_glyph
-  value_own v = rw refused
-
-  sequence_own : (vs : List ℕ) → sequence_glyph s vs ≡ Err r
-  unfolding sequence_glyph
-  sequence_own vs = rw refused
-
 module _ (s : List ℕ) (y : Bytes s) where
-  pub item_rows : (g k : ℕ) → Exact (walk_says (item_of s g k)) (ItemRows s g k)
+  pub item_rows : (g k : ℕ) → Exact (says (item_of s g k)) (ItemRows s g k)
+  unfolding item_of
   item_rows g k =
-      own_first s (λ r e. ap walk_says (item_own s r e g k)) (λ f e.
-      row (bare_or f.table) (λ t. ap walk_says (item_bare s f e t g k)) (λ n.
+      own_first s (λ r e. ap says (handed_own s r e _)) (λ f e.
+      row (bare_or f.table) (λ t. ap says (item_bare s f e t g k)) (λ n.
       let t = not_bare f.table n in
       reading_of s f (described s f y e) (λ ds d.
       let r = read_as s f y e ds d in
       let m = looked.item_exactly (coding_of f.kind) ds (tail_of s f) r.0 r.1 g k in
       let o = looked.no_item_exactly (coding_of f.kind) ds (tail_of s f) r.0 r.1 g k in
-      found (walk_says (item_of s g k)) (which f ds (item_at g k (font_items s f)) refl m o)
-      (λ u. ap walk_says (walks s f e t g k ∙ ap walk_of (o.1 u)))
-      (λ i h. ap walk_says (walks s f e t g k ∙ ap walk_of ((m i).1 h))))))
-    where
-      which : (f : Font) (ds : List Desc) (w : Option Item) → item_at g k (font_items s f) ≡ w →
-          ((i : Item) → (item_at g k (font_items s f) ≡ Some i) ↔ ItemIs ds g k i) → (item_at g k (font_items s f) ≡ None) ↔ ((i : Item) → ItemIs ds g k i → ⊥) →
-          ((i : Item) × ItemIs ds g k i) ⊎ ((i : Item) → ItemIs ds g k i → ⊥)
-      which f ds (Some i) q m o = inl (i, (m i).0 q)
-      which f ds None q m o = inr (o.0 q)
+      found (says (item_of s g k)) (found_or (item_at g k (font_items s f)) m o)
+      (λ u. ap says (walks s f e t g k ∙ ap walk_of (o.1 u)))
+      (λ i h. ap says (walks s f e t g k ∙ ap walk_of ((m i).1 h))))))
 
-  -- a lookup that found something or nothing
-  looked_up : (P : Desc → Type 0) (ds : List Desc) (w : Option ℕ) → ((g : ℕ) → (w ≡ Some g) ↔ Lowest P 0 ds g) → (w ≡ None) ↔ Nowhere P 0 ds →
-      ((g : ℕ) × Lowest P 0 ds g) ⊎ Nowhere P 0 ds
-  looked_up P ds (Some g) m o = inl (g, (m g).0 refl)
-  looked_up P ds None m o = inr (o.0 refl)
-
-  pub value_rows : (v : ℕ) → Exact (lookup_says (value_glyph s v)) (ValueRows s v)
+  pub value_rows : (v : ℕ) → Exact (says (value_glyph s v)) (ValueRows s v)
+  unfolding value_glyph
   value_rows v =
-      own_first s (λ r e. ap lookup_says (value_own s r e v)) (λ f e.
-      row (bare_or f.table) (λ t. ap lookup_says (value_bare s f e t v)) (λ n.
+      own_first s (λ r e. ap says (handed_own s r e _)) (λ f e.
+      row (bare_or f.table) (λ t. ap says (value_bare s f e t v)) (λ n.
       let t = not_bare f.table n in
-      row (less 0x10FFFF v) (λ h. ap lookup_says (value_high s f e t v h)) (λ l.
+      row (less 0x10FFFF v) (λ h. ap says (value_high s f e t v h)) (λ l.
       let h : v ≤ 0x10FFFF = omega arith in
       reading_of s f (described s f y e) (λ ds d.
       let r = read_as s f y e ds d in
       let m = looked.value_exactly (coding_of f.kind) ds (tail_of s f) r.0 r.1 v in
       let o = looked.no_value_exactly (coding_of f.kind) ds (tail_of s f) r.0 r.1 v in
-      found (lookup_says (value_glyph s v)) (looked_up (ListsValue v) ds (find_value v 0 (font_items s f)) m o)
-      (λ u. ap lookup_says (looks s f e t v h ∙ ap lookup_of (o.1 u)))
-      (λ g u. ap lookup_says (looks s f e t v h ∙ ap lookup_of ((m g).1 u)))))))
+      found (says (value_glyph s v)) (found_or (find_value v 0 (font_items s f)) m o)
+      (λ u. ap says (looks s f e t v h ∙ ap lookup_of (o.1 u)))
+      (λ g u. ap says (looks s f e t v h ∙ ap lookup_of ((m g).1 u)))))))
 
-  pub sequence_rows : (vs : List ℕ) → Exact (lookup_says (sequence_glyph s vs)) (SequenceRows s vs)
+  pub sequence_rows : (vs : List ℕ) → Exact (says (sequence_glyph s vs)) (SequenceRows s vs)
+  unfolding sequence_glyph
   sequence_rows vs =
-      own_first s (λ r e. ap lookup_says (sequence_own s r e vs)) (λ f e.
-      row (bare_or f.table) (λ t. ap lookup_says (sequence_bare s f e t vs)) (λ n.
+      own_first s (λ r e. ap says (handed_own s r e _)) (λ f e.
+      row (bare_or f.table) (λ t. ap says (sequence_bare s f e t vs)) (λ n.
       let t = not_bare f.table n in
-      row (askable_or vs) (λ h. ap lookup_says (sequence_high s f e t vs (unaskable vs h))) (λ l.
+      row (askable_or vs) (λ h. ap says (sequence_high s f e t vs (unaskable vs h))) (λ l.
       let h = is_askable vs l in
       reading_of s f (described s f y e) (λ ds d.
       let r = read_as s f y e ds d in
       let m = looked.sequence_exactly (coding_of f.kind) ds (tail_of s f) r.0 r.1 vs in
       let o = looked.no_sequence_exactly (coding_of f.kind) ds (tail_of s f) r.0 r.1 vs in
-      found (lookup_says (sequence_glyph s vs)) (looked_up (ListsSequence vs) ds (find_sequence vs (font_items s f)) m o)
-      (λ u. ap lookup_says (seeks s f e t vs h ∙ ap lookup_of (o.1 u)))
-      (λ g u. ap lookup_says (seeks s f e t vs h ∙ ap lookup_of ((m g).1 u)))))))
+      found (says (sequence_glyph s vs)) (found_or (find_sequence vs (font_items s f)) m o)
+      (λ u. ap says (seeks s f e t vs h ∙ ap lookup_of (o.1 u)))
+      (λ g u. ap says (seeks s f e t vs h ∙ ap lookup_of ((m g).1 u)))))))

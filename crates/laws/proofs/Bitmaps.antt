@@ -15,7 +15,7 @@ use Rattle.stages.specs.Reading.{check_of}
 use Rattle.content.specs.Meaning.{bitmap_in, NoGlyph}
 use Rattle.content.proofs.Source.{unbroken}
 use Rattle.fonts.specs.Reading.{glyph_part_of, row_part_of, pixel_at, glyph_metrics_of}
-use Rattle.laws.specs.Meaning.{Exact, gives, part_says, pixel_says, metrics_says, GlyphPartRows, RowPartRows, PixelRows, MetricsRows, joined}
+use Rattle.laws.specs.Meaning.{Exact, gives, part_says, says, GlyphPartRows, RowPartRows, PixelRows, MetricsRows, joined}
 use Rattle.laws.proofs.Located.{part_rows, row_rows, pixel_rows, metrics_rows, bitmap_inside, rows_whole, pixel_of_lem}
 use Rattle.std.specs.Prelude.{Ok}
 
@@ -26,10 +26,10 @@ module _ (s : List ℕ) (y : Bytes s) where
   pub row_exactly : (g i : ℕ) → Exact (part_says (row_part_of s g i)) (RowPartRows s g i)
   row_exactly = row_rows s y
 
-  pub pixel_exactly : (g i j : ℕ) → Exact (pixel_says (pixel_at s g i j)) (PixelRows s g i j)
+  pub pixel_exactly : (g i j : ℕ) → Exact (says (pixel_at s g i j)) (PixelRows s g i j)
   pixel_exactly = pixel_rows s y
 
-  pub metrics_exactly : (g : ℕ) → Exact (metrics_says (glyph_metrics_of s g)) (MetricsRows s g)
+  pub metrics_exactly : (g : ℕ) → Exact (says (glyph_metrics_of s g)) (MetricsRows s g)
   metrics_exactly = metrics_rows s y
 
 -- which bytes, rows and columns a glyph has: in PSF1 and PSF2 by the font's numbers, in vfont2 by its entry's
@@ -63,5 +63,5 @@ module _ (s : List ℕ) (y : Bytes s) (f : Font) (sound : check_of s ≡ Ok f) (
 
     -- "Pixels run left to right from the top bit of a row's first byte; 1 is drawn": pixel j of row i is bit j of that row, from the top
     pub pixel_of_row : (i j : ℕ) → i < (bitmap_in s f g f.kind).height → j < (bitmap_in s f g f.kind).width →
-        pixel_says (pixel_at s g i j) ≡ gives (bit_of (get_or (view_of s (row_part_of s g i)) (j / 8) 0) (j % 8))
+        says (pixel_at s g i j) ≡ gives (bit_of (get_or (view_of s (row_part_of s g i)) (j / 8) 0) (j % 8))
     pixel_of_row = pixel_of_lem s y f sound g l n

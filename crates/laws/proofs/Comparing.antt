@@ -24,8 +24,8 @@ use Rattle.differences.specs.Meaning.{numbers}
 use Rattle.differences.specs.Reading.{pairs_of, fitted, compared_with, compared_by, compare_answer, found_with, found_by, differences_of, left_by, compare_into}
 use Rattle.differences.proofs.Pairs.{numbers_length}
 use Rattle.differences.proofs.Cases.{no_room, has_room, pairs_most}
-use Rattle.laws.specs.Meaning.{Exact, gives, refuses, told, Before, Each, Ordered, swapped, compared_says, whose_refusal, CompareRows, Listed}
-use Rattle.laws.proofs.Exactly.{is, row, own_first, less, clash}
+use Rattle.laws.specs.Meaning.{Exact, gives, refuses, Before, Each, Ordered, swapped, compared_says, whose_refusal, CompareRows, Listed}
+use Rattle.laws.proofs.Exactly.{given_same, is, row, own_first, less, clash}
 use Rattle.laws.proofs.Pairing.{In}
 use Rattle.laws.proofs.Differing.{none_exactly, same_self}
 use Rattle.std.specs.Prelude.{Result, Ok, Err}
@@ -154,10 +154,7 @@ module _ (s o xs : List ℕ) where
       room_or_not f h a b (inr l) =
           let q = both_sound s o (length xs) f h a b ∙ sym (has_room (length xs) (length (differences_of s o)) l) in
           let v : gives n ≡ gives (length (differences_of s o)) = sym e ∙ ap compared_says q in
-          (given_same n _ v, subst (Listed (differences_of s o) xs) (sym (left_as (Ok (length (differences_of s o))) q)) (laid (differences_of s o) l))
-        where
-          given_same : (i j : ℕ) → gives i ≡ gives j → i ≡ j
-          given_same i j w = cc
+          (given_same v, subst (Listed (differences_of s o) xs) (sym (left_as (Ok (length (differences_of s o))) q)) (laid (differences_of s o) l))
 
       go : (x z : Result Font Refusal) → check_of s ≡ x → check_of o ≡ z → (n ≡ length (differences_of s o)) × Listed (differences_of s o) xs (compare_into s o xs)
       go (Err r) z a b = absurd (refused_not (First r) (first_refused s o (length xs) r a))
@@ -245,9 +242,6 @@ none_said s ys m a o yo m' b room = (λ e. (none_exactly s ys m a o yo m' b).0 (
     empty [] e = refl
     empty (p ∷ ps) e = absurd (omega arith)
 
-    given_same : (i j : ℕ) → gives i ≡ gives j → i ≡ j
-    given_same i j w = cc
-
     there : compared_says (compare_answer s o room) ≡ gives 0 → differences_of s o ≡ []
     there e = go (below room (2 * length (differences_of s o)))
       where
@@ -257,4 +251,4 @@ none_said s ys m a o yo m' b room = (λ e. (none_exactly s ys m a o yo m' b).0 (
             clash v (λ z. absurd (omega arith))
         go (inr l) =
             let v = sym (ap compared_says (both_sound s o room a.font b.font a.sound b.sound ∙ sym (has_room room (length (differences_of s o)) l))) ∙ e in
-            empty (differences_of s o) (given_same (length (differences_of s o)) 0 v)
+            empty (differences_of s o) (given_same v)

@@ -50,7 +50,8 @@ use Rattle.conversion.proofs.Ready.{psf1_suits}
 use Rattle.convert.specs.Reading.{converted_of, converted_into}
 use Rattle.convert.proofs.Cases.{unprepared, no_room, wrote}
 use Rattle.convert.proofs.Asks.{ready, ready_even, ready_long}
-use Rattle.laws.specs.Meaning.{gives, refuses, converted_says, Keeps, Wrote}
+use Rattle.laws.specs.Meaning.{gives, refuses, says, Keeps, Wrote}
+use Rattle.laws.proofs.Refusals.{not_both}
 use Rattle.laws.proofs.Asking.{described, read_as, item_with, item_asked, value_with, value_asked, sequence_with, sequence_asked}
 use Rattle.laws.proofs.Located.{part_asked, row_asked, pixel_asked, metrics_asked}
 use Rattle.std.specs.Prelude.{Result, Ok, Err}
@@ -360,9 +361,6 @@ keeps_twice s o p f g j k a e b =
       content = λ m h. b.content m (a.content m h);
     }
 
-not_both : {A : Type 0} (x : Result ℕ Refusal) (n : ℕ) (r : Refusal) → x ≡ Ok n → x ≡ Err r → A
-not_both x n r e q = let z : ◌≡◌ {A = ℕ} 0 1 = cc in absurd (omega arith)
-
 -- the front and the rest of a buffer over which something was laid
 front_is : (p xs : List ℕ) (n : ℕ) → length p ≡ n → take n (over p xs) ≡ p
 unfolding over
@@ -416,11 +414,11 @@ module _ (c : Conversion) (s xs : List ℕ) where
         ap (take n) w.2 ∙ front_is (output_of c s w.0) xs n (output_length c s w.0 n y w.1)
 
 -- an answer by what it says
-pub wrote_said : (x : Result ℕ Refusal) (n : ℕ) → converted_says x ≡ gives n → x ≡ Ok n
+pub wrote_said : (x : Result ℕ Refusal) (n : ℕ) → says x ≡ gives n → x ≡ Ok n
 wrote_said (Ok k) n e = let h : k ≡ n = cc in ap Ok h
 wrote_said (Err r) n e = let z : ◌≡◌ {A = ℕ} 0 1 = cc in absurd (omega arith)
 
-pub refused_said : (x : Result ℕ Refusal) (n p : ℕ) → converted_says x ≡ refuses n p → (r : Refusal) × (x ≡ Err r)
+pub refused_said : (x : Result ℕ Refusal) (n p : ℕ) → says x ≡ refuses n p → (r : Refusal) × (x ≡ Err r)
 refused_said (Ok k) n p e = let z : ◌≡◌ {A = ℕ} 0 1 = cc in absurd (omega arith)
 refused_said (Err r) n p e = (r, refl)
 

@@ -16,7 +16,7 @@ use Rattle.content.proofs.Same.{content_exists}
 use Rattle.conversion.specs.declared.Conversion.{Conversion}
 use Rattle.convert.specs.Reading.{converted_of, converted_into}
 use Rattle.differences.specs.Reading.{compare_answer, differences_of, compare_into}
-use Rattle.laws.specs.Meaning.{Exact, gives, refuses, converted_says, compared_says, whose_refusal, CompareRows, Listed, Differences, swapped}
+use Rattle.laws.specs.Meaning.{Exact, gives, refuses, says, compared_says, whose_refusal, CompareRows, Listed, Differences, swapped}
 use Rattle.laws.proofs.Differing as differing
 use Rattle.laws.proofs.Comparing as comparing
 use Rattle.laws.proofs.Conversions.{means}
@@ -83,7 +83,7 @@ pub swapped_count : (s o : List ℕ) → Bytes s → Bytes o → length (differe
 swapped_count s o ys yo = ap length (compare_swapped s o ys yo) ∙ comparing.swapped_length (differences_of s o)
 
 -- what a conversion wrote, against its source and the other way round, for all four conversions: nothing differs
-module _ (c : Conversion) (s xs : List ℕ) (n : ℕ) (y : Bytes s) (e : converted_says (converted_of c s (length xs)) ≡ gives n) (room : ℕ) where
+module _ (c : Conversion) (s xs : List ℕ) (n : ℕ) (y : Bytes s) (e : says (converted_of c s (length xs)) ≡ gives n) (room : ℕ) where
   pub conversion_none : compared_says (compare_answer s (take n (converted_into c s xs)) room) ≡ gives 0
   conversion_none =
       let w = means c s xs n y e in

@@ -11,7 +11,7 @@ use lib.ListN.{length, drop, drop_of_length-le}
 use borrow.Author.Tests.{lt-ltb, le-ltb}
 use Rattle.base.specs.Meaning.{Bytes}
 use Rattle.base.specs.Reading.{when}
-use Rattle.base.proofs.Tests.{below, same, by_when}
+use Rattle.base.proofs.Tests.{below, by_when}
 use Rattle.coding.specs.declared.Coding.{Coding}
 use Rattle.table.specs.Meaning.{Desc, items_of, items, encode, Readable}
 use Rattle.table.proofs.Accepts.{items_inj}
@@ -28,7 +28,8 @@ use Rattle.content.proofs.Tails.{Tail, tail_known}
 use Rattle.descriptions.specs.Reading.{same_at}
 use Rattle.descriptions.proofs.Stepping.{no_steps, none_first}
 use Rattle.descriptions.proofs.Meaning.{rest_readable, rest_at, same_items, items_same, same_swapped}
-use Rattle.glyphs.specs.Reading.{same_words, words_of, pixel_kind, located_kind, glyph_kind}
+use Rattle.bitmap.specs.Meaning.{kind_metrics}
+use Rattle.glyphs.specs.Reading.{equal_metrics, pixel_kind, located_kind, glyph_kind}
 use Rattle.differences.specs.Reading.{pair_of, table_kind, item_kind, only_kind, rest_from, compared_tail, common_pairs, rest_pairs, pairs_of, found_with, found_by, differences_of}
 use Rattle.differences.proofs.Cases.{from_table, from_end}
 use Rattle.laws.specs.Meaning.{OtherMetrics, OtherPixels, OtherItems, Difference, only_first, only_second, metrics_differ, pixels_differ, items_differ, tables_differ, Ordered, Differences, swap_kind, swapped}
@@ -44,7 +45,7 @@ glyph_kinds s f o h g = go (bitmap_of s f g) (bitmap_of o h g)
   where
     go : (x y : Result Bitmap Refusal) → (located_kind s f o h g x y ≡ 0) ⊎ ((located_kind s f o h g x y ≡ 3) ⊎ (located_kind s f o h g x y ≡ 4))
     go (Ok p) (Ok q) =
-        by_when (λ (k : ℕ). (k ≡ 0) ⊎ ((k ≡ 3) ⊎ (k ≡ 4))) (same_words (words_of s f g f.kind) (words_of o h g h.kind)) (pixel_kind s p o q) 3
+        by_when (λ (k : ℕ). (k ≡ 0) ⊎ ((k ≡ 3) ⊎ (k ≡ 4))) (equal_metrics (kind_metrics s f g f.kind) (kind_metrics o h g h.kind)) (pixel_kind s p o q) 3
         (by_when (λ (k : ℕ). (k ≡ 0) ⊎ ((k ≡ 3) ⊎ (k ≡ 4))) _ 0 4 (inl refl) (inr (inr refl))) (inr (inl refl))
     go (Ok p) (Err r) = inr (inl refl)
     go (Err r) (Ok q) = inr (inl refl)

@@ -28,7 +28,7 @@ use Rattle.mapping.specs.Meaning.{Lists, without_single, dropped, LowestOther, N
 use Rattle.mapping.proofs.Changing.{readable_dropped}
 use Rattle.mapping.proofs.Looking.{dropped_other, sequence_same, dropped_still, other_lowest, lowest_other, other_nowhere, nowhere_other}
 use Rattle.edit.specs.Reading.{drop_into}
-use Rattle.laws.specs.Meaning.{gives, refuses, lookup_says, Edits}
+use Rattle.laws.specs.Meaning.{gives, refuses, says, Edits}
 use Rattle.laws.proofs.Reading.{is_found, is_unmapped}
 use Rattle.laws.proofs.Retabled.{Editable, one_reading, edits, value_moved, sequence_moved, new_value}
 use Rattle.laws.proofs.Editing.{drops_into, DropGood, shorter_by}
@@ -106,32 +106,32 @@ module _ (xs : List ℕ) (y : Bytes xs) (len g v n : ℕ) (r : DropGood xs y len
       not_listed : Lists v g (dropped v g ds) → ⊥
       not_listed = subst (λ (x : List Desc). Lists v g (dropped v g x) → ⊥) read_so gone
 
-      new_said : lookup_says (value_glyph (take n out) v) ≡ lookup_says (lookup_of (find_value v 0 (items (dropped v g ds))))
-      new_said = ap lookup_says (new_value xs y len g v ds a (without_single v) values n out laid long small room)
+      new_said : says (value_glyph (take n out) v) ≡ says (lookup_of (find_value v 0 (items (dropped v g ds))))
+      new_said = ap says (new_value xs y len g v ds a (without_single v) values n out laid long small room)
 
       found_so : (h : ℕ) → (find_value v 0 (items (dropped v g ds)) ≡ Some h) ↔ Lowest (ListsValue v) 0 (dropped v g ds) h
       found_so h = lowest_value v (dropped v g ds) h
 
-      pub drop_lowest : (h : ℕ) → (lookup_says (value_glyph (take n out) v) ≡ gives h) ↔ LowestOther (ListsValue v) g es h
+      pub drop_lowest : (h : ℕ) → (says (value_glyph (take n out) v) ≡ gives h) ↔ LowestOther (ListsValue v) g es h
       drop_lowest h = (there, back)
         where
-          there : lookup_says (value_glyph (take n out) v) ≡ gives h → LowestOther (ListsValue v) g es h
+          there : says (value_glyph (take n out) v) ≡ gives h → LowestOther (ListsValue v) g es h
           there e =
               subst (λ (x : List Desc). LowestOther (ListsValue v) g x h) (sym read_so)
               (other_lowest g ds v not_listed h ((found_so h).0 (is_found (find_value v 0 (items (dropped v g ds))) h (sym new_said ∙ e))))
 
-          back : LowestOther (ListsValue v) g es h → lookup_says (value_glyph (take n out) v) ≡ gives h
+          back : LowestOther (ListsValue v) g es h → says (value_glyph (take n out) v) ≡ gives h
           back l =
-              new_said ∙ ap (λ (x : Option ℕ). lookup_says (lookup_of x)) ((found_so h).1 (lowest_other g ds v not_listed h (subst (λ (x : List Desc). LowestOther (ListsValue v) g x h) read_so l)))
+              new_said ∙ ap (λ (x : Option ℕ). says (lookup_of x)) ((found_so h).1 (lowest_other g ds v not_listed h (subst (λ (x : List Desc). LowestOther (ListsValue v) g x h) read_so l)))
 
-      pub drop_unmapped : (lookup_says (value_glyph (take n out) v) ≡ refuses 15 0) ↔ NoOther (ListsValue v) g es
+      pub drop_unmapped : (says (value_glyph (take n out) v) ≡ refuses 15 0) ↔ NoOther (ListsValue v) g es
       drop_unmapped = (there, back)
         where
-          there : lookup_says (value_glyph (take n out) v) ≡ refuses 15 0 → NoOther (ListsValue v) g es
+          there : says (value_glyph (take n out) v) ≡ refuses 15 0 → NoOther (ListsValue v) g es
           there e =
               subst (λ (x : List Desc). NoOther (ListsValue v) g x) (sym read_so)
               (other_nowhere g ds v not_listed ((no_lowest_value v (dropped v g ds)).0 (is_unmapped (find_value v 0 (items (dropped v g ds))) (sym new_said ∙ e))))
 
-          back : NoOther (ListsValue v) g es → lookup_says (value_glyph (take n out) v) ≡ refuses 15 0
+          back : NoOther (ListsValue v) g es → says (value_glyph (take n out) v) ≡ refuses 15 0
           back l =
-              new_said ∙ ap (λ (x : Option ℕ). lookup_says (lookup_of x)) ((no_lowest_value v (dropped v g ds)).1 (nowhere_other g ds v not_listed (subst (λ (x : List Desc). NoOther (ListsValue v) g x) read_so l)))
+              new_said ∙ ap (λ (x : Option ℕ). says (lookup_of x)) ((no_lowest_value v (dropped v g ds)).1 (nowhere_other g ds v not_listed (subst (λ (x : List Desc). NoOther (ListsValue v) g x) read_so l)))

@@ -12,7 +12,7 @@ use Rattle.header.specs.declared.Kind.{Kind}
 use Rattle.header.specs.declared.Kind.TheVariants.{Psf1, Psf2, Vfont2}
 use Rattle.header.specs.declared.Font.{Font}
 use Rattle.header.specs.declared.Fields.{Fields}
-use Rattle.header.specs.Reading.{kind_of, psf1_says, head_of, psf2_shaped, vfont2_shaped, on_fields, named_says, says_of}
+use Rattle.header.specs.Reading.{kind_of, psf1_says, head_of, psf2_shaped, vfont2_shaped, named_says, says_of}
 use Rattle.entries.specs.Reading.{scan_of}
 use Rattle.table.specs.Reading.{table_of}
 use Rattle.stages.specs.Meaning.{coding_of, tail_of}
@@ -21,37 +21,28 @@ use Rattle.entryfeed.specs.declared.Sums.{Sums}
 use Rattle.tablefeed.specs.declared.Standing.{Standing}
 use Rattle.loader.specs.declared.Loader.{Loader}
 use Rattle.loader.specs.Reading.{kind_told, entries_told, tail_told, font_told, answer_of}
+use Rattle.laws.proofs.Refusals.{OnRefusal, on_sound, on_fields_lem}
 use Rattle.std.specs.Prelude.{Result, Ok, Err, Option, Some, None}
 use Rattle.refusal.specs.declared.Refusal.{Refusal}
 use Rattle.table.specs.declared.Fault.{Fault}
 use Rattle.table.specs.declared.Fault.TheVariants.{Cut, Bad, Trailing}
 
-abbrev pub Early : Result Font Refusal → Type 0
-Early (Ok f) = Unit {0}
-Early (Err r) = number_of r.reason ≤ 12
-
-abbrev EarlyHead : Result Fields Refusal → Type 0
-EarlyHead (Ok f) = Unit {0}
-EarlyHead (Err r) = number_of r.reason ≤ 12
+abbrev pub Early : {A : Type 0} → Result A Refusal → Type 0
+Early {A} = OnRefusal {A = A} (λ r. number_of r.reason ≤ 12)
 
 -- a test that refuses, and the rest
-or_else : (t : Bool) (a b : Result Font Refusal) → Early a → Early b → Early (when t a b)
+or_else : {A : Type 0} (t : Bool) (a b : Result A Refusal) → Early a → Early b → Early (when t a b)
 or_else = by_when Early
 
 early_then : (c : Result Font Refusal) (k : Font → Result Font Refusal) → Early c → ((f : Font) → Early (k f)) → Early (and_then c k)
-early_then (Ok f) k e g = g f
-early_then (Err r) k e g = e
+early_then c k e g = on_sound _ c k e (λ f q. g f)
 
 -- the header
-early_head : (s : List ℕ) → EarlyHead (head_of s)
+early_head : (s : List ℕ) → Early (head_of s)
 unfolding head_of
 early_head s =
-    let w : (t : Bool) (a b : Result Fields Refusal) → EarlyHead a → EarlyHead b → EarlyHead (when t a b) = by_when EarlyHead in
-    w _ _ _ (omega arith) (w _ _ _ (omega arith) (w _ _ _ (omega arith) (w _ _ _ (omega arith) (w _ _ _ (omega arith) (w _ _ _ (omega arith) (w _ _ _ (omega arith) tt))))))
-
-early_fields : (shaped : Fields → Result Font Refusal) → ((f : Fields) → Early (shaped f)) → (h : Result Fields Refusal) → EarlyHead h → Early (on_fields shaped h)
-early_fields shaped g (Ok f) e = g f
-early_fields shaped g (Err r) e = e
+    or_else _ _ _ (omega arith) (or_else _ _ _ (omega arith) (or_else _ _ _ (omega arith) (or_else _ _ _ (omega arith)
+    (or_else _ _ _ (omega arith) (or_else _ _ _ (omega arith) (or_else _ _ _ (omega arith) tt))))))
 
 early_psf1 : (s : List ℕ) → Early (psf1_says s)
 unfolding psf1_says
@@ -67,8 +58,8 @@ early_vfont2 f = or_else _ _ _ (omega arith) (or_else _ _ _ (omega arith) tt)
 
 early_named : (s : List ℕ) (n : Option Kind) → Early (named_says s n)
 early_named s (Some Psf1) = early_psf1 s
-early_named s (Some Psf2) = early_fields psf2_shaped early_psf2 (head_of s) (early_head s)
-early_named s (Some Vfont2) = early_fields vfont2_shaped early_vfont2 (head_of s) (early_head s)
+early_named s (Some Psf2) = on_fields_lem _ psf2_shaped early_psf2 (head_of s) (early_head s)
+early_named s (Some Vfont2) = on_fields_lem _ vfont2_shaped early_vfont2 (head_of s) (early_head s)
 early_named s None = omega arith
 
 early_says : (s : List ℕ) → Early (says_of s)

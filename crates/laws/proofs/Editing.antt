@@ -41,8 +41,8 @@ use Rattle.mapping.specs.Reading.{mapping_of}
 use Rattle.mapping.proofs.Places.{Hole, Gap, hole_or_gap}
 use Rattle.edit.proofs.Cases as cases
 use Rattle.edit.specs.Reading.{longer, sought_at, sought_on, sought_in, sought_of, fitted, insert_answer, adding, dropping, inserted_at, removed_at, left_by, add_answer, add_into, drop_answer, drop_into}
-use Rattle.laws.specs.Meaning.{Exact, Said, gives, refuses, edited_says, In, given, skipped, own as own_given, sound as sound-given, reads, EditRows, AddLast, AddRows, DropLast, DropRows}
-use Rattle.laws.proofs.Exactly.{is, row, own_first, reading_of, less, at_most, either}
+use Rattle.laws.specs.Meaning.{Exact, Said, gives, refuses, says, In, given, skipped, own as own_given, sound as sound-given, reads, EditRows, AddLast, AddRows, DropLast, DropRows}
+use Rattle.laws.proofs.Exactly.{given_same, no_refusal_lem, is, row, own_first, reading_of, less, at_most, either}
 use Rattle.laws.proofs.Asking.{described, bare_or, not_bare}
 use Rattle.laws.proofs.Listed.{no_value, listed_value}
 use Rattle.laws.proofs.Refusing.{alike, not_alike, wrong_or, not_wrong}
@@ -163,14 +163,6 @@ module _ (xs : List ℕ) (len g v : ℕ) where
           found : g < f.count → Scalar v → sought_of xs len g v ≡ sought_at f.end (mapping_of Utf8 g v (tail_of file f))
           found l p = right ∙ sym (cases.sought_at_lem file g v f marked l (is_scalar v) refl ((scalar_exactly v).1 p))
 
--- a length that is given
-pub given_length : {n m : ℕ} → ◌≡◌ {A = Said ℕ} (gives n) (gives m) → n ≡ m
-given_length e = cc
-
--- and is no refusal
-pub no_refusal_lem : {A : Type 0} {n p q : ℕ} → ◌≡◌ {A = Said ℕ} (gives n) (refuses p q) → A
-no_refusal_lem e = let z : ◌≡◌ {A = ℕ} 0 1 = cc in absurd (omega arith)
-
 -- a value of UTF-8
 pub scalar_value : (v : ℕ) → Scalar v → (Noncharacter v → ⊥) → ValueOf Utf8 v
 unfolding ValueOf
@@ -206,7 +198,7 @@ module _ (xs : List ℕ) (y : Bytes xs) (len g v : ℕ) where
 
   -- the rows before the descriptions', for any answer that hands a refusal on
   edit_rows : {rest : List Desc → Said ℕ → Type 0} (answer : Result Mapping Refusal → Result ℕ Refusal) → ((r : Refusal) → answer (Err r) ≡ Err r) →
-      ((ds : List Desc) → Editable xs len g v ds → Exact (edited_says (answer (sought_of xs len g v))) (rest ds)) → Exact (edited_says (answer (sought_of xs len g v))) (EditRows xs len g v rest)
+      ((ds : List Desc) → Editable xs len g v ds → Exact (says (answer (sought_of xs len g v))) (rest ds)) → Exact (says (answer (sought_of xs len g v))) (EditRows xs len g v rest)
   edit_rows answer hands goes =
       row (less (length xs) len) (λ h. said (far xs len g v h)) (λ h.
       let w : len ≤ length xs = omega arith in
@@ -219,8 +211,8 @@ module _ (xs : List ℕ) (y : Bytes xs) (len g v : ℕ) where
       let l : g < f.count = not_at_most (λ q. u (inl q)) in
       reading_of (take len xs) f (described (take len xs) f (bytes_take len xs y) e) (λ ds d. goes ds (editable w f e k t l (fit_scalar v (λ q. u (inr q))) ds d)))))))
     where
-      said : {r : Refusal} → sought_of xs len g v ≡ Err r → edited_says (answer (sought_of xs len g v)) ≡ edited_says (Err r)
-      said {r} e = ap (λ (x : Result Mapping Refusal). edited_says (answer x)) e ∙ ap edited_says (hands r)
+      said : {r : Refusal} → sought_of xs len g v ≡ Err r → says (answer (sought_of xs len g v)) ≡ says (Err r)
+      said {r} e = ap (λ (x : Result Mapping Refusal). says (answer x)) e ∙ ap says (hands r)
 
       asked : (w : len ≤ length xs) (f : Font) (e : check_of (take len xs) ≡ Ok f) (k : f.kind ≡ Psf2) (t : f.table ≡ true) → (f.count ≤ g) ⊎ Unfit v → sought_of xs len g v ≡ Err (refusal Ask 0)
       asked w f e k t (inl h) = too_high xs len g v w f e k t h
@@ -315,7 +307,7 @@ module _ (xs : List ℕ) (y : Bytes xs) (len g v : ℕ) where
           ∙ ap (λ (x : List ℕ). take end s ++ x) (ap (λ (x : List ℕ). p.front ++ (x ++ p.back)) (utf8_value Utf8 v refl) ∙ sym p.more))
 
   -- all rows
-  pub add_rows : Exact (edited_says (add_answer xs len g v)) (AddRows xs len g v)
+  pub add_rows : Exact (says (add_answer xs len g v)) (AddRows xs len g v)
   unfolding add_answer
   add_rows = edit_rows (adding (length xs) len v) (λ r. refl) (λ ds a. go ds a (either_way ds a))
     where
@@ -323,25 +315,25 @@ module _ (xs : List ℕ) (y : Bytes xs) (len g v : ℕ) where
       listed : (ds : List Desc) (a : Editable xs len g v ds) → Hole Utf8 v g ds → Noncharacter v → ⊥
       listed ds a h = no_value Utf8 v (listed_value Utf8 ds a.values g h.listed.description h.listed.here v h.listed.lists)
 
-      go : (ds : List Desc) (a : Editable xs len g v ds) → Hole Utf8 v g ds ⊎ Gap Utf8 v g ds → Exact (edited_says (add_answer xs len g v)) (λ b. AddLast xs len g v ds b)
+      go : (ds : List Desc) (a : Editable xs len g v ds) → Hole Utf8 v g ds ⊎ Gap Utf8 v g ds → Exact (says (add_answer xs len g v)) (λ b. AddLast xs len g v ds b)
       go ds a (inl h) =
           row (inr (listed ds a h)) (λ o. absurd (listed ds a h o)) (λ o.
-          row (inl h.listed) (λ l. ap edited_says (have ds a h)) (λ n. absurd (n h.listed)))
+          row (inl h.listed) (λ l. ap says (have ds a h)) (λ n. absurd (n h.listed)))
       go ds a (inr p) =
-          row (noncharacter_or v) (λ o. ap edited_says (asks ds a p o)) (λ o.
+          row (noncharacter_or v) (λ o. ap says (asks ds a p o)) (λ o.
           row (inr p.unlisted) (λ l. absurd (p.unlisted l)) (λ n.
-          row (less limit (len + size)) (λ h. ap edited_says (too_large ds a p o h)) (λ h.
+          row (less limit (len + size)) (λ h. ap says (too_large ds a p o h)) (λ h.
           let small : len + size ≤ limit = omega arith in
-          row (less (length xs) (len + size)) (λ k. ap edited_says (no_room ds a p o small k)) (λ k.
-          is _ _ (ap edited_says (adds ds a p o small (omega arith)))))))
+          row (less (length xs) (len + size)) (λ k. ap says (no_room ds a p o small k)) (λ k.
+          is _ _ (ap says (adds ds a p o small (omega arith)))))))
 
-  pub drop_rows : Exact (edited_says (drop_answer xs len g v)) (DropRows xs len g v)
+  pub drop_rows : Exact (says (drop_answer xs len g v)) (DropRows xs len g v)
   unfolding drop_answer
   drop_rows = edit_rows (dropping len) (λ r. refl) (λ ds a. go ds a (either_way ds a))
     where
-      go : (ds : List Desc) (a : Editable xs len g v ds) → Hole Utf8 v g ds ⊎ Gap Utf8 v g ds → Exact (edited_says (drop_answer xs len g v)) (λ b. DropLast len g v ds b)
-      go ds a (inl h) = row (inr (λ n. n h.listed)) (λ n. absurd (n h.listed)) (λ n. is _ _ (ap edited_says (drops ds a h)))
-      go ds a (inr p) = row (inl p.unlisted) (λ n. ap edited_says (not_there ds a p)) (λ n. absurd (n p.unlisted))
+      go : (ds : List Desc) (a : Editable xs len g v ds) → Hole Utf8 v g ds ⊎ Gap Utf8 v g ds → Exact (says (drop_answer xs len g v)) (λ b. DropLast len g v ds b)
+      go ds a (inl h) = row (inr (λ n. n h.listed)) (λ n. absurd (n h.listed)) (λ n. is _ _ (ap says (drops ds a h)))
+      go ds a (inr p) = row (inl p.unlisted) (λ n. ap says (not_there ds a p)) (λ n. absurd (n p.unlisted))
 
   -- an answer that gives a length comes from a font that could be edited
   pub record AddGood (n : ℕ) : Type 0 where
@@ -370,7 +362,7 @@ module _ (xs : List ℕ) (y : Bytes xs) (len g v : ℕ) where
       let w : len ≤ length xs = omega arith in
       (ds, editable w f e (not_wrong f.kind Psf2 k) (not_bare f.table t) (not_at_most (λ q. u (inl q))) (fit_scalar v (λ q. u (inr q))) ds d, r)
 
-  pub add_good : (n : ℕ) → edited_says (add_answer xs len g v) ≡ gives n → AddGood n
+  pub add_good : (n : ℕ) → says (add_answer xs len g v) ≡ gives n → AddGood n
   add_good n e = let r = last_rows n ((add_rows (gives n)).0 e) in go r.0 r.1 r.2 (either_way r.0 r.1)
     where
       go : (ds : List Desc) (a : Editable xs len g v ds) → AddLast xs len g v ds (gives n) → Hole Utf8 v g ds ⊎ Gap Utf8 v g ds → AddGood n
@@ -380,27 +372,27 @@ module _ (xs : List ℕ) (y : Bytes xs) (len g v : ℕ) where
       go ds a (skipped o (skipped l (skipped h (given k q)))) b = no_refusal_lem q
       go ds a (skipped o (skipped l (skipped h (skipped k q)))) (inl p) = absurd (l p.listed)
       go ds a (skipped o (skipped l (skipped h (skipped k q)))) (inr p) =
-          record { reading = ds; editable = a; gap = p; character = o; small = omega arith; room = omega arith; grown = given_length q }
+          record { reading = ds; editable = a; gap = p; character = o; small = omega arith; room = omega arith; grown = given_same q }
 
-  pub drop_good : (n : ℕ) → edited_says (drop_answer xs len g v) ≡ gives n → DropGood n
+  pub drop_good : (n : ℕ) → says (drop_answer xs len g v) ≡ gives n → DropGood n
   drop_good n e = let r = last_rows n ((drop_rows (gives n)).0 e) in go r.0 r.1 r.2 (either_way r.0 r.1)
     where
       go : (ds : List Desc) (a : Editable xs len g v ds) → DropLast len g v ds (gives n) → Hole Utf8 v g ds ⊎ Gap Utf8 v g ds → DropGood n
       go ds a (given l q) b = no_refusal_lem q
-      go ds a (skipped l q) (inl h) = record { reading = ds; editable = a; hole = h; shrunk = given_length q }
+      go ds a (skipped l q) (inl h) = record { reading = ds; editable = a; hole = h; shrunk = given_same q }
       go ds a (skipped l q) (inr p) = absurd (l p.unlisted)
 
 -- an answer that gives nothing is a refusal, and leaves the buffer
-refused_said : (x : Result ℕ Refusal) (number p : ℕ) → edited_says x ≡ refuses number p → (t xs : List ℕ) → left_by x t xs ≡ xs
+refused_said : (x : Result ℕ Refusal) (number p : ℕ) → says x ≡ refuses number p → (t xs : List ℕ) → left_by x t xs ≡ xs
 refused_said (Ok n) number p e t xs = no_refusal_lem e
 refused_said (Err r) number p e t xs = refl
 
 module _ (xs : List ℕ) (len g v number p : ℕ) where
-  pub add_untouched : edited_says (add_answer xs len g v) ≡ refuses number p → add_into xs len g v ≡ xs
+  pub add_untouched : says (add_answer xs len g v) ≡ refuses number p → add_into xs len g v ≡ xs
   unfolding add_into
   add_untouched e = refused_said (add_answer xs len g v) number p e (inserted_at v (take len xs) (sought_of xs len g v)) xs
 
-  pub drop_untouched : edited_says (drop_answer xs len g v) ≡ refuses number p → drop_into xs len g v ≡ xs
+  pub drop_untouched : says (drop_answer xs len g v) ≡ refuses number p → drop_into xs len g v ≡ xs
   unfolding drop_into
   drop_untouched e = refused_said (drop_answer xs len g v) number p e (removed_at (take len xs) (sought_of xs len g v)) xs
 

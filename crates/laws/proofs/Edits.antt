@@ -18,7 +18,7 @@ use Rattle.mapping.specs.Meaning.{Lists, added, dropped, First, LowestOther, NoO
 use Rattle.mapping.proofs.Changing.{first_dropped}
 use Rattle.edit.specs.Reading.{add_answer, add_into, drop_answer, drop_into}
 use Rattle.fonts.specs.Reading.{value_glyph, sequence_glyph}
-use Rattle.laws.specs.Meaning.{Exact, gives, refuses, lookup_says, edited_says, AddRows, DropRows, Edits}
+use Rattle.laws.specs.Meaning.{Exact, gives, refuses, says, AddRows, DropRows, Edits}
 use Rattle.laws.proofs.Editing as inner
 use Rattle.laws.proofs.Adding as adding
 use Rattle.laws.proofs.Dropping as dropping
@@ -27,22 +27,22 @@ use Rattle.std.specs.Prelude.{Ok}
 
 -- each refusal exactly when its row says, in their order, and else the new length
 module _ (xs : List ℕ) (y : Bytes xs) (len g v : ℕ) where
-  pub add_exactly : Exact (edited_says (add_answer xs len g v)) (AddRows xs len g v)
+  pub add_exactly : Exact (says (add_answer xs len g v)) (AddRows xs len g v)
   add_exactly = inner.add_rows xs y len g v
 
-  pub drop_exactly : Exact (edited_says (drop_answer xs len g v)) (DropRows xs len g v)
+  pub drop_exactly : Exact (says (drop_answer xs len g v)) (DropRows xs len g v)
   drop_exactly = inner.drop_rows xs y len g v
 
 -- a refused call changes nothing
 module _ (xs : List ℕ) (len g v number p : ℕ) where
-  pub add_untouched : edited_says (add_answer xs len g v) ≡ refuses number p → add_into xs len g v ≡ xs
+  pub add_untouched : says (add_answer xs len g v) ≡ refuses number p → add_into xs len g v ≡ xs
   add_untouched = inner.add_untouched xs len g v number p
 
-  pub drop_untouched : edited_says (drop_answer xs len g v) ≡ refuses number p → drop_into xs len g v ≡ xs
+  pub drop_untouched : says (drop_answer xs len g v) ≡ refuses number p → drop_into xs len g v ≡ xs
   drop_untouched = inner.drop_untouched xs len g v number p
 
 -- after an add that gave n
-module _ (xs : List ℕ) (y : Bytes xs) (len g v n : ℕ) (e : edited_says (add_answer xs len g v) ≡ gives n) where
+module _ (xs : List ℕ) (y : Bytes xs) (len g v n : ℕ) (e : says (add_answer xs len g v) ≡ gives n) where
   abbrev old : List ℕ
   old = take len xs
 
@@ -54,10 +54,10 @@ module _ (xs : List ℕ) (y : Bytes xs) (len g v n : ℕ) (e : edited_says (add_
   add_means = adding.add_edits xs y len g v n (add_good xs y len g v n e)
 
   -- "the value's glyph is the lower of g and its old answer", every other value and every sequence answers as before
-  pub add_mapped : (h : ℕ) → lookup_says (value_glyph old v) ≡ gives h → lookup_says (value_glyph new v) ≡ gives (min g h)
+  pub add_mapped : (h : ℕ) → says (value_glyph old v) ≡ gives h → says (value_glyph new v) ≡ gives (min g h)
   add_mapped = adding.add_mapped xs y len g v n (add_good xs y len g v n e)
 
-  pub add_unmapped : lookup_says (value_glyph old v) ≡ refuses 15 0 → lookup_says (value_glyph new v) ≡ gives g
+  pub add_unmapped : says (value_glyph old v) ≡ refuses 15 0 → says (value_glyph new v) ≡ gives g
   add_unmapped = adding.add_unmapped xs y len g v n (add_good xs y len g v n e)
 
   pub add_other_values : (w : ℕ) → (w ≡ v → ⊥) → value_glyph new w ≡ value_glyph old w
@@ -68,8 +68,8 @@ module _ (xs : List ℕ) (y : Bytes xs) (len g v n : ℕ) (e : edited_says (add_
 
   -- "An add followed by the drop, where the value wasn't listed, gives back the font": it was not, or the add was refused. The bytes
   -- between are 0 again, by `drop_means`
-  pub add_then_drop : edited_says (drop_answer (add_into xs len g v) n g v) ≡ gives len
-  add_then_drop = ap edited_says (adding.drop_after xs y len g v n (add_good xs y len g v n e))
+  pub add_then_drop : says (drop_answer (add_into xs len g v) n g v) ≡ gives len
+  add_then_drop = ap says (adding.drop_after xs y len g v n (add_good xs y len g v n e))
 
   pub add_then_drop_font : take len (drop_into (add_into xs len g v) n g v) ≡ old
   add_then_drop_font = adding.drop_after_font xs y len g v n (add_good xs y len g v n e)
@@ -82,7 +82,7 @@ pub first_listing : (v : ℕ) (d : Desc) → ListsValue v d → First v d.single
 first_listing v d = first_dropped v d.singles
 
 -- after a drop that gave n
-module _ (xs : List ℕ) (y : Bytes xs) (len g v n : ℕ) (e : edited_says (drop_answer xs len g v) ≡ gives n) where
+module _ (xs : List ℕ) (y : Bytes xs) (len g v n : ℕ) (e : says (drop_answer xs len g v) ≡ gives n) where
   -- the font is accepted, its reading is the old one without the first listing of v as a single of glyph g, and all else stays
   pub drop_means : Edits (dropped v g) g xs len (drop_into xs len g v) n
   drop_means = dropping.drop_edits xs y len g v n (drop_good xs y len g v n e)
@@ -99,8 +99,8 @@ module _ (xs : List ℕ) (y : Bytes xs) (len g v n : ℕ) (e : edited_says (drop
     pub drop_listed_twice : Lists v g (dropped v g ds) → value_glyph (take n (drop_into xs len g v)) v ≡ value_glyph (take len xs) v
     drop_listed_twice = dropping.drop_still xs y len g v n (drop_good xs y len g v n e) f ds sound d
 
-    pub drop_lowest : (Lists v g (dropped v g ds) → ⊥) → (h : ℕ) → (lookup_says (value_glyph (take n (drop_into xs len g v)) v) ≡ gives h) ↔ LowestOther (ListsValue v) g ds h
+    pub drop_lowest : (Lists v g (dropped v g ds) → ⊥) → (h : ℕ) → (says (value_glyph (take n (drop_into xs len g v)) v) ≡ gives h) ↔ LowestOther (ListsValue v) g ds h
     drop_lowest = dropping.drop_lowest xs y len g v n (drop_good xs y len g v n e) f ds sound d
 
-    pub drop_unmapped : (Lists v g (dropped v g ds) → ⊥) → (lookup_says (value_glyph (take n (drop_into xs len g v)) v) ≡ refuses 15 0) ↔ NoOther (ListsValue v) g ds
+    pub drop_unmapped : (Lists v g (dropped v g ds) → ⊥) → (says (value_glyph (take n (drop_into xs len g v)) v) ≡ refuses 15 0) ↔ NoOther (ListsValue v) g ds
     drop_unmapped = dropping.drop_unmapped xs y len g v n (drop_good xs y len g v n e) f ds sound d

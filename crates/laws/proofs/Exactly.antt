@@ -10,6 +10,7 @@ use Rattle.table.specs.Meaning.{Desc}
 use Rattle.header.specs.declared.Font.{Font}
 use Rattle.stages.specs.Reading.{check_of}
 use Rattle.content.specs.Meaning.{Describes}
+use Rattle.fonts.specs.Reading.{asked}
 use Rattle.laws.specs.Meaning.{Exact, Said, gives, refuses, told, Row, given, skipped, RowAt, given_at, skipped_at, Own, own, sound, Reading, reads, Gives, gives_it}
 use Rattle.std.specs.Prelude.{Result, Ok, Err}
 
@@ -61,6 +62,10 @@ own_first {A} {rest} {x} s f g a = (there (check_of s) refl, back)
     back : Own s rest a → x ≡ a
     back (own r q e) = f r q ∙ sym e
     back (sound h q r) = (g h q a).1 r
+
+-- which a question hands on
+pub handed_own : {A : Type 0} (s : List ℕ) (r : Refusal) → check_of s ≡ Err r → (answer : Font → Result A Refusal) → asked Err answer (check_of s) ≡ Err r
+handed_own s r e answer = rw e
 
 -- on a reading
 pub reading_of : {A : Type 0} {rest : List Desc → Said A → Type 0} {x : Said A} (s : List ℕ) (f : Font) →
@@ -124,3 +129,11 @@ clash e n = absurd (n (ap said_number e))
 abbrev pub said_place : {A : Type 0} → Said A → ℕ
 said_place (gives v) = 0
 said_place (refuses n p) = p
+
+-- one answer has one value
+pub given_same : {A : Type 0} {v w : A} → ◌≡◌ {A = Said A} (gives v) (gives w) → v ≡ w
+given_same e = cc
+
+-- and is no refusal
+pub no_refusal_lem : {A B : Type 0} {v : B} {n p : ℕ} → ◌≡◌ {A = Said B} (gives v) (refuses n p) → A
+no_refusal_lem e = let z : ◌≡◌ {A = ℕ} 0 1 = cc in absurd (omega arith)

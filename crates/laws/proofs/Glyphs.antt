@@ -19,7 +19,7 @@ use Rattle.loader.specs.Reading.{fresh_of, feed_answer, close_answer}
 use Rattle.fonts.specs.Reading.{glyph_part_of, row_part_of, pixel_at, glyph_metrics_of, item_of, value_glyph, sequence_glyph}
 use Rattle.laws.specs.Meaning.{TellsGlyph}
 use Rattle.laws.proofs.Loading.{answer_is_check}
-use Rattle.laws.proofs.Numbering.{Numbered, tells, check_numbered}
+use Rattle.laws.proofs.Numbering.{tells, refusal_tells, check_numbered}
 use Rattle.laws.proofs.Handing as handing
 use Rattle.differences.specs.declared.Uncompared.TheVariants.{First, Second, Neither}
 use Rattle.std.specs.Prelude.{Err}
@@ -27,42 +27,42 @@ use Rattle.std.specs.Prelude.{Err}
 module _ (s : List ℕ) (y : Bytes s) (r : Refusal) where
   -- the check
   pub check_glyph : check_of s ≡ Err r → TellsGlyph s r
-  check_glyph e = tells s r (subst (Numbered s) e (check_numbered s y))
+  check_glyph = refusal_tells s r _ (check_numbered s y)
 
   -- bitmaps and metrics
   pub part_glyph : (g : ℕ) → glyph_part_of s g ≡ Err r → TellsGlyph s r
-  part_glyph g e = tells s r (subst (handing.OfPart s) e (handing.part_told s y g))
+  part_glyph g = refusal_tells s r _ (handing.part_told s y g)
 
   pub row_glyph : (g i : ℕ) → row_part_of s g i ≡ Err r → TellsGlyph s r
-  row_glyph g i e = tells s r (subst (handing.OfPart s) e (handing.row_told s y g i))
+  row_glyph g i = refusal_tells s r _ (handing.row_told s y g i)
 
   pub pixel_glyph : (g i j : ℕ) → pixel_at s g i j ≡ Err r → TellsGlyph s r
-  pixel_glyph g i j e = tells s r (subst (handing.OfPixel s) e (handing.pixel_told s y g i j))
+  pixel_glyph g i j = refusal_tells s r _ (handing.pixel_told s y g i j)
 
   pub metrics_glyph : (g : ℕ) → glyph_metrics_of s g ≡ Err r → TellsGlyph s r
-  metrics_glyph g e = tells s r (subst (handing.OfMetrics s) e (handing.metrics_told s y g))
+  metrics_glyph g = refusal_tells s r _ (handing.metrics_told s y g)
 
   -- walks and lookups
   pub item_glyph : (g k : ℕ) → item_of s g k ≡ Err r → TellsGlyph s r
-  item_glyph g k e = tells s r (subst (handing.OfWalk s) e (handing.item_told s y g k))
+  item_glyph g k = refusal_tells s r _ (handing.item_told s y g k)
 
   pub value_glyph_lem : (v : ℕ) → value_glyph s v ≡ Err r → TellsGlyph s r
-  value_glyph_lem v e = tells s r (subst (handing.OfLookup s) e (handing.value_told s y v))
+  value_glyph_lem v = refusal_tells s r _ (handing.value_told s y v)
 
   pub sequence_glyph_lem : (vs : List ℕ) → sequence_glyph s vs ≡ Err r → TellsGlyph s r
-  sequence_glyph_lem vs e = tells s r (subst (handing.OfLookup s) e (handing.sequence_told s y vs))
+  sequence_glyph_lem vs = refusal_tells s r _ (handing.sequence_told s y vs)
 
   -- conversions, into a buffer of m bytes
   pub conversion_glyph : (c : Conversion) (m : ℕ) → converted_of c s m ≡ Err r → TellsGlyph s r
-  conversion_glyph c m e = tells s r (subst (handing.OfConverted s) e (handing.conversion_told s y c m))
+  conversion_glyph c m = refusal_tells s r _ (handing.conversion_told s y c m)
 
 -- edits of a font in the first len bytes of a buffer
 module _ (xs : List ℕ) (y : Bytes xs) (len g v : ℕ) (r : Refusal) where
   pub add_glyph : add_answer xs len g v ≡ Err r → TellsGlyph (take len xs) r
-  add_glyph e = tells (take len xs) r (subst (handing.OfEdited (take len xs)) e (handing.add_told xs y len g v))
+  add_glyph = refusal_tells (take len xs) r _ (handing.add_told xs y len g v)
 
   pub drop_glyph : drop_answer xs len g v ≡ Err r → TellsGlyph (take len xs) r
-  drop_glyph e = tells (take len xs) r (subst (handing.OfEdited (take len xs)) e (handing.drop_told xs y len g v))
+  drop_glyph = refusal_tells (take len xs) r _ (handing.drop_told xs y len g v)
 
 -- a comparison, with a buffer of so many numbers: the first font's refusal, the second's, or ROOM
 module _ (s o : List ℕ) (ys : Bytes s) (yo : Bytes o) (room : ℕ) (r : Refusal) where

@@ -51,63 +51,16 @@ use Rattle.laws.specs.Meaning.{EntryStarts, elsewhere, ByEntry, of_entry}
 use Rattle.laws.proofs.Deciding.{psf2_not_vfont2}
 use Rattle.laws.proofs.Asking.{described, read_as}
 use Rattle.laws.proofs.Refusing.{measured_as}
-use Rattle.laws.proofs.Numbering.{Told, Tells, from_12, from_20, Numbered, on_sound, at_start, in_table, check_numbered}
+use Rattle.laws.proofs.Numbering.{Told, Tells, from_12, from_20, Numbered, at_start, in_table, check_numbered}
+use Rattle.laws.proofs.Refusals.{OnRefusal, on_sound}
 use Rattle.std.specs.Prelude.{Result, Option, Some, None, Ok, Err}
 use Rattle.bitmap.specs.declared.Bitmap.{Bitmap}
-use Rattle.bitmap.specs.declared.Part.{Part}
-use Rattle.entries.specs.declared.Metrics.{Metrics}
 use Rattle.table.specs.declared.Fault.{Fault}
 use Rattle.table.specs.declared.Item.{Item}
 use Rattle.table.specs.declared.Fault.TheVariants.{Cut}
 use Rattle.mapping.specs.declared.Mapping.TheVariants.{Listed, Unlisted}
 use Rattle.differences.specs.declared.Uncompared.{Uncompared}
 use Rattle.differences.specs.declared.Uncompared.TheVariants.{First, Second, Neither}
-
--- an answer of a call whose refusal tells its glyph
-abbrev OfLocated : List ℕ → Result Bitmap Refusal → Type 0
-OfLocated s (Ok b) = Unit {0}
-OfLocated s (Err r) = Tells s r
-
-abbrev pub OfPart : List ℕ → Result Part Refusal → Type 0
-OfPart s (Ok p) = Unit {0}
-OfPart s (Err r) = Tells s r
-
-abbrev pub OfPixel : List ℕ → Result ℕ Refusal → Type 0
-OfPixel s (Ok b) = Unit {0}
-OfPixel s (Err r) = Tells s r
-
-abbrev pub OfMetrics : List ℕ → Result Metrics Refusal → Type 0
-OfMetrics s (Ok m) = Unit {0}
-OfMetrics s (Err r) = Tells s r
-
-abbrev pub OfWalk : List ℕ → Result Item Refusal → Type 0
-OfWalk s (Ok i) = Unit {0}
-OfWalk s (Err r) = Tells s r
-
-abbrev pub OfLookup : List ℕ → Result ℕ Refusal → Type 0
-OfLookup s (Ok g) = Unit {0}
-OfLookup s (Err r) = Tells s r
-
-abbrev OfSuits : List ℕ → Result (Unit {0}) Refusal → Type 0
-OfSuits s (Ok tt) = Unit {0}
-OfSuits s (Err r) = Tells s r
-
-abbrev OfPrepared : List ℕ → Result (Font × ℕ) Refusal → Type 0
-OfPrepared s (Ok (f, n)) = Unit {0}
-OfPrepared s (Err r) = Tells s r
-
-abbrev pub OfConverted : List ℕ → Result ℕ Refusal → Type 0
-OfConverted s (Ok n) = Unit {0}
-OfConverted s (Err r) = Tells s r
-
-abbrev OfSought : List ℕ → Result Mapping Refusal → Type 0
-OfSought s (Ok (Listed a b)) = Unit {0}
-OfSought s (Ok (Unlisted a)) = Unit {0}
-OfSought s (Err r) = Tells s r
-
-abbrev pub OfEdited : List ℕ → Result ℕ Refusal → Type 0
-OfEdited s (Ok n) = Unit {0}
-OfEdited s (Err r) = Tells s r
 
 by_pick : {A : Type 0} (P : A → Type 0) (t : Bool) (a b : A) → P a → P b → P (pick t a b)
 by_pick P true a b x y = x
@@ -119,97 +72,96 @@ module _ (s : List ℕ) (y : Bytes s) where
   middle = from_12 s
 
   -- a question hands the font's own refusal on
-  ask : {A : Type 0} (P : A → Type 0) (refuse : Refusal → A) (answer : Font → A) → ((r : Refusal) → Tells s r → P (refuse r)) → ((f : Font) → check_of s ≡ Ok f → P (answer f)) →
-      P (asked refuse answer (check_of s))
-  ask P refuse answer u v = go (check_of s) refl (check_numbered s y)
+  ask : {A : Type 0} (answer : Font → Result A Refusal) → ((f : Font) → check_of s ≡ Ok f → Numbered s (answer f)) → Numbered s (asked Err answer (check_of s))
+  ask answer v = go (check_of s) refl (check_numbered s y)
     where
-      go : (c : Result Font Refusal) → check_of s ≡ c → Numbered s c → P (asked refuse answer c)
+      go : (c : Result Font Refusal) → check_of s ≡ c → Numbered s c → Numbered s (asked Err answer c)
       go (Ok f) e n = v f e
-      go (Err r) e n = u r n
+      go (Err r) e n = n
 
   -- the font that the header describes
   module _ (f : Font) (e : check_of s ≡ Ok f) where
     entry_told : f.kind ≡ Vfont2 → (n i : ℕ) → ByEntry n → i < f.count → Told s n (entry_at f.entries i) i
     entry_told k = at_start s f k (passed_body s f (passed_entries s f (accepted s f e).0).0).1
 
-    located : (g : ℕ) → OfLocated s (bitmap_of s f g)
+    located : (g : ℕ) → Numbered s (bitmap_of s f g)
     located g = go (below g f.count)
       where
-        by_entry : f.kind ≡ Vfont2 → g < f.count → (x : E.Entry) → OfLocated s (entry_located s f g (entry_at f.entries g) x)
+        by_entry : f.kind ≡ Vfont2 → g < f.count → (x : E.Entry) → Numbered s (entry_located s f g (entry_at f.entries g) x)
         by_entry k l Empty = middle _ _ (omega arith) (omega arith)
         by_entry k l (HasBitmap r c) = tt
         by_entry k l Broken = entry_told k 9 g (inl refl) l
 
-        by : (k : Kind) → f.kind ≡ k → g < f.count → OfLocated s (kind_bitmap s f g k)
+        by : (k : Kind) → f.kind ≡ k → g < f.count → Numbered s (kind_bitmap s f g k)
         by Psf1 k l = tt
         by Psf2 k l = tt
         by Vfont2 k l = by_entry k l (entry_of s f.size (entry_at f.entries g))
 
-        go : (g < f.count) ⊎ (f.count ≤ g) → OfLocated s (bitmap_of s f g)
-        go (inl l) = subst (OfLocated s) (known s f g (is_placed s f y e) l f.kind refl) (by f.kind refl l)
-        go (inr h) = subst (OfLocated s) (too_high s f g h) (middle _ _ (omega arith) (omega arith))
+        go : (g < f.count) ⊎ (f.count ≤ g) → Numbered s (bitmap_of s f g)
+        go (inl l) = subst (Numbered s) (known s f g (is_placed s f y e) l f.kind refl) (by f.kind refl l)
+        go (inr h) = subst (Numbered s) (too_high s f g h) (middle _ _ (omega arith) (omega arith))
 
-  whole : (l : Result Bitmap Refusal) → OfLocated s l → OfPart s (whole_of l)
+  whole : (l : Result Bitmap Refusal) → Numbered s l → Numbered s (whole_of l)
   whole (Ok b) a = tt
   whole (Err r) a = a
 
-  row : (i : ℕ) (l : Result Bitmap Refusal) → OfLocated s l → OfPart s (row_of l i)
-  row i (Ok b) a = by_when (OfPart s) _ _ _ tt (middle _ _ (omega arith) (omega arith))
+  row : (i : ℕ) (l : Result Bitmap Refusal) → Numbered s l → Numbered s (row_of l i)
+  row i (Ok b) a = by_when (Numbered s) _ _ _ tt (middle _ _ (omega arith) (omega arith))
   row i (Err r) a = a
 
-  pixel : (i j : ℕ) (l : Result Bitmap Refusal) → OfLocated s l → OfPixel s (pixel_of s l i j)
-  pixel i j (Ok b) a = by_when (OfPixel s) _ _ _ (by_when (OfPixel s) _ _ _ tt (middle _ _ (omega arith) (omega arith))) (middle _ _ (omega arith) (omega arith))
+  pixel : (i j : ℕ) (l : Result Bitmap Refusal) → Numbered s l → Numbered s (pixel_of s l i j)
+  pixel i j (Ok b) a = by_when (Numbered s) _ _ _ (by_when (Numbered s) _ _ _ tt (middle _ _ (omega arith) (omega arith))) (middle _ _ (omega arith) (omega arith))
   pixel i j (Err r) a = a
 
-  metrics : (f : Font) (g : ℕ) (l : Result Bitmap Refusal) → OfLocated s l → OfMetrics s (metrics_of s f g l)
+  metrics : (f : Font) (g : ℕ) (l : Result Bitmap Refusal) → Numbered s l → Numbered s (metrics_of s f g l)
   metrics f g (Ok b) a = tt
   metrics f g (Err r) a = a
 
-  pub part_told : (g : ℕ) → OfPart s (glyph_part_of s g)
+  pub part_told : (g : ℕ) → Numbered s (glyph_part_of s g)
   unfolding glyph_part_of
-  part_told g = ask (OfPart s) Err _ (λ r a. a) (λ f e. whole (bitmap_of s f g) (located f e g))
+  part_told g = ask _ (λ f e. whole (bitmap_of s f g) (located f e g))
 
-  pub row_told : (g i : ℕ) → OfPart s (row_part_of s g i)
+  pub row_told : (g i : ℕ) → Numbered s (row_part_of s g i)
   unfolding row_part_of
-  row_told g i = ask (OfPart s) Err _ (λ r a. a) (λ f e. row i (bitmap_of s f g) (located f e g))
+  row_told g i = ask _ (λ f e. row i (bitmap_of s f g) (located f e g))
 
-  pub pixel_told : (g i j : ℕ) → OfPixel s (pixel_at s g i j)
+  pub pixel_told : (g i j : ℕ) → Numbered s (pixel_at s g i j)
   unfolding pixel_at
-  pixel_told g i j = ask (OfPixel s) Err _ (λ r a. a) (λ f e. pixel i j (bitmap_of s f g) (located f e g))
+  pixel_told g i j = ask _ (λ f e. pixel i j (bitmap_of s f g) (located f e g))
 
-  pub metrics_told : (g : ℕ) → OfMetrics s (glyph_metrics_of s g)
+  pub metrics_told : (g : ℕ) → Numbered s (glyph_metrics_of s g)
   unfolding glyph_metrics_of
-  metrics_told g = ask (OfMetrics s) Err _ (λ r a. a) (λ f e. metrics f g (bitmap_of s f g) (located f e g))
+  metrics_told g = ask _ (λ f e. metrics f g (bitmap_of s f g) (located f e g))
 
   -- walks and lookups
-  walked : (w : Option Item) → OfWalk s (walk_of w)
+  walked : (w : Option Item) → Numbered s (walk_of w)
   walked (Some i) = tt
   walked None = middle _ _ (omega arith) (omega arith)
 
-  looked : (w : Option ℕ) → OfLookup s (lookup_of w)
+  looked : (w : Option ℕ) → Numbered s (lookup_of w)
   looked (Some g) = tt
   looked None = middle _ _ (omega arith) (omega arith)
 
-  pub item_told : (g k : ℕ) → OfWalk s (item_of s g k)
+  pub item_told : (g k : ℕ) → Numbered s (item_of s g k)
   unfolding item_of
-  item_told g k = ask (OfWalk s) Err _ (λ r a. a) (λ f e. by_pick (OfWalk s) f.table _ _ (walked (item_at g k (font_items s f))) (middle 14 0 (omega arith) (omega arith)))
+  item_told g k = ask _ (λ f e. by_pick (Numbered s) f.table _ _ (walked (item_at g k (font_items s f))) (middle 14 0 (omega arith) (omega arith)))
 
-  pub value_told : (v : ℕ) → OfLookup s (value_glyph s v)
+  pub value_told : (v : ℕ) → Numbered s (value_glyph s v)
   unfolding value_glyph
   value_told v =
-      ask (OfLookup s) Err _ (λ r a. a) (λ f e.
-      by_pick (OfLookup s) f.table _ _ (by_when (OfLookup s) _ _ _ (middle 13 0 (omega arith) (omega arith)) (looked (find_value v 0 (font_items s f)))) (middle 14 0 (omega arith) (omega arith)))
+      ask _ (λ f e.
+      by_pick (Numbered s) f.table _ _ (by_when (Numbered s) _ _ _ (middle 13 0 (omega arith) (omega arith)) (looked (find_value v 0 (font_items s f)))) (middle 14 0 (omega arith) (omega arith)))
 
-  pub sequence_told : (vs : List ℕ) → OfLookup s (sequence_glyph s vs)
+  pub sequence_told : (vs : List ℕ) → Numbered s (sequence_glyph s vs)
   unfolding sequence_glyph
   sequence_told vs =
-      ask (OfLookup s) Err _ (λ r a. a) (λ f e.
-      by_pick (OfLookup s) f.table _ _ (by_when (OfLookup s) _ _ _ (looked (find_sequence vs (font_items s f))) (middle 13 0 (omega arith) (omega arith))) (middle 14 0 (omega arith) (omega arith)))
+      ask _ (λ f e.
+      by_pick (Numbered s) f.table _ _ (by_when (Numbered s) _ _ _ (looked (find_sequence vs (font_items s f))) (middle 13 0 (omega arith) (omega arith))) (middle 14 0 (omega arith) (omega arith)))
 
   -- a font of the kind that a call wants
   opened : (k : Kind) → Numbered s (opened_of k s)
   unfolding opened_of of_kind
-  opened k = on_sound s (check_of s) (of_kind k) (check_numbered s y) (λ f e. by_when (Numbered s) _ _ _ tt (middle _ _ (omega arith) (omega arith)))
+  opened k = on_sound _ (check_of s) (of_kind k) (check_numbered s y) (λ f e. by_when (Numbered s) _ _ _ tt (middle _ _ (omega arith) (omega arith)))
 
   -- 18: no entry starts anywhere in a PSF2 file
   not_vfont2 : (f : Font) → check_of s ≡ Ok f → f.kind ≡ Psf2 → (p i : ℕ) → EntryStarts s p i → ⊥
@@ -217,16 +169,16 @@ module _ (s : List ℕ) (y : Bytes s) where
       let q = (source s f Psf2 k (passed_body s f (passed_entries s f (accepted s f e).0).0).1).0 in
       psf2_not_vfont2 s (magic_begins s Psf2 q) x.0
 
-  suits : (c : Conversion) (f : Font) → check_of s ≡ Ok f → f.kind ≡ source_kind c → OfSuits s (suits_of c s f)
+  suits : (c : Conversion) (f : Font) → check_of s ≡ Ok f → f.kind ≡ source_kind c → Numbered s (suits_of c s f)
   unfolding suits_of suits_psf1
   suits Psf1ToPsf2 f e k = tt
   suits Psf2ToPsf1 f e k =
-      by_when (OfSuits s) _ _ _ (of_entry (inr refl) (elsewhere (not_vfont2 f e k 16) refl), omega arith)
-      (by_when (OfSuits s) _ _ _ (of_entry (inr refl) (elsewhere (not_vfont2 f e k 28) refl), omega arith) tt)
+      by_when (Numbered s) _ _ _ (of_entry (inr refl) (elsewhere (not_vfont2 f e k 16) refl), omega arith)
+      (by_when (Numbered s) _ _ _ (of_entry (inr refl) (elsewhere (not_vfont2 f e k 28) refl), omega arith) tt)
   suits Psf2ToVfont2 f e k = tt
   suits Vfont2ToPsf2 f e k = go (evenness s f.height f.width f.entries f.count 0) refl
     where
-      go : (x : Option ℕ) → evenness s f.height f.width f.entries f.count 0 ≡ x → OfSuits s (even_suits f x)
+      go : (x : Option ℕ) → evenness s f.height f.width f.entries f.count 0 ≡ x → Numbered s (even_suits f x)
       go None q = tt
       go (Some i) q = entry_told f e k 18 i (inr refl) (omega (arith, uneven_within s f.height f.width f.entries f.count 0 i q))
 
@@ -235,12 +187,12 @@ module _ (s : List ℕ) (y : Bytes s) where
   counted f true ds g d l = d.0
   counted f false ds g d l = absurd (omega (arith, ap length d))
 
-  measured : (c : Conversion) (f : Font) → check_of s ≡ Ok f → f.kind ≡ source_kind c → OfPrepared s (measured_then c f (tail_of s f) (measured_of c (tail_of s f)))
+  measured : (c : Conversion) (f : Font) → check_of s ≡ Ok f → f.kind ≡ source_kind c → Numbered s (measured_then c f (tail_of s f) (measured_of c (tail_of s f)))
   unfolding fitting glyph_at
   measured c f e k = go (measured_of c (tail_of s f)) refl
     where
-      go : (x : Result ℕ ℕ) → measured_of c (tail_of s f) ≡ x → OfPrepared s (measured_then c f (tail_of s f) x)
-      go (Ok t) q = by_when (OfPrepared s) _ _ _ (from_20 s _ _ (omega arith)) tt
+      go : (x : Result ℕ ℕ) → measured_of c (tail_of s f) ≡ x → Numbered s (measured_then c f (tail_of s f) x)
+      go (Ok t) q = by_when (Numbered s) _ _ _ (from_20 s _ _ (omega arith)) tt
       go (Err i) q =
           let d = described s f y e in
           let r = read_as s f y e d.0 d.1 in
@@ -252,24 +204,24 @@ module _ (s : List ℕ) (y : Bytes s) where
           subst (Told s 19 (f.end + i)) (ap (λ (a : Result (Unit {0}) Fault). glyph_told (told_at f.end a)) (sym t))
           (in_table s y f (accepted s f e).0 19 i w.0 (inr (inr refl)) (omega (arith, w.2, n), subst (λ (x : Kind). InGlyph (coding_of x) (tail_of s f) i w.0) (sym k) w.3))
 
-  prepared : (c : Conversion) → OfPrepared s (prepared_of c s)
+  prepared : (c : Conversion) → Numbered s (prepared_of c s)
   unfolding prepared_of prepared_on
   prepared c = go (opened_of (source_kind c) s) refl (opened (source_kind c))
     where
-      then : (x : Result (Unit {0}) Refusal) (p : Result (Font × ℕ) Refusal) → OfSuits s x → OfPrepared s p → OfPrepared s (suits_then x p)
+      then : (x : Result (Unit {0}) Refusal) (p : Result (Font × ℕ) Refusal) → Numbered s x → Numbered s p → Numbered s (suits_then x p)
       then (Ok tt) p a b = b
       then (Err r) p a b = a
 
-      go : (x : Result Font Refusal) → opened_of (source_kind c) s ≡ x → Numbered s x → OfPrepared s (opened_then x (prepared_on c s))
+      go : (x : Result Font Refusal) → opened_of (source_kind c) s ≡ x → Numbered s x → Numbered s (opened_then x (prepared_on c s))
       go (Ok f) q n = let w = opened_sound (source_kind c) s f q in then (suits_of c s f) _ (suits c f w.0 w.1) (measured c f w.0 w.1)
       go (Err r) q n = n
 
-  pub conversion_told : (c : Conversion) (m : ℕ) → OfConverted s (converted_of c s m)
+  pub conversion_told : (c : Conversion) (m : ℕ) → Numbered s (converted_of c s m)
   unfolding converted_of
   conversion_told c m = go (prepared_of c s) (prepared c)
     where
-      go : (p : Result (Font × ℕ) Refusal) → OfPrepared s p → OfConverted s (converted p m)
-      go (Ok (f, n)) a = by_when (OfConverted s) _ _ _ (from_20 s _ _ (omega arith)) tt
+      go : (p : Result (Font × ℕ) Refusal) → Numbered s p → Numbered s (converted p m)
+      go (Ok (f, n)) a = by_when (Numbered s) _ _ _ (from_20 s _ _ (omega arith)) tt
       go (Err r) a = a
 
 -- the edits, on a font in the first len bytes of a buffer
@@ -277,44 +229,44 @@ module _ (xs : List ℕ) (y : Bytes xs) (len g v : ℕ) where
   abbrev file : List ℕ
   file = take len xs
 
-  at : (end : ℕ) (m : Mapping) → OfSought file (sought_at end m)
+  at : (end : ℕ) (m : Mapping) → Numbered file (sought_at end m)
   at end (Listed a b) = tt
   at end (Unlisted a) = tt
 
   ask_none : Told file 13 0 4096
   ask_none = from_12 file 13 0 (omega arith) (omega arith)
 
-  on_font : (f : Font) → OfSought file (sought_on file g v f)
+  on_font : (f : Font) → Numbered file (sought_on file g v f)
   unfolding sought_on
   on_font f =
-      by_pick (OfSought file) f.table _ _
-      (by_when (OfSought file) _ _ _ ask_none (by_when (OfSought file) _ _ _ (at f.end (mapping_of Utf8 g v (tail_of file f))) ask_none))
+      by_pick (Numbered file) f.table _ _
+      (by_when (Numbered file) _ _ _ ask_none (by_when (Numbered file) _ _ _ (at f.end (mapping_of Utf8 g v (tail_of file f))) ask_none))
       (from_12 file 14 0 (omega arith) (omega arith))
 
-  sought : OfSought file (sought_of xs len g v)
+  sought : Numbered file (sought_of xs len g v)
   unfolding sought_of
-  sought = by_when (OfSought file) _ _ _ ask_none (go (opened_of Psf2 file) (opened file (bytes_take len xs y) Psf2))
+  sought = by_when (Numbered file) _ _ _ ask_none (go (opened_of Psf2 file) (opened file (bytes_take len xs y) Psf2))
     where
-      go : (c : Result Font Refusal) → Numbered file c → OfSought file (sought_in file g v c)
+      go : (c : Result Font Refusal) → Numbered file c → Numbered file (sought_in file g v c)
       go (Ok f) n = on_font f
       go (Err r) n = n
 
-  pub add_told : OfEdited file (add_answer xs len g v)
+  pub add_told : Numbered file (add_answer xs len g v)
   unfolding add_answer insert_answer fitted
   add_told = go (sought_of xs len g v) sought
     where
-      go : (x : Result Mapping Refusal) → OfSought file x → OfEdited file (adding (length xs) len v x)
+      go : (x : Result Mapping Refusal) → Numbered file x → Numbered file (adding (length xs) len v x)
       go (Ok (Listed a b)) n = from_20 file _ _ (omega arith)
       go (Ok (Unlisted a)) n =
-          by_when (OfEdited file) _ _ _ (from_12 file _ _ (omega arith) (omega arith))
-          (by_when (OfEdited file) _ _ _ (from_20 file _ _ (omega arith)) (by_when (OfEdited file) _ _ _ (from_20 file _ _ (omega arith)) tt))
+          by_when (Numbered file) _ _ _ (from_12 file _ _ (omega arith) (omega arith))
+          (by_when (Numbered file) _ _ _ (from_20 file _ _ (omega arith)) (by_when (Numbered file) _ _ _ (from_20 file _ _ (omega arith)) tt))
       go (Err r) n = n
 
-  pub drop_told : OfEdited file (drop_answer xs len g v)
+  pub drop_told : Numbered file (drop_answer xs len g v)
   unfolding drop_answer
   drop_told = go (sought_of xs len g v) sought
     where
-      go : (x : Result Mapping Refusal) → OfSought file x → OfEdited file (dropping len x)
+      go : (x : Result Mapping Refusal) → Numbered file x → Numbered file (dropping len x)
       go (Ok (Listed a b)) n = tt
       go (Ok (Unlisted a)) n = from_20 file _ _ (omega arith)
       go (Err r) n = n
@@ -343,8 +295,7 @@ compare_told s o ys yo room = first (check_of s) (check_numbered s ys)
 
 -- a piece for a loader
 abbrev pub OfReply : Result (Unit {0}) Refusal → Type 0
-OfReply (Ok tt) = Unit {0}
-OfReply (Err r) = r.glyph ≡ no_glyph
+OfReply = OnRefusal (λ r. r.glyph ≡ no_glyph)
 
 pub feed_told : (l : Loader) → OfReply (feed_answer l)
 unfolding feed_answer

@@ -16,6 +16,7 @@ pub mod Glyphs
 pub mod Program
 pub mod Vectors
 mod Exactly
+mod Refusals
 mod Deciding
 mod Tails
 mod Asking

@@ -5,9 +5,9 @@ use mathlib.Core.Path.{◌≡◌, refl, sym, ◌∙◌, ap, subst}
 use mathlib.Core.Bool.{Bool, true, false}
 use mathlib.Core.Logic.{◌↔◌}
 use mathlib.Core.List.{List, [], ◌∷◌, ◌++◌, append-nil}
-use Prim.Native.Nat.{ℕ, ◌+◌, ◌≤◌, ◌<◌}
+use Prim.Native.Nat.{ℕ, ◌≤◌, ◌<◌}
 use native.Mathlib.Omega.{arith}
-use Rattle.refusal.specs.declared.Refusal.{Refusal}
+use Rattle.header.specs.declared.Font.{Font}
 use Rattle.refusal.specs.declared.Reason.TheVariants.{Late}
 use Rattle.refusal.specs.Meaning.{refusal}
 use Rattle.stages.specs.Reading.{check_of}
@@ -19,8 +19,9 @@ use Rattle.loader.proofs.Cases.{taken, fed_late, answers, close_late, closes, st
 use Rattle.laws.proofs.Regions.{Kept}
 use Rattle.laws.proofs.Pieces.{fed_twice, stays_open}
 use Rattle.laws.proofs.Loaded.{loaded, fresh_open, fresh_kept, fresh_empty}
+use Rattle.laws.proofs.Refusals.{not_both}
 use Rattle.laws.proofs.Early.{Early, early_answer}
-use Rattle.std.specs.Prelude.{Ok, Err, Result}
+use Rattle.std.specs.Prelude.{Ok, Err}
 
 -- pieces after a first one are one piece with it
 with_first : (l : Loader) (p : List ℕ) (ps : List (List ℕ)) → is_open l ≡ true → Kept l.held → fed_all (fed_of l p) ps ≡ fed_of l (p ++ together ps)
@@ -57,27 +58,24 @@ one_of : (P : Type 0) (b : Bool) → (b ≡ true → P) → (b ≡ false → P) 
 one_of P true f g = f refl
 one_of P false f g = g refl
 
-not_taken : (r : Refusal) → ◌≡◌ {A = Result (Unit {0}) Refusal} (Ok tt) (Err r) → ⊥
-not_taken r e = let z : ◌≡◌ {A = ℕ} 0 1 = cc in omega (arith, z)
-
 -- "it speaks only at the close": a piece on an open record is answered with neither sound nor refused
 pub taken_exactly : (l : Loader) → (feed_answer l ≡ Ok tt) ↔ (is_open l ≡ true)
 taken_exactly l = (
-  λ (e : feed_answer l ≡ Ok tt). one_of (is_open l ≡ true) (is_open l) (λ o. o) (λ o. absurd (not_taken (refusal Late 0) (sym e ∙ sym (fed_late l o)))),
+  λ (e : feed_answer l ≡ Ok tt). one_of (is_open l ≡ true) (is_open l) (λ o. o) (λ o. not_both _ _ _ e (sym (fed_late l o))),
   λ (o : is_open l ≡ true). sym (taken l o),
 )
 
 -- "LATE (22, place 0) for a piece or close after the close"
 pub late_feed_exactly : (l : Loader) → (feed_answer l ≡ Err (refusal Late 0)) ↔ (is_open l ≡ false)
 late_feed_exactly l = (
-  λ (e : feed_answer l ≡ Err (refusal Late 0)). one_of (is_open l ≡ false) (is_open l) (λ o. absurd (not_taken (refusal Late 0) (taken l o ∙ e))) (λ o. o),
+  λ (e : feed_answer l ≡ Err (refusal Late 0)). one_of (is_open l ≡ false) (is_open l) (λ o. not_both _ _ _ (sym (taken l o)) e) (λ o. o),
   λ (o : is_open l ≡ false). sym (fed_late l o),
 )
 
 pub late_close_exactly : (l : Loader) → (close_answer l ≡ Err (refusal Late 0)) ↔ (is_open l ≡ false)
 late_close_exactly l = (
   λ (e : close_answer l ≡ Err (refusal Late 0)). one_of (is_open l ≡ false) (is_open l)
-      (λ o. let h : Early (Err (refusal Late 0)) = subst Early (answers l o ∙ e) (early_answer l) in absurd (omega (arith, h))) (λ o. o),
+      (λ o. let h : Early {A = Font} (Err (refusal Late 0)) = subst Early (answers l o ∙ e) (early_answer l) in absurd (omega (arith, h))) (λ o. o),
   λ (o : is_open l ≡ false). sym (close_late l o),
 )
 

@@ -26,8 +26,8 @@ use Rattle.content.proofs.Source.{is_placed}
 use Rattle.content.proofs.Stretches.{byte_of_part}
 use Rattle.stages.specs.Reading.{check_of}
 use Rattle.fonts.specs.Reading.{glyph_part_of, row_part_of, pixel_at, glyph_metrics_of}
-use Rattle.laws.specs.Meaning.{Exact, Said, gives, refuses, told, part_says, pixel_says, metrics_says, GlyphRows, GlyphPartRows, RowPartRows, PixelRows, MetricsRows, joined}
-use Rattle.laws.proofs.Exactly.{is, row, own_first, moved, less, at_most, either}
+use Rattle.laws.specs.Meaning.{Exact, Said, gives, refuses, told, part_says, says, GlyphRows, GlyphPartRows, RowPartRows, PixelRows, MetricsRows, joined}
+use Rattle.laws.proofs.Exactly.{is, row, handed_own, own_first, moved, less, at_most, either}
 use Rattle.std.specs.Prelude.{Result, Ok, Err}
 
 -- whether a number below the count is that of a glyph without a bitmap
@@ -67,58 +67,45 @@ module _ (s : List ℕ) (f : Font) (sound : check_of s ≡ Ok f) where
   unfolding glyph_metrics_of
   metrics_asked g = rw sound
 
-module _ (s : List ℕ) (r : Refusal) (refused : check_of s ≡ Err r) where
-  part_own : (g : ℕ) → glyph_part_of s g ≡ Err r
-  unfolding glyph_part_of
-  part_own g = rw refused
-
-  row_own : (g i : ℕ) → row_part_of s g i ≡ Err r
-  unfolding row_part_of
-  row_own g i = rw refused
-
-  pixel_own : (g i j : ℕ) → pixel_at s g i j ≡ Err r
-  unfolding pixel_at
-  pixel_own g i j = rw refused
-
-  metrics_own : (g : ℕ) → glyph_metrics_of s g ≡ Err r
-  unfolding glyph_metrics_of
-  metrics_own g = rw refused
-
 module _ (s : List ℕ) (y : Bytes s) where
   pub part_rows : (g : ℕ) → Exact (part_says (glyph_part_of s g)) (GlyphPartRows s g)
+  unfolding glyph_part_of
   part_rows g =
-      glyph_rows s y g _ (λ f b. part_says (whole_of b)) (λ f r. refl) (λ r e. ap part_says (part_own s r e g)) (λ f e. ap part_says (part_asked s f e g))
+      glyph_rows s y g _ (λ f b. part_says (whole_of b)) (λ f r. refl) (λ r e. ap part_says (handed_own s r e _)) (λ f e. ap part_says (part_asked s f e g))
       (λ f e. is _ _ refl)
 
-  pub metrics_rows : (g : ℕ) → Exact (metrics_says (glyph_metrics_of s g)) (MetricsRows s g)
+  pub metrics_rows : (g : ℕ) → Exact (says (glyph_metrics_of s g)) (MetricsRows s g)
+  unfolding glyph_metrics_of
   metrics_rows g =
-      glyph_rows s y g _ (λ f b. metrics_says (metrics_of s f g b)) (λ f r. refl) (λ r e. ap metrics_says (metrics_own s r e g))
-      (λ f e. ap metrics_says (metrics_asked s f e g)) (λ f e. is _ _ refl)
+      glyph_rows s y g _ (λ f b. says (metrics_of s f g b)) (λ f r. refl) (λ r e. ap says (handed_own s r e _))
+      (λ f e. ap says (metrics_asked s f e g)) (λ f e. is _ _ refl)
 
   pub row_rows : (g i : ℕ) → Exact (part_says (row_part_of s g i)) (RowPartRows s g i)
+  unfolding row_part_of
   row_rows g i =
-      glyph_rows s y g _ (λ f b. part_says (row_of b i)) (λ f r. refl) (λ r e. ap part_says (row_own s r e g i)) (λ f e. ap part_says (row_asked s f e g i))
+      glyph_rows s y g _ (λ f b. part_says (row_of b i)) (λ f r. refl) (λ r e. ap part_says (handed_own s r e _)) (λ f e. ap part_says (row_asked s f e g i))
       (λ f e.
       let b = bitmap_in s f g f.kind in
       row (at_most b.height i) (λ h. ap part_says (sym (row_below b i h))) (λ h. is _ _ (ap part_says (row_in b i (omega arith)))))
 
-  pub pixel_rows : (g i j : ℕ) → Exact (pixel_says (pixel_at s g i j)) (PixelRows s g i j)
+  pub pixel_rows : (g i j : ℕ) → Exact (says (pixel_at s g i j)) (PixelRows s g i j)
+  unfolding pixel_at
   pixel_rows g i j =
-      glyph_rows s y g _ (λ f b. pixel_says (pixel_of s b i j)) (λ f r. refl) (λ r e. ap pixel_says (pixel_own s r e g i j))
-      (λ f e. ap pixel_says (pixel_asked s f e g i j))
+      glyph_rows s y g _ (λ f b. says (pixel_of s b i j)) (λ f r. refl) (λ r e. ap says (handed_own s r e _))
+      (λ f e. ap says (pixel_asked s f e g i j))
       (λ f e.
       let b = bitmap_in s f g f.kind in
       row (either (at_most b.height i) (at_most b.width j)) (outside b) (λ h.
       let u : b.height ≤ i → ⊥ = λ z. h (inl z) in
       let v : b.width ≤ j → ⊥ = λ z. h (inr z) in
-      is _ _ (ap pixel_says (pixel_in s b i j (omega arith) (omega arith)))))
+      is _ _ (ap says (pixel_in s b i j (omega arith) (omega arith)))))
     where
-      beside : (b : Bitmap) → b.width ≤ j → (i < b.height) ⊎ ((i < b.height) → ⊥) → pixel_says (pixel_of s (Ok b) i j) ≡ refuses 13 0
-      beside b w (inl l) = ap pixel_says (pixel_past s b i j l w)
-      beside b w (inr n) = ap pixel_says (sym (pixel_below s b i j (omega arith)))
+      beside : (b : Bitmap) → b.width ≤ j → (i < b.height) ⊎ ((i < b.height) → ⊥) → says (pixel_of s (Ok b) i j) ≡ refuses 13 0
+      beside b w (inl l) = ap says (pixel_past s b i j l w)
+      beside b w (inr n) = ap says (sym (pixel_below s b i j (omega arith)))
 
-      outside : (b : Bitmap) → (b.height ≤ i) ⊎ (b.width ≤ j) → pixel_says (pixel_of s (Ok b) i j) ≡ refuses 13 0
-      outside b (inl h) = ap pixel_says (sym (pixel_below s b i j h))
+      outside : (b : Bitmap) → (b.height ≤ i) ⊎ (b.width ≤ j) → says (pixel_of s (Ok b) i j) ≡ refuses 13 0
+      outside b (inl h) = ap says (sym (pixel_below s b i j h))
       outside b (inr w) = beside b w (less i b.height)
 
 -- a glyph that has a bitmap
@@ -160,8 +147,8 @@ module _ (s : List ℕ) (y : Bytes s) (f : Font) (sound : check_of s ≡ Ok f) (
       ∙ rows_joined b.height 0 (omega arith)
 
   -- a pixel is a bit of its row
-  pub pixel_of_lem : (i j : ℕ) → i < b.height → j < b.width → pixel_says (pixel_at s g i j) ≡ gives (bit_of (get_or (view_of s (row_part_of s g i)) (j / 8) 0) (j % 8))
+  pub pixel_of_lem : (i j : ℕ) → i < b.height → j < b.width → says (pixel_at s g i j) ≡ gives (bit_of (get_or (view_of s (row_part_of s g i)) (j / 8) 0) (j % 8))
   pixel_of_lem i j h w =
       let q : j / 8 < row_bytes b.width = omega arith in
-      ap pixel_says (pixel_asked s f sound g i j ∙ ap (λ (z : Result Bitmap Refusal). pixel_of s z i j) here ∙ pixel_in s b i j h w)
+      ap says (pixel_asked s f sound g i j ∙ ap (λ (z : Result Bitmap Refusal). pixel_of s z i j) here ∙ pixel_in s b i j h w)
       ∙ ap (λ (v : ℕ). gives (bit_of v (j % 8))) (sym (ap (λ (z : List ℕ). get_or z (j / 8) 0) (row_view i h) ∙ byte_of_part (row_bytes b.width) (b.start + i * row_bytes b.width) (j / 8) s q))

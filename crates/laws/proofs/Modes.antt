@@ -13,7 +13,7 @@ use Rattle.header.specs.declared.Font.{Font}
 use Rattle.stages.specs.Reading.{check_of}
 use Rattle.conversion.specs.declared.Conversion.TheVariants.{Psf1ToPsf2, Psf2ToPsf1}
 use Rattle.convert.specs.Reading.{converted_of, converted_into}
-use Rattle.laws.specs.Meaning.{gives, refuses, check_says, converted_says, RowsTo9, RoundTrip}
+use Rattle.laws.specs.Meaning.{gives, refuses, says, RowsTo9, RoundTrip}
 use Rattle.laws.proofs.Check.{passed_9}
 use Rattle.laws.proofs.Marked.{mode_low, marked_exactly, marked_from_two}
 use Rattle.laws.proofs.Tails.{nothing_cut, never_at_end}
@@ -31,18 +31,18 @@ module _ (s : List ℕ) (y : Bytes s) (f : Font) (passes : RowsTo9 s (gives f)) 
 
   module _ (mode : 4 ≤ get_or s 2 0) where
     -- "A tableless mode 04 file now gets TABLE CUT", at its length; mode 05 likewise
-    pub tableless_cut : length s ≡ f.end → check_says (check_of s) ≡ refuses 10 (length s)
+    pub tableless_cut : length s ≡ f.end → says (check_of s) ≡ refuses 10 (length s)
     tableless_cut = nothing_cut s y f (passed_9 s f passes) (modes_exactly.1.1 (omega (arith, mode)))
 
     -- and bytes behind its bitmaps are a table's (demand 3): they are never TRAILING where they begin
-    pub never_trailing : check_says (check_of s) ≡ refuses 12 f.end → ⊥
+    pub never_trailing : says (check_of s) ≡ refuses 12 f.end → ⊥
     never_trailing = never_at_end s y f (passed_9 s f passes) (modes_exactly.1.1 (omega (arith, mode)))
 
 -- a PSF1 file that was converted to PSF2, into a buffer xs
-module _ (s xs : List ℕ) (n : ℕ) (y : Bytes s) (there : converted_says (converted_of Psf1ToPsf2 s (length xs)) ≡ gives n) where
+module _ (s xs : List ℕ) (n : ℕ) (y : Bytes s) (there : says (converted_of Psf1ToPsf2 s (length xs)) ≡ gives n) where
   -- the way back is accepted where there is room for as many bytes as it had
-  pub back_accepted : (m : ℕ) → length s ≤ m → converted_says (converted_of Psf2ToPsf1 (take n (converted_into Psf1ToPsf2 s xs)) m) ≡ gives (length s)
-  back_accepted m l = ap converted_says (inner.back_accepted s xs n y (wrote_said _ n there) m l)
+  pub back_accepted : (m : ℕ) → length s ≤ m → says (converted_of Psf2ToPsf1 (take n (converted_into Psf1ToPsf2 s xs)) m) ≡ gives (length s)
+  back_accepted m l = ap says (inner.back_accepted s xs n y (wrote_said _ n there) m l)
 
   -- and it comes back with all that it had, and with its bytes but for a mode of 4 or 5, which is 2 less
   pub round_trip : (ys : List ℕ) → length s ≤ length ys → RoundTrip s (take (length s) (converted_into Psf2ToPsf1 (take n (converted_into Psf1ToPsf2 s xs)) ys))

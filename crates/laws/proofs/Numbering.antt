@@ -19,17 +19,18 @@ use Rattle.header.specs.declared.Kind.TheVariants.{Psf1, Psf2, Vfont2}
 use Rattle.header.specs.declared.Font.{Font}
 use Rattle.header.specs.declared.Fields.{Fields}
 use Rattle.header.specs.Meaning.{fields_of}
-use Rattle.header.specs.Reading.{kind_of, psf1_says, head_of, psf2_shaped, vfont2_shaped, on_fields, named_says, says_of}
+use Rattle.header.specs.Reading.{kind_of, psf1_says, head_of, psf2_shaped, vfont2_shaped, named_says, says_of}
 use Rattle.header.proofs.Known.{HeadKnown, Vfont2Known, source}
 use Rattle.entries.specs.Meaning.{entry_at}
 use Rattle.entries.specs.Reading.{scan_of}
 use Rattle.entries.proofs.Meaning.{scan_broken}
 use Rattle.stages.specs.Meaning.{coding_of, tail_of}
-use Rattle.stages.specs.Reading.{and_then, sized, greatest_of, scanned, kind_entries, entries_of, answered, bare_of, tailed, through_body, through_entries, check_of}
+use Rattle.stages.specs.Reading.{sized, greatest_of, scanned, kind_entries, entries_of, answered, bare_of, tailed, through_body, through_entries, check_of}
 use Rattle.stages.proofs.Cases.{passed_body, placed}
 use Rattle.content.proofs.Magic.{magic_begins}
-use Rattle.laws.specs.Meaning.{gives, check_says, OfEntry, at_entry, elsewhere, CompleteBefore, ByEntry, ByTable, GlyphOf, of_entry, of_table, of_none, TellsGlyph}
+use Rattle.laws.specs.Meaning.{gives, says, OfEntry, at_entry, elsewhere, CompleteBefore, ByEntry, ByTable, GlyphOf, of_entry, of_table, of_none, TellsGlyph}
 use Rattle.laws.proofs.Check.{passed_9, to_9_exactly}
+use Rattle.laws.proofs.Refusals.{OnRefusal, on_sound, on_fields_lem}
 use Rattle.std.specs.Prelude.{Result, Ok, Err, Option, Some, None}
 use Rattle.table.specs.declared.Fault.{Fault}
 use Rattle.table.specs.declared.Fault.TheVariants.{Cut, Bad, Trailing}
@@ -96,37 +97,26 @@ from_12 s n p h l = none s n p (λ e. omega arith) (λ e. omega arith) (λ e. om
 pub from_20 : (s : List ℕ) (n p : ℕ) → 20 ≤ n → Told s n p no_glyph
 from_20 s n p h = none s n p (λ e. omega arith) (λ e. omega arith) (λ e. omega arith) (λ e. omega arith) (λ e. omega arith)
 
--- an answer of the check whose refusal tells its glyph
-abbrev pub Numbered : List ℕ → Result Font Refusal → Type 0
-Numbered s (Ok f) = Unit {0}
-Numbered s (Err r) = Tells s r
+-- an answer whose refusal tells its glyph
+abbrev pub Numbered : {A : Type 0} → List ℕ → Result A Refusal → Type 0
+Numbered {A} s = OnRefusal {A = A} (Tells s)
 
-abbrev NumberedHead : List ℕ → Result Fields Refusal → Type 0
-NumberedHead s (Ok f) = Unit {0}
-NumberedHead s (Err r) = Tells s r
+pub refusal_tells : {A : Type 0} (s : List ℕ) (r : Refusal) (x : Result A Refusal) → Numbered s x → x ≡ Err r → TellsGlyph s r
+refusal_tells s r x n e = tells s r (subst (Numbered s) e n)
 
 -- the check, stage by stage
 module _ (s : List ℕ) where
-  or_else : (t : Bool) (a b : Result Font Refusal) → Numbered s a → Numbered s b → Numbered s (when t a b)
+  or_else : {A : Type 0} (t : Bool) (a b : Result A Refusal) → Numbered s a → Numbered s b → Numbered s (when t a b)
   or_else = by_when (Numbered s)
 
   low : (n p : ℕ) → n < 9 → Told s n p no_glyph
   low = before_9 s
 
-  pub on_sound : (c : Result Font Refusal) (k : Font → Result Font Refusal) → Numbered s c → ((f : Font) → c ≡ Ok f → Numbered s (k f)) → Numbered s (and_then c k)
-  on_sound (Ok f) k a g = g f refl
-  on_sound (Err r) k a g = a
-
-  head : NumberedHead s (head_of s)
+  head : Numbered s (head_of s)
   unfolding head_of
   head =
-      let w : (t : Bool) (a b : Result Fields Refusal) → NumberedHead s a → NumberedHead s b → NumberedHead s (when t a b) = by_when (NumberedHead s) in
-      w _ _ _ (low _ _ (omega arith)) (w _ _ _ (low _ _ (omega arith)) (w _ _ _ (low _ _ (omega arith)) (w _ _ _ (low _ _ (omega arith))
-      (w _ _ _ (low _ _ (omega arith)) (w _ _ _ (low _ _ (omega arith)) (w _ _ _ (low _ _ (omega arith)) tt))))))
-
-  on_fields_lem : (shaped : Fields → Result Font Refusal) → ((f : Fields) → Numbered s (shaped f)) → (h : Result Fields Refusal) → NumberedHead s h → Numbered s (on_fields shaped h)
-  on_fields_lem shaped g (Ok f) a = g f
-  on_fields_lem shaped g (Err r) a = a
+      or_else _ _ _ (low _ _ (omega arith)) (or_else _ _ _ (low _ _ (omega arith)) (or_else _ _ _ (low _ _ (omega arith)) (or_else _ _ _ (low _ _ (omega arith))
+      (or_else _ _ _ (low _ _ (omega arith)) (or_else _ _ _ (low _ _ (omega arith)) (or_else _ _ _ (low _ _ (omega arith)) tt))))))
 
   psf1 : Numbered s (psf1_says s)
   unfolding psf1_says
@@ -144,13 +134,13 @@ module _ (s : List ℕ) where
 
   named : (n : Option Kind) → Numbered s (named_says s n)
   named (Some Psf1) = psf1
-  named (Some Psf2) = on_fields_lem psf2_shaped psf2 (head_of s) head
-  named (Some Vfont2) = on_fields_lem vfont2_shaped vfont2 (head_of s) head
+  named (Some Psf2) = on_fields_lem _ psf2_shaped psf2 (head_of s) head
+  named (Some Vfont2) = on_fields_lem _ vfont2_shaped vfont2 (head_of s) head
   named None = low _ _ (omega arith)
 
   body : Numbered s (through_body s)
   unfolding through_body says_of sized
-  body = or_else _ _ _ (low _ _ (omega arith)) (on_sound (named_says s (kind_of s)) _ (named (kind_of s)) (λ f e. or_else _ _ _ (low _ _ (omega arith)) tt))
+  body = or_else _ _ _ (low _ _ (omega arith)) (on_sound _ (named_says s (kind_of s)) _ (named (kind_of s)) (λ f e. or_else _ _ _ (low _ _ (omega arith)) tt))
 
   -- 9, of a vfont2 font that its header describes
   module _ (f : Font) (k : f.kind ≡ Vfont2) (says : says_of s ≡ Ok f) where
@@ -192,7 +182,7 @@ module _ (s : List ℕ) where
     pub in_table : (n k g : ℕ) → ByTable n → (g < f.count) × InGlyph (coding_of f.kind) (tail_of s f) k g → Told s n (f.end + k) g
     in_table n k g b w =
         let few : f.count ≤ 4096 = (placed s f (byte_at s y 3) passed).2 in (
-          of_table b (record { font = f; passes = (to_9_exactly s (gives f)).0 (ap check_says passed); offset = k; here = refl; complete = w.1; below = w.0 }),
+          of_table b (record { font = f; passes = (to_9_exactly s (gives f)).0 (ap says passed); offset = k; here = refl; complete = w.1; below = w.0 }),
           omega (arith, w.0),
         )
 
@@ -212,8 +202,8 @@ module _ (s : List ℕ) where
 
   through : Numbered s (through_entries s)
   unfolding through_entries
-  through = on_sound (through_body s) (entries_of s) body entries
+  through = on_sound _ (through_body s) (entries_of s) body entries
 
   pub check_numbered : Bytes s → Numbered s (check_of s)
   unfolding check_of
-  check_numbered y = on_sound (through_entries s) (tailed s) through (tail y)
+  check_numbered y = on_sound _ (through_entries s) (tailed s) through (tail y)

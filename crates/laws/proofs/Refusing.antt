@@ -42,7 +42,8 @@ use Rattle.conversion.specs.Reading.{same_kind, is_psf1_count, suits_psf1, is_ev
 use Rattle.conversion.proofs.Cases.{kind_same, right_kind, wrong_kind, not_opened, count_256, count_512, count_wrong, width_other, width_eight, last_logical, uneven_within, measured_is, suits_is, too_large, fits, suited, unsuited, opened_as}
 use Rattle.conversion.proofs.Ready.{even_fields}
 use Rattle.convert.specs.Reading.{converted, converted_of}
-use Rattle.laws.specs.Meaning.{Exact, refuses, converted_says, GlyphsAt, Holds, FirstValue, ValueAt, needed, ConversionRows}
+use Rattle.laws.specs.Meaning.{Exact, refuses, says, GlyphsAt, Holds, FirstValue, ValueAt, needed, ConversionRows}
+use Rattle.laws.proofs.Refusals as refusals
 use Rattle.laws.proofs.Exactly.{is, row, row_at, own_first, reading_of, less}
 use Rattle.laws.proofs.Asking.{described, read_as}
 use Rattle.std.specs.Prelude.{Result, Ok, Err, Option, Some, None}
@@ -193,9 +194,6 @@ module _ (s : List ℕ) (f : Font) (y : Bytes s) (e : check_of s ≡ Ok f) where
   suits_or Vfont2ToPsf2 =
       subst (Suited Vfont2ToPsf2) (suits_is Vfont2ToPsf2 Vfont2ToPsf2 s f refl) (by_evenness (evenness s f.height f.width f.entries f.count 0) refl)
 
-  not_suited : {A : Type 0} (x : Result (Unit {0}) Refusal) (r : Refusal) → x ≡ Ok tt → x ≡ Err r → A
-  not_suited x r a b = let z : ◌≡◌ {A = ℕ} 0 1 = cc in absurd (omega arith)
-
 -- 19: whether the target's coding carries the table
 pub measured_as : (c : Conversion) (tl : List ℕ) (ds : List Desc) → Readable (coding_of (source_kind c)) ds → tl ≡ encode (coding_of (source_kind c)) ds →
     measured_of c tl ≡ table_len (coding_of (source_kind c)) (coding_of (target_kind c)) tl
@@ -222,9 +220,6 @@ module _ (c : Conversion) (tl : List ℕ) (ds : List Desc) (o : Readable (coding
       go : (x : Result ℕ ℕ) → table_len from to tl ≡ x → (measured_of c tl ≡ Ok (length (encode to ds))) ⊎ ((k : ℕ) × FirstUncarried from to (items ds) 0 k)
       go (Ok n) q = inl (measured_as c tl ds o e ∙ q ∙ ap Ok ((length_exactly from to ds tl o e n).0 q).1)
       go (Err k) q = inr (k, (uncarried_exactly from to ds tl o e k).0 q)
-
-  not_carried : {A : Type 0} (x : Result ℕ ℕ) (n k : ℕ) → x ≡ Ok n → x ≡ Err k → A
-  not_carried x n k a b = let z : ◌≡◌ {A = ℕ} 0 1 = cc in absurd (omega arith)
 
 -- an item that one coding has and another hasn't has a value that the other hasn't
 uncarried_value : (from to : Coding) (i : Item) → OfCoding from (i ∷ []) → (OfCoding to (i ∷ []) → ⊥) → (v : ℕ) × Holds v i × ValueOf from v × (ValueOf to v → ⊥)
@@ -402,8 +397,8 @@ module _ (c : Conversion) (s : List ℕ) (f : Font) (m : ℕ) (y : Bytes s) (e :
   from_font : (p : Result (Font × ℕ) Refusal) → p ≡ prepared_on c s f → converted_of c s m ≡ converted p m
   from_font p z = from_prepared c s m p (z ∙ on_kind c s m f e q)
 
-  glyphs_given : (p : ℕ) → GlyphsAt c s f p → converted_says (converted_of c s m) ≡ refuses 18 p
-  glyphs_given p g = let w = glyphs_by s f y e c p g in ap converted_says (from_font (Err (refusal_at Glyphs p w.0)) (unsuited c s f (refusal_at Glyphs p w.0) w.1))
+  glyphs_given : (p : ℕ) → GlyphsAt c s f p → says (converted_of c s m) ≡ refuses 18 p
+  glyphs_given p g = let w = glyphs_by s f y e c p g in ap says (from_font (Err (refusal_at Glyphs p w.0)) (unsuited c s f (refusal_at Glyphs p w.0) w.1))
 
   suits : Never (GlyphsAt c s f) → suits_of c s f ≡ Ok tt
   suits n = go (suits_or s f y e c)
@@ -412,10 +407,10 @@ module _ (c : Conversion) (s : List ℕ) (f : Font) (m : ℕ) (y : Bytes s) (e :
       go (inl z) = z
       go (inr (p, g)) = absurd (n p g)
 
-  value_given : Never (GlyphsAt c s f) → (k : ℕ) → ValueAt c ds k → converted_says (converted_of c s m) ≡ refuses 19 (f.end + k)
+  value_given : Never (GlyphsAt c s f) → (k : ℕ) → ValueAt c ds k → says (converted_of c s m) ≡ refuses 19 (f.end + k)
   value_given n k v =
       let w = value_by c (tail_of s f) ds of_source.0 of_source.1 k ((value_first c ds k of_source.0).0 v) in
-      ap converted_says (from_font (measured_then c f (tail_of s f) (measured_of c (tail_of s f))) (suited c s f (suits n)) ∙ ap (λ (x : Result ℕ ℕ). converted (measured_then c f (tail_of s f) x) m) w)
+      ap says (from_font (measured_then c f (tail_of s f) (measured_of c (tail_of s f))) (suited c s f (suits n)) ∙ ap (λ (x : Result ℕ ℕ). converted (measured_then c f (tail_of s f) x) m) w)
 
   fitted : Never (GlyphsAt c s f) → Never (ValueAt c ds) → converted_of c s m ≡ converted (fitting f (needed c f ds)) m
   fitted n v = go (carried_or c (tail_of s f) ds of_source.0 of_source.1)
@@ -439,7 +434,7 @@ module _ (c : Conversion) (s : List ℕ) (f : Font) (m : ℕ) (y : Bytes s) (e :
   glyphs_or = go (suits_or s f y e c)
     where
       go : (suits_of c s f ≡ Ok tt) ⊎ ((p : ℕ) × GlyphsAt c s f p) → ((p : ℕ) × GlyphsAt c s f p) ⊎ Never (GlyphsAt c s f)
-      go (inl z) = inr (λ p g. not_suited s f y e _ _ z (glyphs_by s f y e c p g).1)
+      go (inl z) = inr (λ p g. refusals.not_both _ _ _ z (glyphs_by s f y e c p g).1)
       go (inr g) = inl g
 
   value_or : ((k : ℕ) × ValueAt c ds k) ⊎ Never (ValueAt c ds)
@@ -448,7 +443,7 @@ module _ (c : Conversion) (s : List ℕ) (f : Font) (m : ℕ) (y : Bytes s) (e :
       go : (measured_of c (tail_of s f) ≡ Ok (length (encode (coding_of (target_kind c)) ds))) ⊎ ((k : ℕ) × FirstUncarried (coding_of (source_kind c)) (coding_of (target_kind c)) (items ds) 0 k) →
           ((k : ℕ) × ValueAt c ds k) ⊎ Never (ValueAt c ds)
       go (inl z) =
-          inr (λ k v. let w = value_by c (tail_of s f) ds of_source.0 of_source.1 k ((value_first c ds k of_source.0).0 v) in not_carried c (tail_of s f) ds of_source.0 of_source.1 _ _ _ z w)
+          inr (λ k v. let w = value_by c (tail_of s f) ds of_source.0 of_source.1 k ((value_first c ds k of_source.0).0 v) in refusals.not_both _ _ _ z w)
       go (inr (k, u)) = inl (k, (value_first c ds k of_source.0).1 u)
 
 -- two kinds are one or not
@@ -478,16 +473,16 @@ not_wrong a b n = go (one_kind a b)
     go (inr m) = absurd (n m)
 
 -- all rows
-pub conversion_rows : (c : Conversion) (s : List ℕ) (m : ℕ) → Bytes s → Exact (converted_says (converted_of c s m)) (ConversionRows c s m)
+pub conversion_rows : (c : Conversion) (s : List ℕ) (m : ℕ) → Bytes s → Exact (says (converted_of c s m)) (ConversionRows c s m)
 conversion_rows c s m y =
-    own_first s (λ r e. ap converted_says (own_given c s m r e)) (λ f e.
-    row (wrong_or f.kind (source_kind c)) (λ n. ap converted_says (kind_given c s m f e n)) (λ n.
+    own_first s (λ r e. ap says (own_given c s m r e)) (λ f e.
+    row (wrong_or f.kind (source_kind c)) (λ n. ap says (kind_given c s m f e n)) (λ n.
     let q = not_wrong f.kind (source_kind c) n in
     reading_of s f (described s f y e) (λ ds d.
     let r = read_as s f y e ds d in
     row_at (glyphs_or c s f m y e q ds r) (glyphs_given c s f m y e q ds r) (λ ng.
     row_at (value_or c s f m y e q ds r) (value_given c s f m y e q ds r ng) (λ nv.
-    row (less limit (needed c f ds)) (λ h. ap converted_says (size_given c s f m y e q ds r ng nv h)) (λ h.
+    row (less limit (needed c f ds)) (λ h. ap says (size_given c s f m y e q ds r ng nv h)) (λ h.
     let small : needed c f ds ≤ limit = omega arith in
-    row (less m (needed c f ds)) (λ l. ap converted_says (room_given c s f m y e q ds r ng nv small l)) (λ l.
-    is _ _ (ap converted_says (wrote_given c s f m y e q ds r ng nv small (omega arith))))))))))
+    row (less m (needed c f ds)) (λ l. ap says (room_given c s f m y e q ds r ng nv small l)) (λ l.
+    is _ _ (ap says (wrote_given c s f m y e q ds r ng nv small (omega arith))))))))))

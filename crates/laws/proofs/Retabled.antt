@@ -34,7 +34,7 @@ use Rattle.header.specs.Reading.{says_of}
 use Rattle.header.proofs.Front.{says_front, parts}
 use Rattle.stages.specs.Meaning.{coding_of, tail_of}
 use Rattle.stages.specs.Reading.{through_body, through_entries, check_of}
-use Rattle.stages.proofs.Cases.{accepted, body_after, body_whole, entries_after, entries_of_lem}
+use Rattle.stages.proofs.Cases.{body_after, body_whole, entries_after, entries_of_lem}
 use Rattle.bitmap.specs.declared.Bitmap.{Bitmap}
 use Rattle.bitmap.specs.Meaning.{even_bitmap, kind_metrics, pixel_in}
 use Rattle.bitmap.proofs.Places.{known, too_high}

@@ -29,7 +29,7 @@ use Rattle.stages.specs.Reading.{check_of}
 use Rattle.content.specs.Meaning.{Describes}
 use Rattle.edit.specs.Reading.{add_answer, drop_answer}
 use Rattle.fonts.specs.Reading.{item_of, value_glyph, sequence_glyph}
-use Rattle.laws.specs.Meaning.{Said, gives, refuses, walk_says, lookup_says, edited_says, In, HasBytes, Holds, Row, Reading, ItemRows, AddLast, given, skipped, own, sound, reads, gives_it}
+use Rattle.laws.specs.Meaning.{Said, gives, refuses, says, In, HasBytes, Holds, Row, Reading, ItemRows, AddLast, given, skipped, own, sound, reads, gives_it}
 use Rattle.laws.proofs.Questions.{item_exactly, value_exactly, sequence_exactly}
 use Rattle.laws.proofs.Asking.{described, not_bare}
 use Rattle.laws.proofs.Listed.{no_value, listed_value, listed_sequence, item_value}
@@ -65,7 +65,7 @@ module _ (s : List ℕ) (f : Font) (ds : List Desc) (marked : f.table ≡ true) 
 
 module _ (s : List ℕ) (y : Bytes s) where
   -- a walk gives none
-  pub walk_none : (g k : ℕ) (i : Item) (v : ℕ) → walk_says (item_of s g k) ≡ gives i → Holds v i → Noncharacter v → ⊥
+  pub walk_none : (g k : ℕ) (i : Item) (v : ℕ) → says (item_of s g k) ≡ gives i → Holds v i → Noncharacter v → ⊥
   walk_none g k i v e h n = go ((item_exactly s y g k (gives i)).0 e)
     where
       no : {A : Type 0} {p q : ℕ} → ◌≡◌ {A = Said Item} (gives i) (refuses p q) → A
@@ -83,13 +83,13 @@ module _ (s : List ℕ) (y : Bytes s) where
 
   module _ (f : Font) (e : check_of s ≡ Ok f) (marked : f.table ≡ true) where
     -- looked up
-    pub value_none : (v : ℕ) → v ≤ 0x10FFFF → Noncharacter v → lookup_says (value_glyph s v) ≡ refuses 15 0
+    pub value_none : (v : ℕ) → v ≤ 0x10FFFF → Noncharacter v → says (value_glyph s v) ≡ refuses 15 0
     value_none v l n =
         let r = described s f y e in
         (value_exactly s y v (refuses 15 0)).1
         (sound f e (skipped (not-false marked) (skipped (λ h. omega arith) (reads r.0 r.1 (given (no_single s f r.0 marked r.1 v n) refl)))))
 
-    pub sequence_none : (vs : List ℕ) → Any Noncharacter vs → (Any (λ (v : ℕ). 0x10FFFF < v) vs → ⊥) → lookup_says (sequence_glyph s vs) ≡ refuses 15 0
+    pub sequence_none : (vs : List ℕ) → Any Noncharacter vs → (Any (λ (v : ℕ). 0x10FFFF < v) vs → ⊥) → says (sequence_glyph s vs) ≡ refuses 15 0
     sequence_none vs a l =
         let r = described s f y e in
         (sequence_exactly s y vs (refuses 15 0)).1
@@ -123,7 +123,7 @@ module _ (xs : List ℕ) (y : Bytes xs) (len g v : ℕ) (within : len ≤ length
       go (inl a) = omega (arith, a.0, q.1)
       go (inr a) = omega (arith, a, q.1)
 
-  pub add_none : edited_says (add_answer xs len g v) ≡ refuses 13 0
+  pub add_none : says (add_answer xs len g v) ≡ refuses 13 0
   add_none =
       (add_rows xs y len g v (refuses 13 0)).1
       (skipped (λ h. omega arith) (sound f e (skipped (λ k. k kind) (skipped (not-false marked) (go (below g f.count) (below 0x10FFFF v))))))
@@ -139,7 +139,7 @@ module _ (xs : List ℕ) (y : Bytes xs) (len g v : ℕ) (within : len ≤ length
           fine a c (inr (inl q)) = omega arith
           fine a c (inr (inr q)) = no_surrogate q
 
-  pub drop_none : g < f.count → v ≤ 0x10FFFF → edited_says (drop_answer xs len g v) ≡ refuses 25 0
+  pub drop_none : g < f.count → v ≤ 0x10FFFF → says (drop_answer xs len g v) ≡ refuses 25 0
   drop_none h b =
       let r = described (take len xs) f (bytes_take len xs y) e in
       (drop_rows xs y len g v (refuses 25 0)).1

@@ -34,7 +34,7 @@ use Rattle.convert.specs.Reading.{converted_of}
 use Rattle.lookup.specs.Reading.{find_value, goes_on, is_whole, find_sequence_from}
 use Rattle.questions.specs.Reading.{any_high}
 use Rattle.fonts.specs.Reading.{value_glyph, sequence_glyph}
-use Rattle.laws.specs.Meaning.{gives, refuses, lookup_says, converted_says}
+use Rattle.laws.specs.Meaning.{gives, refuses, says}
 use Rattle.std.specs.Prelude.{Err}
 use Rattle.table.specs.declared.Fault.TheVariants.{Cut, Bad, Trailing}
 
@@ -170,11 +170,11 @@ small_tables = (
 )
 
 -- "As vfont2 it takes 81 bytes; a buffer of 80 gives ROOM, place 81."
-pub small_as_vfont2 : (converted_says (converted_of Psf2ToVfont2 small 80) ≡ refuses 21 81) × (converted_says (converted_of Psf2ToVfont2 small 81) ≡ gives 81)
+pub small_as_vfont2 : (says (converted_of Psf2ToVfont2 small 80) ≡ refuses 21 81) × (says (converted_of Psf2ToVfont2 small 81) ≡ gives 81)
 unfolding when le16 le32 lead_of conts is_noncharacter permitted_at read_value read_utf8 mark_len read_token steps_from check_steps glyph_bytes starts_with kind_of head_of psf2_shaped says_of sized entries_of tailed through_body through_entries check_of converted_of prepared_of prepared_on opened_of of_kind suits_of measured_of fitting front_len
 small_as_vfont2 = (refl, refl)
 
 -- it maps 41 to glyph 0, C5 and the sequence 41 30A to glyph 1
-pub small_looked_up : (lookup_says (value_glyph small 0x41) ≡ gives 0) × (lookup_says (value_glyph small 0xC5) ≡ gives 1) × (lookup_says (sequence_glyph small (0x41 ∷ 0x30A ∷ [])) ≡ gives 1)
+pub small_looked_up : (says (value_glyph small 0x41) ≡ gives 0) × (says (value_glyph small 0xC5) ≡ gives 1) × (says (sequence_glyph small (0x41 ∷ 0x30A ∷ [])) ≡ gives 1)
 unfolding when le16 le32 lead_of conts is_noncharacter permitted_at read_value read_utf8 mark_len read_token steps_from check_steps glyph_bytes starts_with kind_of head_of psf2_shaped says_of sized entries_of tailed through_body through_entries check_of value_glyph sequence_glyph any_high value_item step_items find_value goes_on is_whole find_sequence_from
 small_looked_up = (refl, refl, refl)

@@ -41,36 +41,15 @@ pub data Said (A : Type 0) : Type 0 where
 abbrev pub told : {A : Type 0} → Refusal → Said A
 told r = refuses (number_of r.reason) r.place
 
-abbrev pub check_says : Result Font Refusal → Said Font
-check_says (Ok f) = gives f
-check_says (Err r) = told r
+-- of any call: what it answers, else its refusal
+abbrev pub says : {A : Type 0} → Result A Refusal → Said A
+says (Ok v) = gives v
+says (Err r) = told r
 
--- an offset and a length
+-- of a part: an offset and a length
 abbrev pub part_says : Result Part Refusal → Said (ℕ × ℕ)
 part_says (Ok p) = gives (p.start, p.len)
 part_says (Err r) = told r
-
-abbrev pub pixel_says : Result ℕ Refusal → Said ℕ
-pixel_says (Ok v) = gives v
-pixel_says (Err r) = told r
-
-abbrev pub metrics_says : Result Metrics Refusal → Said Metrics
-metrics_says (Ok m) = gives m
-metrics_says (Err r) = told r
-
-abbrev pub walk_says : Result Item Refusal → Said Item
-walk_says (Ok i) = gives i
-walk_says (Err r) = told r
-
--- a glyph number
-abbrev pub lookup_says : Result ℕ Refusal → Said ℕ
-lookup_says (Ok g) = gives g
-lookup_says (Err r) = told r
-
--- the bytes written
-abbrev pub converted_says : Result ℕ Refusal → Said ℕ
-converted_says (Ok n) = gives n
-converted_says (Err r) = told r
 
 -- Rows: "Checks on a font run in this order; the first that applies is given."
 
@@ -406,11 +385,6 @@ pub record RoundTrip (s o : List ℕ) : Type 0 where
   pub others : (length o ≡ length s) × ((i : ℕ) → (i ≡ 2 → ⊥) → get_or o i 0 ≡ get_or s i 0)
 
 -- Edits (document 02, W4): "Order: the font's, 17, 14, 13, 24 or 25, 20, 21."
-
--- the new length
-abbrev pub edited_says : Result ℕ Refusal → Said ℕ
-edited_says (Ok n) = gives n
-edited_says (Err r) = told r
 
 -- "ASK also for L beyond the buffer (before all others) and for a surrogate": the rows before 24, of a font in the first len bytes of xs
 abbrev pub EditRows : List ℕ → ℕ → ℕ → ℕ → (List Desc → Said ℕ → Type 0) → Said ℕ → Type 0

@@ -89,7 +89,7 @@ fn put_gathered(file: &[u8], f: Font, size: usize, out: &mut [u8])
 {
     for i in 0..f.count {
         let entry = f.entries + i * Vfont2::ENTRY_LEN;
-        let start = f.bitmaps + base::size(base::get32(file, entry));
+        let start = f.bitmaps + base::get32(file, entry) as usize;
         let at = i * size;
         base::copy(&file[start..start + size], &mut out[at..]);
     }

@@ -64,7 +64,7 @@ impl Psf1 {
         if 5 < mode {
             return Err(refusal::refuse(Reason::Version, 2));
         }
-        let size = base::size(base::wide(file[3]));
+        let size = usize::from(file[3]);
         if size == 0 {
             return Err(refusal::refuse(Reason::Shape, 3));
         }

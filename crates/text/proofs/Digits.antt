@@ -1,5 +1,5 @@
 -- Numbers as digits: one digit, or the digits of the number divided and one more; how many there are.
-use mathlib.Core.Path.{◌≡◌, refl, ◌∙◌, ap, subst}
+use mathlib.Core.Path.{◌≡◌, refl, ◌∙◌, ap}
 use mathlib.Core.Logic.{◌⊎◌, inl, inr}
 use mathlib.Core.List.{List, [], ◌∷◌, ◌++◌}
 use Prim.Native.Nat.{ℕ, zero, suc, ◌+◌, ◌*◌, ◌/◌, ◌%◌, ◌≤◌, ◌<◌}
@@ -10,7 +10,6 @@ use lib.ListN.{length, length-append}
 use borrow.Author.Tests.{lt-ltb, le-ltb}
 use Rattle.base.specs.Meaning.{pick}
 use Rattle.base.proofs.Tests.{below}
-use Rattle.base.specs.Reading.{over}
 use Rattle.text.specs.Meaning.{number_text}
 use Rattle.text.specs.Reading.{digit_of, digits, numeral}
 
@@ -91,10 +90,6 @@ decimal_5 n h = short 10 10 (omega arith) (omega arith) 4 n n (omega arith)
 pub hexadecimal_8 : (v : ℕ) → v < 4294967296 → length (numeral 16 v) ≤ 8
 unfolding numeral
 hexadecimal_8 v h = short 16 16 (omega arith) (omega arith) 7 v v (omega arith)
-
--- a number under another name
-pub same_numeral : (b m n : ℕ) (xs ys : List ℕ) (k : ℕ) → m ≡ n → (k ≡ length (numeral b m)) × (ys ≡ over (numeral b m) xs) → (k ≡ length (numeral b n)) × (ys ≡ over (numeral b n) xs)
-same_numeral b m n xs ys k e = subst (λ (x : ℕ). (k ≡ length (numeral b x)) × (ys ≡ over (numeral b x) xs)) e
 
 pub number_text_lem : (n b : ℕ) → number_text n b ≡ numeral 10 n ++ (b ∷ [])
 unfolding number_text

@@ -86,6 +86,6 @@ pub fn put_value(lead: u8, v: u32, out: &mut [u8]) -> usize
     ensures { (result ≡ length (lead ∷ numeral 16 v)) × (out.new ≡ over (lead ∷ numeral 16 v) out.old) }
 {
     let a = put_byte(lead, out);
-    let l = put_numeral(16, base::size(v), &mut out[a..]);
+    let l = put_numeral(16, v as usize, &mut out[a..]);
     a + l
 }

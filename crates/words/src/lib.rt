@@ -14,6 +14,7 @@ pub fn put_refused(r: Refusal, out: &mut [u8]) -> usize
     ensures { (result ≡ length (refused_text r)) × (out.new ≡ over (refused_text r) out.old) × (result ≤ 96) }
 {
     let a = text::put_text(b"refused ", out);
+    // Not `as usize`: of it `put_number-requires-2` and `-3`, and the bounds of the parts lent there, are not found, with a law for 32 bits neither.
     let b = a + text::put_number(base::size(refusal::number(r.reason)), b' ', &mut out[a..]);
     let d = b + text::put_number(r.place, b' ', &mut out[b..]);
     d + text::put_number(r.glyph, b'\n', &mut out[d..])

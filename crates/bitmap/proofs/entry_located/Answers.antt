@@ -7,7 +7,7 @@ pub returns-in-Empty : goal.returns-in-Empty
 returns-in-Empty c = ap Err c.refuse.ensures ∙ rw (sym c.entry_at-e.ensures ∙ c.in-Empty.is)
 
 pub returns-in-Glyph : goal.returns-in-Glyph
-returns-in-Glyph c = rw (sym c.entry_at-e.ensures ∙ c.in-Glyph.is, c.size.ensures, c.size-in-Glyph.ensures, c.get32.ensures, c.get32-in-Glyph.ensures)
+returns-in-Glyph c = rw (sym c.entry_at-e.ensures ∙ c.in-Glyph.is, c.get32.ensures, c.get32-in-Glyph.ensures)
 
 pub returns-in-Broken : goal.returns-in-Broken
 returns-in-Broken c = ap Err c.refuse_at.ensures ∙ rw (sym c.entry_at-e.ensures ∙ c.in-Broken.is)

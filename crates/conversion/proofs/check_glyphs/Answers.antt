@@ -3,7 +3,6 @@ use mathlib.Core.Path.{◌∙◌, ap}
 use Rattle.conversion.proofs.Cases as cases
 use Rattle.conversion.specs.declared.Conversion.TheVariants.{Psf1ToPsf2, Psf2ToPsf1, Psf2ToVfont2, Vfont2ToPsf2}
 use Rattle.conversion.specs.Meaning.{source_kind}
-use borrow.Author.Rules.{rules}
 use Rattle.conversion.proofs.check_glyphs.Goals as goal
 
 pub suits_psf2-requires : goal.suits_psf2-requires

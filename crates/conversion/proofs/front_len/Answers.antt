@@ -3,7 +3,6 @@ use native.Mathlib.Omega.{arith}
 use Prim.Native.Nat.{◌≤◌}
 use Rattle.conversion.proofs.Cases as cases
 use native.Mathlib.Nat.{mul-le-mul}
-use borrow.Author.Rules.{rules}
 use Rattle.conversion.proofs.front_len.Goals as goal
 
 pub overflow_mul-result : goal.overflow_mul-result

@@ -2,7 +2,6 @@
 use native.Mathlib.Omega.{arith}
 use mathlib.Core.Path.{sym, ◌∙◌}
 use Rattle.conversion.proofs.Cases.{cut_length, cut_placed, told_at_lem}
-use borrow.Author.Rules.{rules}
 use Rattle.conversion.proofs.glyph_at.Goals as goal
 
 pub overflow_add-to : goal.overflow_add-to

@@ -11,7 +11,6 @@ use Rattle.header.specs.declared.Font.{Font}
 use Rattle.conversion.specs.declared.Conversion.{Conversion}
 use Rattle.base.proofs.Parts.{rest_all, rest_length}
 use Rattle.stages.specs.Meaning.{tail_of}
-use borrow.Author.Rules.{rules}
 use Rattle.conversion.proofs.measured.Goals as goal
 use Rattle.std.specs.Prelude.{Result, Err}
 

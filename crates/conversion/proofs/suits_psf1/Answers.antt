@@ -1,8 +1,6 @@
 -- `conversion::suits_psf1` meets its contract: each return is one case of the definition. Assumes nothing.
-use borrow.Author.Rules.{rules}
 use mathlib.Core.Path.{sym, ◌∙◌, ap}
 use Rattle.conversion.proofs.Cases as cases
-use borrow.Author.Tests.{not-true, not-false}
 use Rattle.conversion.proofs.suits_psf1.Goals as goal
 use Rattle.std.specs.Prelude.{Err}
 

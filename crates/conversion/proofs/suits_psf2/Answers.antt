@@ -6,7 +6,6 @@ use Rattle.conversion.proofs.Cases as cases
 use Rattle.header.specs.declared.Kind.{Kind}
 use Rattle.header.specs.Bounds.{KindPlaced}
 use Rattle.conversion.specs.Reading.{even_suits}
-use borrow.Author.Rules.{rules}
 use Rattle.conversion.proofs.suits_psf2.Goals as goal
 use Rattle.std.specs.Prelude.{Err}
 

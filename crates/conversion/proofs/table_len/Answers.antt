@@ -3,7 +3,6 @@ use native.Mathlib.Omega.{arith}
 use mathlib.Core.Path.{◌∙◌}
 use Rattle.conversion.specs.declared.Conversion.TheVariants.{Psf1ToPsf2, Psf2ToPsf1, Psf2ToVfont2, Vfont2ToPsf2}
 use Rattle.conversion.proofs.Cases.{measured_is as told}
-use borrow.Author.Rules.{rules}
 use Rattle.conversion.proofs.table_len.Goals as goal
 
 pub returns-in-Psf1ToPsf2 : goal.returns-in-Psf1ToPsf2

@@ -6,4 +6,4 @@ use Rattle.entries.proofs.cols_at.Goals as goal
 
 pub returns : goal.returns
 unfolding cols_at
-returns c = (c.size.ensures ∙ c.span.ensures.0 ∙ rw (c.get16.ensures.0, c.get16-2.ensures.0), omega arith)
+returns c = (c.span.ensures.0 ∙ rw (c.get16.ensures.0, c.get16-2.ensures.0), omega arith)

@@ -24,4 +24,4 @@ pub returns-then-count-gt4096 : goal.returns-then-count-gt4096
 returns-then-count-gt4096 c = record { equal = ap Err c.refuse-then-count-gt4096.ensures ∙ cases.head_many c.args.file.now (omega arith); bounded = tt }
 
 pub returns : goal.returns
-returns c = record { equal = cases.head_read c.args.file.now c.size-header.result c.size-count.result c.size.result c.size-2.result c.size-3.result c.get32-flags.result (omega arith) (omega arith); bounded = omega arith }
+returns c = record { equal = cases.head_read c.args.file.now c.get32-header.result c.get32-count.result c.get32-2.result c.get32-3.result c.get32-4.result c.get32-flags.result (omega arith) (omega arith); bounded = omega arith }

@@ -21,7 +21,7 @@ loop-i-preserved c = let a = c.args in
     let l = c.loop-i in
     let d = a.f.bitmaps + address_at a.file.now (entry_at a.f.entries l.i) in
     let x = take a.size (drop d a.file.now) in
-    let q = part_said a.file.now a.size (a.f.bitmaps + c.size.result) d (a.f.bitmaps + c.size.result + a.size) (omega arith) refl in
+    let q = part_said a.file.now a.size (a.f.bitmaps + c.get32.result) d (a.f.bitmaps + c.get32.result + a.size) (omega arith) refl in
     let k : a.size ≡ length x = sym (part_length a.file.now a.size d (c.requires.3 l.i (omega arith))) in
     goes_to _ x _ _ _ _ _ (l.i * a.size) a.size _ (next_multiple _ l.i a.size refl) q (k ∙ sym (ap length q)) c.copy.ensures
     (subst (Written (gathered a.file.now a.f a.size 0 a.f.count) a.out.now (l.i * a.size) l.out) (gathered_next a.file.now a.f a.size a.f.count l.i _ refl (omega arith)) l.invariant)

@@ -14,10 +14,10 @@ pub returns-then-size-eq0 : goal.returns-then-size-eq0
 returns-then-size-eq0 c = ap Err c.refuse-then-size-eq0.ensures ∙ cases.psf1_shape c.args.file.now (omega arith)
 
 pub overflow_mul-result : goal.overflow_mul-result
-overflow_mul-result c = let h : c.count_of-count.result ≤ 512 = omega arith in let w : c.size-size.result ≤ 255 = omega arith in omega (arith, mul-le-mul h w)
+overflow_mul-result c = let h : c.count_of-count.result ≤ 512 = omega arith in let w : c.from-size.result ≤ 255 = omega arith in omega (arith, mul-le-mul h w)
 
 pub overflow_add-result : goal.overflow_add-result
-overflow_add-result c = let h : c.count_of-count.result ≤ 512 = omega arith in let w : c.size-size.result ≤ 255 = omega arith in omega (arith, mul-le-mul h w)
+overflow_add-result c = let h : c.count_of-count.result ≤ 512 = omega arith in let w : c.from-size.result ≤ 255 = omega arith in omega (arith, mul-le-mul h w)
 
 pub returns : goal.returns
-returns c = cases.psf1_read c.args.file.now c.count_of-count.result c.size-size.result _ _ c.count_of-count.ensures.0 (omega arith) c.table_of.ensures (omega arith) (omega arith)
+returns c = cases.psf1_read c.args.file.now c.count_of-count.result c.from-size.result _ _ c.count_of-count.ensures.0 (omega arith) c.table_of.ensures (omega arith) (omega arith)
