@@ -25,10 +25,11 @@ fn description_start(c: Coding, tail: &[u8], g: usize) -> usize
 {
     let mut left = g;
     let mut at: usize = 0;
-    for step in Steps::new(c, tail, 0) {
-        if left == 0 {
+    let mut steps = Steps::new(c, tail, 0);
+    while left != 0 {
+        let Some(step) = steps.next() else {
             return at;
-        }
+        };
         let Ok((token, next)) = step else {
             return at;
         };

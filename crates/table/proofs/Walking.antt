@@ -67,6 +67,10 @@ module _ (w v : Steps) where
   pub walked_out : (r : Option Step) → r ≡ None → WalksOn w r v → (steps_left w ≡ []) × (steps_left v ≡ [])
   walked_out r e h = stayed (subst (λ (y : Option Step). WalksOn w y v) e h)
 
+-- at the end of the bytes nothing is left
+pub along_end : (s : List ℕ) (at : ℕ) (w : Steps) → Along s at w → length s ≤ at → steps_left w ≡ []
+along_end s at w (p, a) h = (λ i. steps_at w.coding (p i) (a i)) ∙ none_left w.coding s at h
+
 -- a walk from a place in a coding, by its next step
 module _ (c : Coding) (s : List ℕ) (at : ℕ) (w v : Steps) where
   pub walked_says : (x : Step) (r : Option Step) → r ≡ Some x → WalksOn w r v → Begins c s at w → (at < length s) × StepSays c s at x

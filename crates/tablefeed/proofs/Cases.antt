@@ -5,6 +5,11 @@ use mathlib.Core.List.{List, [], ◌∷◌}
 use Prim.Native.Nat.{ℕ, suc, ◌+◌, ◌-◌, ◌≤◌, ◌<◌}
 use native.Mathlib.Omega.{arith}
 use Rattle.base.proofs.Tests.{nonzero}
+use lib.ListN.{length}
+use lib.Seq.{drop-cons}
+use Rattle.table.specs.declared.Steps.{Steps}
+use Rattle.table.specs.Reading.{steps_from, steps_at}
+use Rattle.table.specs.Walking.{Along, steps_left}
 use Rattle.tablefeed.specs.Reading.{going, stopped, unread, run_of}
 use Rattle.token.specs.declared.Token.TheVariants.{Value as TokenValue, Start as TokenStart, End as TokenEnd}
 use Rattle.token.specs.declared.Malformed.{Malformed}
@@ -48,9 +53,12 @@ module _ (g n : ℕ) (o : Bool) (at : ℕ) (h : g < n) where
 
 -- a step behind the last description, and where none is left
 module _ (g n : ℕ) (o : Bool) (at : ℕ) where
-  pub trailing : (xs ys : List Step) (x : Step) → n ≤ g → xs ≡ x ∷ ys → run_of g (n - g) o at xs ≡ stopped Trailing g at
-  unfolding run_of
-  trailing xs ys x q e = let d : n - g ≡ 0 = omega arith in rw (d, e)
+  pub trailing : (s : List ℕ) (w : Steps) → Along s at w → n ≤ g → at < length s → run_of g (n - g) o at (steps_left w) ≡ stopped Trailing g at
+  unfolding run_of steps_from
+  trailing s w (p, a) q h =
+      let d : n - g ≡ 0 = omega arith in
+      let e : steps_left w ≡ steps_at w.coding s at = λ i. steps_at w.coding (p i) (a i) in
+      rw (e, d, drop-cons s at 0 h)
 
   pub ended : (xs : List Step) → xs ≡ [] → run_of g (n - g) o at xs ≡ going g o at
   unfolding run_of

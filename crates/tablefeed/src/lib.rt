@@ -109,10 +109,11 @@ fn run_through(c: Coding, s: &[u8], start: usize, n: usize, ended: usize, opened
     let mut g = ended;
     let mut after = opened;
     let mut at = start;
-    for step in Steps::new(c, s, start) {
-        if n <= g {
-            return stopped_at(Halt::Trailing, g, at);
-        }
+    let mut steps = Steps::new(c, s, start);
+    while g < n {
+        let Some(step) = steps.next() else {
+            return going_at(g, after, at);
+        };
         let (token, next) = match step {
             Ok(read) => read,
             Err(m) => return unread_at(m, g, after, at),
@@ -133,6 +134,9 @@ fn run_through(c: Coding, s: &[u8], start: usize, n: usize, ended: usize, opened
             }
         }
         at = next;
+    }
+    if at < s.len() {
+        return stopped_at(Halt::Trailing, g, at);
     }
     going_at(g, after, at)
 }
