@@ -13,9 +13,9 @@ fn item_len(i: Item) -> usize
     ensures { (result ≡ length (item_text i)) × (result ≤ 9) }
 {
     match i {
-        Item::Single(v) => 1 + text::numeral_len(16, base::size(v)),
+        Item::Single(v) => 1 + text::numeral_len(16, v as usize),
         Item::Start => 1,
-        Item::Value(v) => 1 + text::numeral_len(16, base::size(v)),
+        Item::Value(v) => 1 + text::numeral_len(16, v as usize),
         Item::End => 1,
     }
 }

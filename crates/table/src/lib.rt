@@ -53,7 +53,7 @@ fn utf8_step(s: &[u8], at: usize) -> Step
     }
     let b = s[at];
     if b < 0x80 {
-        return Ok((Token::Value(base::wide(b)), at + 1));
+        return Ok((Token::Value(u32::from(b)), at + 1));
     }
     if b == 0xFF {
         return Ok((Token::End, at + 1));
@@ -224,7 +224,7 @@ fn utf8_plain(s: &[u8], at: usize, key: u32) -> Plain
 {
     let b = s[at];
     if b < 0x80 {
-        if base::wide(b) == key {
+        if u32::from(b) == key {
             return Plain::Other;
         }
         return Plain::Value(at + 1);

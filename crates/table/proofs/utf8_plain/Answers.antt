@@ -6,11 +6,11 @@ use Rattle.table.proofs.Firsts.{first_one, first_start, first_end}
 use Rattle.table.proofs.Plainly.{plained, with_key, without_key, one_key, length_none, length_some}
 use Rattle.table.proofs.utf8_plain.Goals as goal
 
-pub returns-then-wide-key : goal.returns-then-wide-key
-returns-then-wide-key c = plained Utf8 c.args.key c.args.s.now c.args.at _ _ (first_one c.args.s.now c.args.at c.requires c.if-b-lt128.true _ c.wide.ensures.0) (with_key _ _ Utf8 _ (one_key _ (omega (arith, c.wide.ensures.0)) ∙ c.if-wide-key.true))
+pub returns-then-from-key : goal.returns-then-from-key
+returns-then-from-key c = plained Utf8 c.args.key c.args.s.now c.args.at _ _ (first_one c.args.s.now c.args.at c.requires c.if-b-lt128.true _ c.from.ensures) (with_key _ _ Utf8 _ (one_key _ (omega (arith, c.from.ensures)) ∙ c.if-from-key.true))
 
 pub returns-then-b-lt128 : goal.returns-then-b-lt128
-returns-then-b-lt128 c = plained Utf8 c.args.key c.args.s.now c.args.at _ _ (first_one c.args.s.now c.args.at c.requires c.if-b-lt128.true _ c.wide.ensures.0) (without_key _ _ Utf8 _ (λ z. c.if-wide-key.false (sym (one_key _ (omega (arith, c.wide.ensures.0))) ∙ z)))
+returns-then-b-lt128 c = plained Utf8 c.args.key c.args.s.now c.args.at _ _ (first_one c.args.s.now c.args.at c.requires c.if-b-lt128.true _ c.from.ensures) (without_key _ _ Utf8 _ (λ z. c.if-from-key.false (sym (one_key _ (omega (arith, c.from.ensures))) ∙ z)))
 
 pub returns-then-b : goal.returns-then-b
 returns-then-b c = plained Utf8 c.args.key c.args.s.now c.args.at _ _ (first_end c.args.s.now c.args.at c.requires c.if-b.true) refl

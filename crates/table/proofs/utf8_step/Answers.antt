@@ -12,7 +12,7 @@ pub returns-then-s-at : goal.returns-then-s-at
 returns-then-s-at c = past_end _ _ _ c.if-s-at.true
 
 pub returns-then-b-lt128 : goal.returns-then-b-lt128
-returns-then-b-lt128 c = first_one c.args.s.now c.args.at c.if-s-at.false c.if-b-lt128.true _ c.wide.ensures.0
+returns-then-b-lt128 c = first_one c.args.s.now c.args.at c.if-s-at.false c.if-b-lt128.true _ c.from.ensures
 
 pub returns-then-b : goal.returns-then-b
 returns-then-b c = first_end c.args.s.now c.args.at c.if-s-at.false c.if-b.true
