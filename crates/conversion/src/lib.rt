@@ -20,7 +20,7 @@ use psf2::Psf2;
 use refusal::{Reason, Refusal};
 use vfont2::Vfont2;
 
-// Each conversion, by the kinds it goes between.
+// Each conversion, by the kinds it goes between. What depends on it is a `match`, no closure: there are four, and each match gives a value.
 #[derive(Clone, Copy)]
 pub enum Conversion {
     Psf1ToPsf2,

@@ -116,7 +116,8 @@ pub fn find_sequence(file: &[u8], vs: &[u32]) -> Result<usize, Refusal>
     questions::sequence_on(file, f, vs)
 }
 
-// The font as PSF2, at the front of out; its length is answered, and nothing behind it changes.
+// The font as PSF2, at the front of out; its length is answered, and nothing behind it changes. This and the three conversions below are four calls,
+// since C has four.
 // Refusals: the font's own (1 to 12), WRONG KIND, VALUE, SIZE, ROOM. A refused call leaves out as it was.
 pub fn psf1_to_psf2(file: &[u8], out: &mut [u8]) -> Result<usize, Refusal>
     ensures answer { result ≡ converted_of Psf1ToPsf2 file.now (length out.old) }

@@ -28,6 +28,8 @@ pub enum Kind {
 pub const LIMIT: usize = 1048576;
 
 // What an accepted font's header says: all that any other call needs. Offsets are in the file.
+// A font and its file stay two parameters of the calls above, with `Placed` in their contracts: a struct of both with a ghost field wants `Placed`
+// proved a proposition, and each `file.now` of a contract would read `o.entry.file.now`.
 #[derive(Clone, Copy, Debug, PartialEq, Eq)]
 pub struct Font {
     pub kind: Kind,

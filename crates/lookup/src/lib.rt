@@ -115,6 +115,7 @@ fn look(c: Coding, tail: &[u8], n: usize, asked: Asked) -> Result<Option<usize>,
     let mut left = n;
     let mut start: usize = table::NO_START;
     let mut at: usize = 0;
+    // It counts descriptions, and goes from cursor to cursor by `skip`: no index, and no iterator, for the reason that stands there.
     while left != 0 {
         let p = table::skip(c, &tail[..], key, at, left, start);
         left = p.left;

@@ -26,6 +26,7 @@ fn description_start(c: Coding, tail: &[u8], g: usize) -> usize
     let mut left = g;
     let mut at: usize = 0;
     let mut steps = Steps::new(c, tail, 0);
+    // It counts descriptions, no index, and tests before the next step is taken (docs/DECISIONS.md, "Speed").
     while left != 0 {
         let Some(step) = steps.next() else {
             return at;

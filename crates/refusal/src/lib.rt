@@ -34,7 +34,7 @@ pub enum Reason {
     NotThere = 25,
 }
 
-// No glyph's number: a font has at most 4,096, from 0 on.
+// No glyph's number: a font has at most 4,096, from 0 on. A number and no `None`, since C reads it so and `TellsGlyph` speaks of it.
 pub const NO_GLYPH: usize = 4096;
 
 // A refusal: the reason; its place: an offset in the file, 0 where there is nothing to point at, the size needed (ROOM), a line's

@@ -44,7 +44,8 @@ fn step_of(at: usize, r: Step) -> Step
     }
 }
 
-// The step in UTF-8, by its first byte where that decides; else it is a value's.
+// The step in UTF-8, by its first byte where that decides; else it is a value's. It and `ucs2_step`, as the two of `plain` and of `refused`, have
+// nothing in common but what they are asked: one goes by a first byte, the other by a number of two bytes.
 fn utf8_step(s: &[u8], at: usize) -> Step
     ensures { (result ≡ step_at Utf8 s.now at) × StepSays Utf8 s.now at result }
 {
@@ -102,7 +103,8 @@ pub fn value_of(step: Step) -> Option<(u32, usize)>
     }
 }
 
-// A walk over a tail from a place on: each token with the place after it, and last why none could be read, where it ends so.
+// A walk over a tail from a place on: each token with the place after it, and last why none could be read, where it ends so. Calls take a coding and
+// a tail, no struct of both: a contract would read `t.entry.coding` and `t.entry.bytes.now` where it reads `c` and `tail.now`.
 #[derive(Clone, Copy, Drop)]
 pub struct Steps<'a> {
     pub coding: Coding,
@@ -208,7 +210,7 @@ pub enum Fault {
 }
 
 // What plainly stands at a place, and the place after it; Other where reading has to look closer: at a value with a key that is asked for, and where
-// nothing can be read.
+// nothing can be read. No `Option`: it would be one of a pair, with an enum more for the three that are left.
 #[derive(Clone, Copy)]
 pub enum Plain {
     Value(usize),
@@ -310,6 +312,7 @@ pub fn skip(c: Coding, s: &[u8], key: u32, from: usize, n: usize, mark: usize) -
     let mut at = from;
     let mut left = n;
     let mut start = mark;
+    // No iterator: over one of what plainly stands there a check takes 1.04 of its instructions in PSF1 (29,530 for 28,506).
     while at < s.len() {
         let p = plain_at(c, s, at, key);
         match p {
