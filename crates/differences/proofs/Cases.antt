@@ -17,6 +17,7 @@ use Rattle.base.proofs.Written.{Written, begins_as, goes_on}
 use Rattle.refusal.specs.Meaning.{refusal}
 use Rattle.refusal.specs.declared.Reason.TheVariants.{Room}
 use Rattle.refusal.specs.declared.Refusal.{Refusal}
+use Rattle.coding.specs.declared.Coding.{Coding}
 use Rattle.header.specs.declared.Font.{Font}
 use Rattle.stages.specs.Meaning.{coding_of}
 use Rattle.stages.specs.Reading.{check_of}
@@ -43,15 +44,15 @@ only_some : (a b : ℕ) → only_kind a b ≡ 0 → ⊥
 unfolding only_kind
 only_some a b e = by_when (λ (x : ℕ). x ≡ 0 → ⊥) (ltb a b) 2 1 (λ z. absurd (omega arith)) (λ z. absurd (omega arith)) e
 
--- the pairs of the glyphs that both fonts have, by where the descriptions that are compared begin
-module _ (s : List ℕ) (f : Font) (o : List ℕ) (h : Font) (n from start : ℕ) (en : n ≡ min f.count h.count) (es : from ≡ compared_start (length s) f h)
-    (eo : start ≡ compared_start (length o) h f) where
-  pub lent_is : common_from (glyph_kind s f o h) (coding_of f.kind) (take (length s - from) (drop from s)) (coding_of h.kind) (take (length o - start) (drop start o)) n 0 0 0 ≡ common_pairs s f o h
+-- the pairs of the glyphs that both fonts have, by their codings and by where the descriptions that are compared begin
+module _ (s : List ℕ) (f : Font) (o : List ℕ) (h : Font) (c d : Coding) (n from start : ℕ) (ec : c ≡ coding_of f.kind) (ed : d ≡ coding_of h.kind)
+    (en : n ≡ min f.count h.count) (es : from ≡ compared_start (length s) f h) (eo : start ≡ compared_start (length o) h f) where
+  pub lent_is : common_from (glyph_kind s f o h) c (take (length s - from) (drop from s)) d (take (length o - start) (drop start o)) n 0 0 0 ≡ common_pairs s f o h
   unfolding common_pairs
   lent_is =
       let a : take (length s - from) (drop from s) ≡ compared_tail s f h = rest_all s from ∙ ap (λ (i : ℕ). drop i s) es in
       let b : take (length o - start) (drop start o) ≡ compared_tail o h f = rest_all o start ∙ ap (λ (i : ℕ). drop i o) eo in
-      λ i. common_from (glyph_kind s f o h) (coding_of f.kind) (a i) (coding_of h.kind) (b i) (en i) 0 0 0
+      λ i. common_from (glyph_kind s f o h) (ec i) (a i) (ed i) (b i) (en i) 0 0 0
 
 -- the pairs of two fonts, by what was read of them: 6 or 0, the smaller and the larger count, 1 or 2
 module _ (s : List ℕ) (f : Font) (o : List ℕ) (h : Font) (k n m r : ℕ) (ek : k ≡ table_kind f.table h.table) (en : n ≡ min f.count h.count)

@@ -97,10 +97,6 @@ pub cast_numbers : (k : Option Difference) (d : Difference) (g : ℕ) → k ≡ 
 cast_numbers k d g e =
     two_numbers (kind_number k) g (some_is k (ap is_some e)) ∙ ap (λ (x : ℕ). x ∷ g ∷ []) (ap kind_number e ∙ sym (cast_is d))
 
--- codings that are known by other names
-pub coded_as : (κ : ℕ → ℕ) (c c' : Coding) (s : List ℕ) (d d' : Coding) (t : List ℕ) (n g x y : ℕ) → c ≡ c' → d ≡ d' → common_from κ c s d t n g x y ≡ common_from κ c' s d' t n g x y
-coded_as κ c c' s d d' t n g x y p q = λ i. common_from κ (p i) s (q i) t n g x y
-
 -- a glyph makes two pairs at most
 pub common_most : (κ : ℕ → ℕ) (c : Coding) (s : List ℕ) (d : Coding) (t : List ℕ) (n g x y : ℕ) → length (common_from κ c s d t n g x y) ≤ 2 * n
 unfolding common_from

@@ -1,7 +1,6 @@
 -- The walk over the glyphs that two fonts both have: the pairs that are left of it, and what a call of `next` gives.
 use Rattle.std.specs.Prelude.{◌≡◌, ℕ, ◌-◌, ◌≤◌, List, [], ◌++◌, Option, MatchOption}
 use Rattle.std.specs.Iterator.{Count, at_most}
-use Rattle.stages.specs.Meaning.{coding_of}
 use Rattle.glyphs.specs.Reading.{glyph_kind, kind_number}
 use Rattle.differences.specs.Reading.{glyph_pairs, common_from}
 use Rattle.differences.specs.declared.common.Common.{Common}
@@ -13,7 +12,7 @@ glyphs_left w = at_most (w.n - w.g)
 
 -- the pairs that are left
 abbrev pub pairs_left : Common → List (ℕ × ℕ)
-pairs_left w = common_from (glyph_kind w.a.now w.f w.b.now w.h) (coding_of w.f.kind) w.s.now (coding_of w.h.kind) w.t.now (w.n - w.g) w.g w.x w.y
+pairs_left w = common_from (glyph_kind w.a.now w.f w.b.now w.h) w.c w.s.now w.d w.t.now (w.n - w.g) w.g w.x w.y
 
 -- the pairs of one glyph
 abbrev pub pairs_here : Shared → List (ℕ × ℕ)

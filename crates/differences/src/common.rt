@@ -5,6 +5,7 @@ ghost use Rattle.header.specs.Bounds.{Placed};
 ghost use Rattle.differences.specs.Placing.{placed_once};
 
 use crate::{compared_start, item_kind};
+use coding::Coding;
 use glyphs::Difference;
 use header::Font;
 
@@ -16,8 +17,8 @@ pub struct Shared {
     pub listed: Option<Difference>,
 }
 
-// A walk over these glyphs, from glyph g on of n, with the places in the tails s and t where its descriptions begin: one pass over both bitmaps, one
-// over both tables side by side.
+// A walk over these glyphs: one pass over both bitmaps, one over both tables side by side. Glyph g of n is next, and its descriptions begin at places
+// x and y of the tails s and t, in the codings c and d.
 #[derive(Clone, Copy, Drop)]
 pub struct Common<'a> {
     pub a: &'a [u8],
@@ -26,6 +27,8 @@ pub struct Common<'a> {
     pub b: &'a [u8],
     pub h: Font,
     pub t: &'a [u8],
+    pub c: Coding,
+    pub d: Coding,
     pub n: usize,
     pub g: usize,
     pub x: usize,
@@ -50,9 +53,11 @@ impl<'a> Common<'a> {
         Common {
             a: a,
             f: f,
+            c: stages::coding_of(f.kind),
             s: &a[compared_start(a.len(), f, h)..],
             b: b,
             h: h,
+            d: stages::coding_of(h.kind),
             t: &b[compared_start(b.len(), h, f)..],
             n: f.count.min(h.count),
             g: 0,
@@ -75,17 +80,14 @@ impl<'a> Iterator for Common<'a> {
         if self.n <= self.g {
             return None;
         }
+        let e = descriptions::compare(self.c, self.s, self.x, self.d, self.t, self.y);
         let g = self.g;
-        let drawn = glyphs::compare(self.a, self.f, self.b, self.h, g);
-        let c = stages::coding_of(self.f.kind);
-        let d = stages::coding_of(self.h.kind);
-        let e = descriptions::compare(c, self.s, self.x, d, self.t, self.y);
         self.g = g + 1;
         self.x = e.first;
         self.y = e.second;
         Some(Shared {
             glyph: g,
-            drawn: drawn,
+            drawn: glyphs::compare(self.a, self.f, self.b, self.h, g),
             listed: item_kind(e.same),
         })
     }

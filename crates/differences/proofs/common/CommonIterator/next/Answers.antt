@@ -1,7 +1,5 @@
 -- `Common::next` meets its contract: the pairs of one glyph more. Assumes nothing.
 use native.Mathlib.Omega.{arith}
-use mathlib.Core.Path.{◌∙◌}
-use Rattle.descriptions.specs.Reading.{ends_of}
 use Rattle.differences.proofs.Pairs.{common_end, read_next}
 use Rattle.differences.proofs.common.CommonIterator.next.Goals as goal
 
@@ -11,5 +9,4 @@ returns-then-self-clause-steps c = let z = common_end _ _ _ _ _ _ _ _ _ c.if-sel
 pub returns-clause-steps : goal.returns-clause-steps
 returns-clause-steps c =
     let w = c.args.self.now in
-    let e = c.compare-e.ensures.equal ∙ (λ i. ends_of (c.coding_of-c.ensures i) w.s.now w.x (c.coding_of-d.ensures i) w.t.now w.y) in
-    (omega (arith, c.if-self.false, w.first.2, w.both.0), read_next _ _ _ _ _ w.n w.g w.x w.y _ _ _ c.if-self.false c.compare-drawn.ensures e c.item_kind.ensures)
+    (omega (arith, c.if-self.false, w.first.2, w.both.0), read_next _ _ _ _ _ w.n w.g w.x w.y _ _ _ c.if-self.false c.compare.ensures c.compare-e.ensures.equal c.item_kind.ensures)
