@@ -6,17 +6,18 @@ use Prim.Native.Nat.{ℕ, ◌+◌, ◌-◌, ◌*◌, ◌≤◌, ◌<◌, min, ma
 use native.Mathlib.Omega.{arith}
 use native.Mathlib.Nat.{zero-add}
 use lib.Dec.{ltb}
-use lib.ListN.{length, take, drop, length-append}
+use lib.ListN.{length, take, drop, length-append, length-drop}
 use borrow.Author.Tests.{lt-ltb, le-ltb, eq-eqb, ne_eqb}
 use borrow.Rule.Slice.PartMut.{mid_of, put_mid}
 use Rattle.base.specs.Reading.{when, over}
 use Rattle.base.proofs.Over.{over_none}
-use Rattle.base.proofs.Parts.{rest_all, rest_length}
+use Rattle.base.proofs.Parts.{rest_all}
 use Rattle.base.proofs.Tests.{same, by_when}
 use Rattle.base.proofs.Written.{Written, begins_as, goes_on}
 use Rattle.refusal.specs.Meaning.{refusal}
 use Rattle.refusal.specs.declared.Reason.TheVariants.{Room}
 use Rattle.refusal.specs.declared.Refusal.{Refusal}
+use Rattle.coding.specs.declared.Coding.{Coding}
 use Rattle.header.specs.declared.Font.{Font}
 use Rattle.stages.specs.Meaning.{coding_of}
 use Rattle.stages.specs.Reading.{check_of}
@@ -43,39 +44,54 @@ only_some : (a b : ℕ) → only_kind a b ≡ 0 → ⊥
 unfolding only_kind
 only_some a b e = by_when (λ (x : ℕ). x ≡ 0 → ⊥) (ltb a b) 2 1 (λ z. absurd (omega arith)) (λ z. absurd (omega arith)) e
 
--- the pairs of two fonts, by what was read of them: 6 or 0, the smaller and the larger count, 1 or 2, and where the descriptions begin
-module _ (s : List ℕ) (f : Font) (o : List ℕ) (h : Font) (k n m r from start : ℕ) (ek : k ≡ table_kind f.table h.table) (en : n ≡ min f.count h.count)
-    (em : m ≡ max f.count h.count) (er : r ≡ only_kind f.count h.count) (es : from ≡ compared_start (length s) f h) (eo : start ≡ compared_start (length o) h f) where
-  -- those of the glyphs that both have, with the tails as they were lent
-  abbrev pub lent : List (ℕ × ℕ)
-  lent = common_from (glyph_kind s f o h) (coding_of f.kind) (take (length s - from) (drop from s)) (coding_of h.kind) (take (length o - start) (drop start o)) n 0 0 0
-
-  lent_is : lent ≡ common_pairs s f o h
+-- the pairs of the glyphs that both fonts have, by their codings and by where the descriptions that are compared begin
+module _ (s : List ℕ) (f : Font) (o : List ℕ) (h : Font) (c d : Coding) (n from start : ℕ) (ec : c ≡ coding_of f.kind) (ed : d ≡ coding_of h.kind)
+    (en : n ≡ min f.count h.count) (es : from ≡ compared_start (length s) f h) (eo : start ≡ compared_start (length o) h f) where
+  pub lent_is : common_from (glyph_kind s f o h) c (take (length s - from) (drop from s)) d (take (length o - start) (drop start o)) n 0 0 0 ≡ common_pairs s f o h
   unfolding common_pairs
   lent_is =
       let a : take (length s - from) (drop from s) ≡ compared_tail s f h = rest_all s from ∙ ap (λ (i : ℕ). drop i s) es in
       let b : take (length o - start) (drop start o) ≡ compared_tail o h f = rest_all o start ∙ ap (λ (i : ℕ). drop i o) eo in
-      λ i. common_from (glyph_kind s f o h) (coding_of f.kind) (a i) (coding_of h.kind) (b i) (en i) 0 0 0
+      λ i. common_from (glyph_kind s f o h) (ec i) (a i) (ed i) (b i) (en i) 0 0 0
 
+-- the pairs of two fonts, by what was read of them: 6 or 0, the smaller and the larger count, 1 or 2
+module _ (s : List ℕ) (f : Font) (o : List ℕ) (h : Font) (k n m r : ℕ) (ek : k ≡ table_kind f.table h.table) (en : n ≡ min f.count h.count)
+    (em : m ≡ max f.count h.count) (er : r ≡ only_kind f.count h.count) where
   rest_is : rest_from r (m - n) n ≡ rest_pairs f h
   unfolding rest_pairs
   rest_is = λ i. rest_from (er i) (em i - en i) (en i)
 
-  pairs_are : pairs_of s f o h ≡ pair_of k 0 ++ (lent ++ rest_from r (m - n) n)
+  pairs_are : pairs_of s f o h ≡ pair_of k 0 ++ (common_pairs s f o h ++ rest_from r (m - n) n)
   unfolding pairs_of
-  pairs_are = λ i. pair_of (sym ek i) 0 ++ (sym lent_is i ++ sym rest_is i)
+  pairs_are = λ i. pair_of (sym ek i) 0 ++ (common_pairs s f o h ++ sym rest_is i)
 
   -- their numbers
-  pub numbers_are : numbers (pairs_of s f o h) ≡ numbers (pair_of k 0) ++ (numbers lent ++ numbers (rest_from r (m - n) n))
+  pub numbers_are : numbers (pairs_of s f o h) ≡ numbers (pair_of k 0) ++ (numbers (common_pairs s f o h) ++ numbers (rest_from r (m - n) n))
   numbers_are =
-      ap numbers pairs_are ∙ numbers_append (pair_of k 0) (lent ++ rest_from r (m - n) n)
-      ∙ ap (λ (x : List ℕ). numbers (pair_of k 0) ++ x) (numbers_append lent (rest_from r (m - n) n))
+      ap numbers pairs_are ∙ numbers_append (pair_of k 0) (common_pairs s f o h ++ rest_from r (m - n) n)
+      ∙ ap (λ (x : List ℕ). numbers (pair_of k 0) ++ x) (numbers_append (common_pairs s f o h) (rest_from r (m - n) n))
 
   -- how many they are
-  pub counted : length (pairs_of s f o h) ≡ length (pair_of k 0) + length lent + (m - n)
+  pub counted : length (pairs_of s f o h) ≡ length (pair_of k 0) + length (common_pairs s f o h) + (m - n)
   counted =
       let x = rest_from r (m - n) n in
-      omega (arith, ap length pairs_are, length-append (pair_of k 0) (lent ++ x), length-append lent x, rest-count r (λ z. only_some f.count h.count (sym er ∙ z)) (m - n) n)
+      let y = common_pairs s f o h in
+      omega (arith, ap length pairs_are, length-append (pair_of k 0) (y ++ x), length-append y x, rest-count r (λ z. only_some f.count h.count (sym er ∙ z)) (m - n) n)
+
+module _ (s : List ℕ) (f : Font) (o : List ℕ) (h : Font) where
+  abbrev tail : List ℕ
+  tail = compared_tail s f h
+
+  abbrev other : List ℕ
+  other = compared_tail o h f
+
+  shared_most : length (common_pairs s f o h) ≤ 2 * min f.count h.count
+  unfolding common_pairs
+  shared_most = common_most (glyph_kind s f o h) (coding_of f.kind) tail (coding_of h.kind) other (min f.count h.count) 0 0 0
+
+  shared_bare : length tail ≡ 0 → length (common_pairs s f o h) ≤ min f.count h.count
+  unfolding common_pairs
+  shared_bare e = common_bare (glyph_kind s f o h) (coding_of f.kind) tail (coding_of h.kind) other (min f.count h.count) 0 0 0 e
 
 -- two fonts make no more pairs than they have glyphs together
 pub pairs_most : (s : List ℕ) (f : Font) (o : List ℕ) (h : Font) → 1 ≤ f.count → 1 ≤ h.count → length (pairs_of s f o h) ≤ f.count + h.count
@@ -84,26 +100,15 @@ pairs_most s f o h lf lh = go (same k 0)
     k : ℕ
     k = table_kind f.table h.table
 
-    n : ℕ
-    n = min f.count h.count
-
-    m : ℕ
-    m = max f.count h.count
-
-    tail : List ℕ
-    tail = take (length s - compared_start (length s) f h) (drop (compared_start (length s) f h) s)
-
-    other : List ℕ
-    other = take (length o - compared_start (length o) h f) (drop (compared_start (length o) h f) o)
-
-    all : length (pairs_of s f o h) ≡ length (pair_of k 0) + length (common_from (glyph_kind s f o h) (coding_of f.kind) tail (coding_of h.kind) other n 0 0 0) + (m - n)
-    all = counted s f o h k n m (only_kind f.count h.count) (compared_start (length s) f h) (compared_start (length o) h f) refl refl refl refl refl refl
+    all : length (pairs_of s f o h) ≡ length (pair_of k 0) + length (common_pairs s f o h) + (max f.count h.count - min f.count h.count)
+    all = counted s f o h k (min f.count h.count) (max f.count h.count) (only_kind f.count h.count) refl refl refl refl
 
     go : (k ≡ 0) ⊎ ((k ≡ 0) → ⊥) → length (pairs_of s f o h) ≤ f.count + h.count
-    go (inl z) = omega (arith, all, ap length (no_pair k 0 z), common_most (glyph_kind s f o h) (coding_of f.kind) tail (coding_of h.kind) other n 0 0 0)
+    go (inl z) = omega (arith, all, ap length (no_pair k 0 z), shared_most s f o h)
     go (inr z) =
-        let e : length tail ≡ 0 = omega (arith, rest_length s (compared_start (length s) f h), from_end (length s) f h k refl z) in
-        omega (arith, all, pair_most k 0, common_bare (glyph_kind s f o h) (coding_of f.kind) tail (coding_of h.kind) other n 0 0 0 e, lf, lh)
+        let start = compared_start (length s) f h in
+        let e : length (drop start s) ≡ 0 = omega (arith, length-drop start s, from_end (length s) f h k refl z) in
+        omega (arith, all, pair_most k 0, shared_bare s f o h e, lf, lh)
 
 -- a list written in parts: the first part
 pub first_part : (w x y xs ys : List ℕ) (l : ℕ) → length w ≤ length xs → w ≡ x ++ y → l ≡ length x → ys ≡ over x (mid_of 0 (length xs - 0) xs) → Written w xs l (put_mid 0 (length xs - 0) xs ys) y

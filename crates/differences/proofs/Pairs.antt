@@ -1,5 +1,5 @@
 -- Pairs of kind and glyph: their numbers, and those of one glyph more.
-use mathlib.Core.Path.{◌≡◌, refl, sym, ◌∙◌, ap}
+use mathlib.Core.Path.{◌≡◌, refl, sym, ◌∙◌, ap, subst}
 use mathlib.Core.Bool.{Bool, true, false}
 use mathlib.Core.List.{List, [], ◌∷◌, ◌++◌}
 use Prim.Native.Nat.{ℕ, zero, suc, ◌+◌, ◌-◌, ◌*◌, ◌≤◌, ◌<◌}
@@ -14,6 +14,7 @@ use Rattle.std.specs.Prelude.{Option, Some, None}
 use Rattle.std.specs.Option.{is_some}
 use Rattle.base.specs.Reading.{when}
 use Rattle.base.proofs.Tests.{by_when}
+use Rattle.base.proofs.Written.{Written}
 use Rattle.coding.specs.declared.Coding.{Coding}
 use Rattle.descriptions.specs.declared.Ends.{Ends}
 use Rattle.descriptions.specs.Reading.{same_at, end_at, ends_of}
@@ -96,10 +97,6 @@ pub cast_numbers : (k : Option Difference) (d : Difference) (g : ℕ) → k ≡ 
 cast_numbers k d g e =
     two_numbers (kind_number k) g (some_is k (ap is_some e)) ∙ ap (λ (x : ℕ). x ∷ g ∷ []) (ap kind_number e ∙ sym (cast_is d))
 
--- codings that are known by other names
-pub coded_as : (κ : ℕ → ℕ) (c c' : Coding) (s : List ℕ) (d d' : Coding) (t : List ℕ) (n g x y : ℕ) → c ≡ c' → d ≡ d' → common_from κ c s d t n g x y ≡ common_from κ c' s d' t n g x y
-coded_as κ c c' s d d' t n g x y p q = λ i. common_from κ (p i) s (q i) t n g x y
-
 -- a glyph makes two pairs at most
 pub common_most : (κ : ℕ → ℕ) (c : Coding) (s : List ℕ) (d : Coding) (t : List ℕ) (n g x y : ℕ) → length (common_from κ c s d t n g x y) ≤ 2 * n
 unfolding common_from
@@ -138,23 +135,19 @@ module _ (κ : ℕ → ℕ) (c : Coding) (s : List ℕ) (d : Coding) (t : List �
 
   module _ (g x y k k' : ℕ) (e : Ends) (l : g < n) (q : k ≡ κ g) (w : e ≡ ends_of c s x d t y) (q' : k' ≡ item_kind e.same) where
     -- as it was read
-    read_next : common g x y ≡ glyph_pairs k k' g ++ common (g + 1) e.first e.second
+    pub read_next : common g x y ≡ glyph_pairs k k' g ++ common (g + 1) e.first e.second
     read_next =
         let z : k' ≡ item_kind (same_at c s x d t y) = q' ∙ ap (λ (z : Ends). item_kind z.same) w in
         common_next g x y l ∙ (λ i. glyph_pairs (sym q i) (sym z i) g ++ common (g + 1) (sym w i).first (sym w i).second)
 
-    -- their numbers
-    pub numbers_next : numbers (common g x y) ≡ numbers (glyph_pairs k k' g) ++ numbers (common (g + 1) e.first e.second)
-    numbers_next = ap numbers read_next ∙ numbers_append (glyph_pairs k k' g) (common (g + 1) e.first e.second)
+-- the pairs of a glyph before others: their numbers, and how many they are
+module _ (k k' g : ℕ) (x y : List (ℕ × ℕ)) (e : x ≡ glyph_pairs k k' g ++ y) where
+  pub numbers_next : numbers x ≡ numbers (glyph_pairs k k' g) ++ numbers y
+  numbers_next = ap numbers e ∙ numbers_append (glyph_pairs k k' g) y
 
-    -- one glyph more counted
-    pub count_next : (total r r' m : ℕ) → r ≡ length (pair_of k 0) → r' ≡ length (pair_of k' 0) → total + length (common g x y) ≡ m →
-        total + r + r' + length (common (g + 1) e.first e.second) ≡ m
-    count_next total r r' m p p' h =
-        let u = common (g + 1) e.first e.second in
-        let el : length (common g x y) ≡ length (pair_of k g) + length (pair_of k' g) + length u =
-        ap length read_next ∙ length-append (glyph_pairs k k' g) u ∙ ap (λ (z : ℕ). z + length u) (length-append (pair_of k g) (pair_of k' g)) in
-        omega (arith, el, p, p', pair_length k g 0, pair_length k' g 0, h)
+  pub count_next : (r r' : ℕ) → r ≡ length (pair_of k 0) → r' ≡ length (pair_of k' 0) → length x ≡ r + r' + length y
+  count_next r r' p p' =
+      omega (arith, ap length e, length-append (glyph_pairs k k' g) y, length-append (pair_of k g) (pair_of k' g), pair_length k g 0, pair_length k' g 0, p, p')
 
 -- glyphs that one font has alone
 module _ (r n from : ℕ) where
@@ -179,3 +172,7 @@ pub rest_length : (r : ℕ) → (r ≡ 0 → ⊥) → (n g : ℕ) → length (re
 unfolding rest_from
 rest_length r h zero g = refl
 rest_length r h (suc n) g = ap (λ (ps : List (ℕ × ℕ)). length (ps ++ rest_from r n (suc g))) (one_pair r g h) ∙ ap suc (rest_length r h n (suc g))
+
+-- what is left to write, by another name
+pub written_as : (w xs v y z : List ℕ) (n : ℕ) → y ≡ z → Written w xs n v y → Written w xs n v z
+written_as w xs v y z n e h = subst (Written w xs n v) e h

@@ -5,12 +5,14 @@
 ghost use Rattle.std.specs.Prelude.{◌≡◌, ℕ, ◌+◌, ◌-◌, ◌*◌, ◌≤◌, ◌<◌, min, max, length, Some};
 ghost use Rattle.base.specs.Reading.{over};
 ghost use Rattle.header.specs.Bounds.{Placed};
-ghost use Rattle.stages.specs.Meaning.{coding_of};
-ghost use Rattle.glyphs.specs.Reading.{glyph_kind, kind_number};
+ghost use Rattle.glyphs.specs.Reading.{kind_number};
 ghost use Rattle.differences.specs.Meaning.{numbers};
-ghost use Rattle.differences.specs.Reading.{pair_of, glyph_pairs, table_kind, item_kind, only_kind, common_from, rest_from, compared_start, pairs_of, fitted, compared_with, found_with, compare_answer, left_by, compare_into};
+ghost use Rattle.differences.specs.Reading.{pair_of, glyph_pairs, table_kind, item_kind, only_kind, common_pairs, rest_from, compared_start, pairs_of, fitted, compared_with, found_with, compare_answer, left_by, compare_into};
 ghost use Rattle.stages.specs.Reading.{check_of};
 
+mod common;
+
+use common::Common;
 use glyphs::Difference;
 use header::Font;
 use refusal::{Reason, Refusal};
@@ -90,59 +92,26 @@ fn put_glyph(k: Option<Difference>, j: Option<Difference>, g: usize, out: &mut [
     at + put_pair(j, g, &mut out[at..])
 }
 
-// How many pairs the first n glyphs of two fonts make, whose descriptions stand in s and t: one pass over both tables side by side, one over
-// both bitmaps. Asks for fonts whose parts stand in the files and which have these glyphs.
-fn count_common(a: &[u8], f: Font, s: &[u8], b: &[u8], h: Font, t: &[u8], n: usize) -> usize
-    requires { Placed a.now f × Placed b.now h × (n ≤ f.count) × (n ≤ h.count) }
-    ensures { (result ≡ length (common_from (glyph_kind a.now f b.now h) (coding_of f.kind) s.now (coding_of h.kind) t.now n 0 0 0)) × (result ≤ 8192) }
+// How many pairs the glyphs that both fonts have make. Asks for fonts whose parts stand in the files.
+fn count_common(a: &[u8], f: Font, b: &[u8], h: Font) -> usize
+    requires { Placed a.now f × Placed b.now h }
+    ensures { (result ≡ length (common_pairs a.now f b.now h)) × (result ≤ 8192) }
 {
-    let k = f.kind;
-    let l = h.kind;
-    let c = stages::coding_of(k);
-    let d = stages::coding_of(l);
     let mut total: usize = 0;
-    let mut x: usize = 0;
-    let mut y: usize = 0;
-    for g in 0..n {
-        total += pair_count(glyphs::compare(a, f, b, h, g));
-        let e = descriptions::compare(c, s, x, d, t, y);
-        total += pair_count(item_kind(e.same));
-        x = e.first;
-        y = e.second;
+    for p in Common::new(a, f, b, h) {
+        total += pair_count(p.drawn) + pair_count(p.listed);
     }
     total
 }
 
-// The pairs of the first n glyphs to the front, and how many numbers that is, in one pass more of the same kind. Asks for the same, and for
-// room: the caller has counted.
-fn put_common(
-    a: &[u8],
-    f: Font,
-    s: &[u8],
-    b: &[u8],
-    h: Font,
-    t: &[u8],
-    n: usize,
-    out: &mut [u32],
-) -> usize
-    requires { Placed a.now f × Placed b.now h × (n ≤ f.count) × (n ≤ h.count)
-        × (length (numbers (common_from (glyph_kind a.now f b.now h) (coding_of f.kind) s.now (coding_of h.kind) t.now n 0 0 0)) ≤ length out.old) }
-    ensures { (result ≡ length (numbers (common_from (glyph_kind a.now f b.now h) (coding_of f.kind) s.now (coding_of h.kind) t.now n 0 0 0))) × (result ≤ 16384)
-        × (out.new ≡ over (numbers (common_from (glyph_kind a.now f b.now h) (coding_of f.kind) s.now (coding_of h.kind) t.now n 0 0 0)) out.old) }
+// The pairs of these glyphs to the front, and how many numbers that is. Asks for the same, and for room: the caller has counted.
+fn put_common(a: &[u8], f: Font, b: &[u8], h: Font, out: &mut [u32]) -> usize
+    requires { Placed a.now f × Placed b.now h × (length (numbers (common_pairs a.now f b.now h)) ≤ length out.old) }
+    ensures { (result ≡ length (numbers (common_pairs a.now f b.now h))) × (result ≤ 16384) × (out.new ≡ over (numbers (common_pairs a.now f b.now h)) out.old) }
 {
-    let k = f.kind;
-    let l = h.kind;
-    let c = stages::coding_of(k);
-    let d = stages::coding_of(l);
     let mut at: usize = 0;
-    let mut x: usize = 0;
-    let mut y: usize = 0;
-    for g in 0..n {
-        let kind = glyphs::compare(a, f, b, h, g);
-        let e = descriptions::compare(c, s, x, d, t, y);
-        at += put_glyph(kind, item_kind(e.same), g, &mut out[at..]);
-        x = e.first;
-        y = e.second;
+    for p in Common::new(a, f, b, h) {
+        at += put_glyph(p.drawn, p.listed, p.glyph, &mut out[at..]);
     }
     at
 }
@@ -177,11 +146,9 @@ fn count_pairs(a: &[u8], f: Font, b: &[u8], h: Font) -> usize
     requires { Placed a.now f × Placed b.now h }
     ensures { (result ≡ length (pairs_of a.now f b.now h)) × (result ≤ 16384) }
 {
-    let from = compared_start(a.len(), f, h);
-    let start = compared_start(b.len(), h, f);
     let n = f.count.min(h.count);
     let m = f.count.max(h.count);
-    let common = count_common(a, f, &a[from..], b, h, &b[start..], n);
+    let common = count_common(a, f, b, h);
     pair_count(table_kind(f.table, h.table)) + common + (m - n)
 }
 
@@ -191,14 +158,12 @@ fn put_pairs(a: &[u8], f: Font, b: &[u8], h: Font, out: &mut [u32]) -> usize
     requires { Placed a.now f × Placed b.now h × (length (numbers (pairs_of a.now f b.now h)) ≤ length out.old) }
     ensures { (result ≡ length (numbers (pairs_of a.now f b.now h))) × (out.new ≡ over (numbers (pairs_of a.now f b.now h)) out.old) }
 {
-    let from = compared_start(a.len(), f, h);
-    let start = compared_start(b.len(), h, f);
     let n = f.count.min(h.count);
     let m = f.count.max(h.count);
     let k = table_kind(f.table, h.table);
     let r = only_kind(f.count, h.count);
     let common = put_pair(k, 0, &mut out[0..]);
-    let rest = common + put_common(a, f, &a[from..], b, h, &b[start..], n, &mut out[common..]);
+    let rest = common + put_common(a, f, b, h, &mut out[common..]);
     rest + put_rest(r, m - n, n, &mut out[rest..])
 }
 

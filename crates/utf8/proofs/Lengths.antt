@@ -15,6 +15,7 @@ use Rattle.base.proofs.Tests.{and_left, and_right, by_test}
 use Rattle.base.proofs.Ranged.{every, ranged}
 use Rattle.token.specs.Reading.{is_noncharacter}
 use Rattle.utf8.specs.Reading.{lead_of, begun, conts, permitted_at, read_value, utf8_key, plain_len}
+use Rattle.utf8.specs.Bounds.{RowOf}
 use Rattle.utf8.specs.declared.Lead.{Lead}
 use Rattle.utf8.proofs.Rows.{not_found}
 use Rattle.utf8.proofs.First.{no_value, long_value}
@@ -108,6 +109,10 @@ module _ (s : List ℕ) (at : ℕ) (h : at < length s) (m lo hi v k : ℕ) where
 -- b stands there and begins a value of n bytes, the second from lo to hi
 abbrev pub Begun : ℕ → List ℕ → ℕ → ℕ → ℕ → ℕ → Type 0
 Begun n s at b lo hi = (at < length s) × (b ≡ get_or s at 0) × ((lead_of b).len ≡ n) × (lo ≡ (lead_of b).lo) × (hi ≡ (lead_of b).hi)
+
+pub row_begun : (n m : ℕ) (s : List ℕ) (at b : ℕ) (l : Lead) → (at < length s) × (b ≡ get_or s at 0) × RowOf n b l → m ≡ n → Begun m s at b l.lo l.hi
+row_begun n m s at b l (h, e, r) q =
+    (h, e, sym (ap (λ (x : Lead). x.len) r.0) ∙ r.1 ∙ sym q, ap (λ (x : Lead). x.lo) r.0, ap (λ (x : Lead). x.hi) r.0)
 
 -- r is the length of the value at a place, told by the key
 abbrev pub Told : ℕ → List ℕ → ℕ → Option ℕ → Type 0

@@ -7,7 +7,7 @@ ghost use Rattle.base.specs.Meaning.{pick};
 ghost use Rattle.base.specs.Reading.{within, over};
 ghost use Rattle.token.specs.Reading.{is_noncharacter};
 ghost use Rattle.utf8.specs.Reading.{lead_of, begun, read_value, conts, permitted_at, is_scalar, is_utf8_value, utf8_key, plain_len};
-ghost use Rattle.utf8.specs.Bounds.{Reached};
+ghost use Rattle.utf8.specs.Bounds.{Reached, RowOf};
 ghost use Rattle.utf8.specs.Meaning.{Scalar, utf8_bytes};
 
 use base::wide;
@@ -132,7 +132,7 @@ fn six_more(v: u32, x: u8) -> u32
 }
 
 // A value's byte k, within its bounds, where those before it gave v: the value if it ends here. Asks for what the bytes before can give,
-// and for bounds from 80 on, as Table 3-7's rows have them.
+// and for bounds from 80 on. It takes bounds and no row: a row has the second byte's only, all others are 80 to BF.
 fn further(s: &[u8], k: usize, v: u32, lo: u8, hi: u8) -> Result<(u32, usize), Malformed>
     requires { (v < 1048576) × (128 ≤ lo) }
     ensures { (result ≡ conts 1 lo hi v k (drop k s.now)) × Reached (v * 64 + 128) (k + 1) result }
@@ -150,20 +150,20 @@ fn further(s: &[u8], k: usize, v: u32, lo: u8, hi: u8) -> Result<(u32, usize), M
 
 // A value of three bytes whose first gave v: the second has its bounds, the third is 80 to BF. Asks for what the rows have.
 // No loop over the bytes for this and `four`: only the second byte has bounds of its own, so a loop would be no plainer.
-fn three(s: &[u8], v: u32, lo: u8, hi: u8) -> Result<(u32, usize), Malformed>
-    requires { (v < 128) × (128 ≤ lo) }
-    ensures { (result ≡ conts 2 lo hi v 1 (drop 1 s.now)) × Reached 532544 3 result }
+fn three(s: &[u8], v: u32, l: Lead) -> Result<(u32, usize), Malformed>
+    requires { (v < 128) × (128 ≤ l.lo) }
+    ensures { (result ≡ conts 2 l.lo l.hi v 1 (drop 1 s.now)) × Reached 532544 3 result }
 {
-    let (w, _) = further(s, 1, v, lo, hi)?;
+    let (w, _) = further(s, 1, v, l.lo, l.hi)?;
     further(s, 2, w, 0x80, 0xBF)
 }
 
 // A value of four bytes: three, and the fourth is 80 to BF too. Asks for what the rows have.
-fn four(s: &[u8], v: u32, lo: u8, hi: u8) -> Result<(u32, usize), Malformed>
-    requires { (v < 128) × (128 ≤ lo) }
-    ensures { result ≡ conts 3 lo hi v 1 (drop 1 s.now) }
+fn four(s: &[u8], v: u32, l: Lead) -> Result<(u32, usize), Malformed>
+    requires { (v < 128) × (128 ≤ l.lo) }
+    ensures { result ≡ conts 3 l.lo l.hi v 1 (drop 1 s.now) }
 {
-    let (w, _) = three(s, v, lo, hi)?;
+    let (w, _) = three(s, v, l)?;
     further(s, 3, w, 0x80, 0xBF)
 }
 
@@ -200,11 +200,11 @@ pub fn read_value(s: &[u8]) -> Result<(u32, usize), Malformed>
     match n {
         2 => return further(s, 1, v, l.lo, l.hi),
         3 => {
-            let r = three(s, v, l.lo, l.hi);
+            let r = three(s, v, l);
             return permitted_at(2, r);
         }
         _ => {
-            let r = four(s, v, l.lo, l.hi);
+            let r = four(s, v, l);
             return permitted_at(3, r);
         }
     }
@@ -266,19 +266,19 @@ fn four_permitted(b: u8, x: u8, y: u8, z: u8) -> Option<usize>
 }
 
 // The length N of a value at a place, whose first byte is b: None where it is not there whole, its last byte is `key`, or it is a noncharacter.
-// Asks for what b's row of Table 3-7 has.
-fn row_len<const N: usize>(s: &[u8], at: usize, b: u8, lo: u8, hi: u8, key: u32) -> Option<usize>
-    requires { (at < length s.now) × (b ≡ get_or s.now at 0) × ((lead_of b).len ≡ N) × (lo ≡ (lead_of b).lo) × (hi ≡ (lead_of b).hi) × (2 ≤ N) × (N ≤ 4) }
+// Asks for b's row of Table 3-7, one of N bytes.
+fn row_len<const N: usize>(s: &[u8], at: usize, b: u8, l: Lead, key: u32) -> Option<usize>
+    requires { (at < length s.now) × (b ≡ get_or s.now at 0) × RowOf N b l }
     ensures { (result ≡ plain_len key (read_value (drop at s.now))) × IfSome result (λ l. at + l ≤ length s.now) }
 {
     if s.len() < at + N {
         return None;
     }
     let x = s[at + 1];
-    if x < lo {
+    if x < l.lo {
         return None;
     }
-    if hi < x {
+    if l.hi < x {
         return None;
     }
     if N == 2 {
@@ -322,9 +322,9 @@ pub fn plain_len(s: &[u8], at: usize, b: u8, key: u32) -> Option<usize>
     let l = lead_of(b)?;
     let n = l.len;
     match n {
-        2 => row_len::<2>(s, at, b, l.lo, l.hi, key),
-        3 => row_len::<3>(s, at, b, l.lo, l.hi, key),
-        _ => row_len::<4>(s, at, b, l.lo, l.hi, key),
+        2 => row_len::<2>(s, at, b, l, key),
+        3 => row_len::<3>(s, at, b, l, key),
+        _ => row_len::<4>(s, at, b, l, key),
     }
 }
 

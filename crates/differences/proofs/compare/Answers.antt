@@ -1,7 +1,6 @@
 -- `differences::compare` meets its contract: the first font's own refusal, or what follows on it. Assumes nothing.
 use mathlib.Core.Path.{sym, ◌∙◌}
 use Rattle.differences.proofs.Cases.{first_sound, first_refused}
-use borrow.Author.Rules.{rules}
 use Rattle.differences.proofs.compare.Goals as goal
 
 pub compare_second-requires : goal.compare_second-requires

@@ -1,18 +1,15 @@
 -- `differences::compare_fonts` meets its contract: counted where the buffer may be too short, refused for room, or written. Assumes `Placed` of both
 -- fonts.
-use mathlib.Core.Path.{◌≡◌, refl, sym, ◌∙◌, ap}
-use Prim.Native.Nat.{ℕ, ◌*◌, ◌/◌, ◌≤◌}
+use mathlib.Core.Path.{◌≡◌, sym, ◌∙◌, ap}
+use Prim.Native.Nat.{◌*◌, ◌/◌, ◌≤◌}
 use native.Mathlib.Omega.{arith}
 use lib.ListN.{length}
-use Rattle.refusal.specs.Meaning.{refusal}
-use Rattle.refusal.specs.declared.Reason.TheVariants.{Room}
 use Rattle.differences.specs.Reading.{pairs_of}
 use Rattle.differences.proofs.Pairs.{numbers_length}
-use Rattle.differences.proofs.Cases.{no_room, has_room, none_over, pairs_most}
-use borrow.Author.Rules.{rules}
+use Rattle.differences.proofs.Cases.{has_room, none_over, pairs_most}
 use Rattle.differences.proofs.compare_fonts.Goals as goal
 use Rattle.differences.proofs.compare_fonts.Goals.{then-out-most+else-out-need+else-n-eq0, else-out-most}
-use Rattle.std.specs.Prelude.{Ok, Err}
+use Rattle.std.specs.Prelude.{Ok}
 
 pub returns-then-n-eq0 : goal.returns-then-n-eq0
 returns-then-n-eq0 c = let e : c.count_pairs-n.result ≡ length (pairs_of c.args.a.now c.args.f c.args.b.now c.args.h) = c.count_pairs-n.ensures.0 in

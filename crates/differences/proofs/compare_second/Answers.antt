@@ -1,7 +1,6 @@
 -- `differences::compare_second` meets its contract: the second font's own refusal, or the differences. Assumes `Placed` of the first font.
 use mathlib.Core.Path.{sym, ◌∙◌}
 use Rattle.differences.proofs.Cases.{second_sound, second_refused}
-use borrow.Author.Rules.{rules}
 use Rattle.differences.proofs.compare_second.Goals as goal
 
 pub compare_fonts-requires : goal.compare_fonts-requires

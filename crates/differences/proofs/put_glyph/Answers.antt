@@ -2,7 +2,6 @@
 use mathlib.Core.Path.{refl}
 use mathlib.Core.List.{[]}
 use native.Mathlib.Omega.{arith}
-use borrow.Author.Rules.{rules}
 use Rattle.base.proofs.Written.{begins_as, room, goes_on, ends, ends_at}
 use Rattle.glyphs.specs.Reading.{kind_number}
 use Rattle.differences.specs.Meaning.{numbers}

@@ -1,7 +1,6 @@
 -- `utf8::plain_len` meets its contract: by the row of its first byte. Assumes nothing but what it asks.
-use mathlib.Core.Path.{sym, ◌∙◌, ap, subst}
+use mathlib.Core.Path.{sym, subst}
 use native.Mathlib.Omega.{arith}
-use Rattle.utf8.specs.declared.Lead.{Lead}
 use Rattle.utf8.proofs.Rows.{found, found_four}
 use Rattle.utf8.proofs.Lengths.{Told, none_begun}
 use Rattle.utf8.proofs.plain_len.Goals as goal
@@ -14,5 +13,4 @@ row_len-requires-in_default c =
     let d = found _ _ _ c.lead_of.ensures c.in_ok-l.was in
     let m = c.in_default.in_default-own.rest in
     let n = found_four c.args.b (omega arith) _ d c.requires.2 m.0.1 m.1 in
-    let e = d.same in
-    (c.requires.0, c.requires.1, sym (ap (λ (l : Lead). l.len) e) ∙ n, ap (λ (l : Lead). l.lo) e, ap (λ (l : Lead). l.hi) e, omega arith, omega arith)
+    (c.requires.0, c.requires.1, (d.same, n, omega arith, omega arith))
