@@ -10,7 +10,6 @@ ghost use Rattle.utf8.specs.Reading.{lead_of, begun, read_value, conts, permitte
 ghost use Rattle.utf8.specs.Bounds.{Reached, RowOf};
 ghost use Rattle.utf8.specs.Meaning.{Scalar, utf8_bytes};
 
-use base::wide;
 use token::Malformed;
 
 // What the first byte of a value says: the value's length, the modulus that leaves the first byte's bits, and the bounds of the second byte.
@@ -128,7 +127,7 @@ fn six_more(v: u32, x: u8) -> u32
     requires { (v < 1048576) × (128 ≤ x) }
     ensures { (result ≡ v * 64 + (x - 128)) × (result < v * 64 + 128) }
 {
-    v * 64 + wide(x - 0x80)
+    v * 64 + u32::from(x - 0x80)
 }
 
 // A value's byte k, within its bounds, where those before it gave v: the value if it ends here. Asks for what the bytes before can give,
@@ -189,13 +188,13 @@ pub fn read_value(s: &[u8]) -> Result<(u32, usize), Malformed>
     }
     let b = s[0];
     if b < 0x80 {
-        return Ok((wide(b), 1));
+        return Ok((u32::from(b), 1));
     }
     let Some(l) = lead_of(b) else {
         return Err(Malformed::Bad(0));
     };
     let m = l.modulus;
-    let v = wide(b % m);
+    let v = u32::from(b % m);
     let n = l.len;
     match n {
         2 => return further(s, 1, v, l.lo, l.hi),
@@ -282,7 +281,7 @@ fn row_len<const N: usize>(s: &[u8], at: usize, b: u8, l: Lead, key: u32) -> Opt
         return None;
     }
     if N == 2 {
-        if wide(x) == key {
+        if u32::from(x) == key {
             return None;
         }
         return Some(2);
@@ -295,7 +294,7 @@ fn row_len<const N: usize>(s: &[u8], at: usize, b: u8, l: Lead, key: u32) -> Opt
         return None;
     }
     if N == 3 {
-        if wide(y) == key {
+        if u32::from(y) == key {
             return None;
         }
         return three_permitted(b, x, y);
@@ -307,7 +306,7 @@ fn row_len<const N: usize>(s: &[u8], at: usize, b: u8, l: Lead, key: u32) -> Opt
     if 0xBF < z {
         return None;
     }
-    if wide(z) == key {
+    if u32::from(z) == key {
         return None;
     }
     four_permitted(b, x, y, z)

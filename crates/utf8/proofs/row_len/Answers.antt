@@ -14,8 +14,8 @@ returns-then-x-l g c = second_out c.args.key c.args.s.now c.args.at c.args.b c.a
 pub returns-then-l-x : goal.returns-then-l-x
 returns-then-l-x g c = second_out c.args.key c.args.s.now c.args.at c.args.b c.args.l.lo c.args.l.hi (c.args.l.len - 2) (row_begun _ _ _ _ _ _ c.requires (omega (arith, c.requires.2.1, c.requires.2.2))) (omega arith) (inr (omega arith))
 
-pub returns-then-wide-key : goal.returns-then-wide-key
-returns-then-wide-key g c = two_met c.args.key c.args.s.now c.args.at c.args.b c.args.l.lo c.args.l.hi (row_begun _ _ _ _ _ _ c.requires (omega (arith, c.requires.2.1, c.requires.2.2))) (omega arith) (omega arith) (omega arith) (omega arith)
+pub returns-then-from-key : goal.returns-then-from-key
+returns-then-from-key g c = two_met c.args.key c.args.s.now c.args.at c.args.b c.args.l.lo c.args.l.hi (row_begun _ _ _ _ _ _ c.requires (omega (arith, c.requires.2.1, c.requires.2.2))) (omega arith) (omega arith) (omega arith) (omega arith)
 
 pub returns-then-this-eq2 : goal.returns-then-this-eq2
 returns-then-this-eq2 g c = two_other c.args.key c.args.s.now c.args.at c.args.b c.args.l.lo c.args.l.hi (row_begun _ _ _ _ _ _ c.requires (omega (arith, c.requires.2.1, c.requires.2.2))) (omega arith) (omega arith) (omega arith) (omega arith)
@@ -26,8 +26,8 @@ returns-then-y-lt128 g c = third_out c.args.key c.args.s.now c.args.at c.args.b 
 pub returns-then-y-gt191 : goal.returns-then-y-gt191
 returns-then-y-gt191 g c = third_out c.args.key c.args.s.now c.args.at c.args.b c.args.l.lo c.args.l.hi (c.args.l.len - 3) (row_begun _ _ _ _ _ _ c.requires (omega (arith, c.requires.2.1, c.requires.2.2))) (omega arith) (omega arith) (inr (omega arith))
 
-pub returns-then-wide-key-2 : goal.returns-then-wide-key-2
-returns-then-wide-key-2 g c = three_met c.args.key c.args.s.now c.args.at c.args.b c.args.l.lo c.args.l.hi (row_begun _ _ _ _ _ _ c.requires (omega (arith, c.requires.2.1, c.requires.2.2))) (omega arith) (omega arith) (omega arith) (omega arith)
+pub returns-then-from-key-2 : goal.returns-then-from-key-2
+returns-then-from-key-2 g c = three_met c.args.key c.args.s.now c.args.at c.args.b c.args.l.lo c.args.l.hi (row_begun _ _ _ _ _ _ c.requires (omega (arith, c.requires.2.1, c.requires.2.2))) (omega arith) (omega arith) (omega arith) (omega arith)
 
 pub three_permitted-requires : goal.three_permitted-requires
 three_permitted-requires g c = three_asks c.args.key c.args.s.now c.args.at c.args.b c.args.l.lo c.args.l.hi (row_begun _ _ _ _ _ _ c.requires (omega (arith, c.requires.2.1, c.requires.2.2))) (omega arith) (omega arith) (omega arith)
@@ -41,8 +41,8 @@ returns-then-z-lt128 g c = fourth_out c.args.key c.args.s.now c.args.at c.args.b
 pub returns-then-z-gt191 : goal.returns-then-z-gt191
 returns-then-z-gt191 g c = fourth_out c.args.key c.args.s.now c.args.at c.args.b c.args.l.lo c.args.l.hi (row_begun _ _ _ _ _ _ c.requires (omega (arith, c.requires.2.1, c.requires.2.2))) (omega arith) (omega arith) (inr (omega arith))
 
-pub returns-then-wide-key-3 : goal.returns-then-wide-key-3
-returns-then-wide-key-3 g c = four_met c.args.key c.args.s.now c.args.at c.args.b c.args.l.lo c.args.l.hi (row_begun _ _ _ _ _ _ c.requires (omega (arith, c.requires.2.1, c.requires.2.2))) (omega arith) (omega arith) (omega arith) (omega arith)
+pub returns-then-from-key-3 : goal.returns-then-from-key-3
+returns-then-from-key-3 g c = four_met c.args.key c.args.s.now c.args.at c.args.b c.args.l.lo c.args.l.hi (row_begun _ _ _ _ _ _ c.requires (omega (arith, c.requires.2.1, c.requires.2.2))) (omega arith) (omega arith) (omega arith) (omega arith)
 
 pub four_permitted-requires : goal.four_permitted-requires
 four_permitted-requires g c = four_asks c.args.key c.args.s.now c.args.at c.args.b c.args.l.lo c.args.l.hi (row_begun _ _ _ _ _ _ c.requires (omega (arith, c.requires.2.1, c.requires.2.2))) (omega arith) (omega arith) (omega arith)
