@@ -2,11 +2,11 @@
 // and leaves in the buffer), crate `conversion` (the outputs, and what refuses them).
 #![tactic(auto)]
 
-ghost use Rattle.std.specs.Prelude.{◌≡◌, ℕ, ◌+◌, ◌*◌, ◌≤◌, ◌<◌, length, Ok};
+ghost use Rattle.std.specs.Prelude.{◌≡◌, ◌+◌, ◌*◌, ◌≤◌, ◌<◌, length, Ok};
 ghost use Rattle.base.specs.Reading.{over};
 ghost use Rattle.header.specs.declared.Kind.TheVariants.{Vfont2 as vfont2};
 ghost use Rattle.header.specs.Bounds.{Placed};
-ghost use Rattle.entries.specs.Meaning.{entry_at, address_at};
+ghost use Rattle.layout.specs.Bounds.{GlyphsStand};
 ghost use Rattle.layout.specs.Reading.{glyphs_in};
 ghost use Rattle.header.specs.Meaning.{char_size};
 ghost use Rattle.stages.specs.Meaning.{tail_of};
@@ -49,7 +49,7 @@ fn put_table(c: Conversion, tail: &[u8], out: &mut [u8])
 fn write_font(c: Conversion, file: &[u8], f: Font, out: &mut [u8])
     requires { Placed file.now f × (measured_of c (tail_of file.now f) ≡ Ok (length (table_in c (tail_of file.now f))))
         × (length (glyphs_in file.now f) ≡ f.count * char_size f)
-        × (f.kind ≡ vfont2 → (i : ℕ) → i < f.count → f.bitmaps + address_at file.now (entry_at f.entries i) + char_size f ≤ length file.now)
+        × (f.kind ≡ vfont2 → GlyphsStand file.now f (char_size f))
         × (front_len c f + length (table_in c (tail_of file.now f)) ≤ length out.old) }
     ensures { out.new ≡ over (output_of c file.now f) out.old }
 {

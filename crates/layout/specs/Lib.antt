@@ -1,2 +1,3 @@
 -- A written font.
 pub mod Reading
+pub mod Bounds

@@ -2,13 +2,14 @@
 // for room, and for numbers that its bytes can hold: the callers work out the size from a checked font.
 #![tactic(auto)]
 
-ghost use Rattle.std.specs.Prelude.{◌≡◌, ℕ, ◌+◌, ◌*◌, ◌≤◌, ◌<◌, length};
+ghost use Rattle.std.specs.Prelude.{◌≡◌, ◌*◌, ◌≤◌, ◌<◌, length};
 ghost use Rattle.base.specs.Reading.{over};
 ghost use Rattle.header.specs.declared.Kind.TheVariants.{Vfont2 as vfont2};
 ghost use Rattle.header.specs.Meaning.{char_size, header_len, entry_len};
 ghost use Rattle.header.specs.Reading.{header_bytes};
 ghost use Rattle.header.specs.Bounds.{Placed};
-ghost use Rattle.entries.specs.Meaning.{entry_at, address_at};
+ghost use Rattle.entries.specs.Meaning.{entry_at};
+ghost use Rattle.layout.specs.Bounds.{GlyphsStand};
 ghost use Rattle.layout.specs.Reading.{metrics_bytes, entry_bytes, entries_at, evenly, dispatch_bytes, gathered, glyphs_in};
 
 use header::{Font, Format, Kind, LongHeader};
@@ -84,7 +85,7 @@ pub fn put_dispatch(kind: Kind, n: usize, size: usize, height: usize, width: usi
 // The bitmaps of the n glyphs of a font, of so many bytes each, each from the address that its entry has.
 fn put_gathered(file: &[u8], f: Font, size: usize, out: &mut [u8])
     requires { (length file.now ≤ 1048576) × (entry_at f.entries f.count ≤ length file.now) × (f.count * size ≤ length out.old)
-        × ((i : ℕ) → i < f.count → f.bitmaps + address_at file.now (entry_at f.entries i) + size ≤ length file.now) }
+        × GlyphsStand file.now f size }
     ensures { out.new ≡ over (gathered file.now f size 0 f.count) out.old }
 {
     for i in 0..f.count {
@@ -99,7 +100,7 @@ fn put_gathered(file: &[u8], f: Font, size: usize, out: &mut [u8])
 // room: the callers have checked both.
 pub fn put_glyphs(file: &[u8], f: Font, out: &mut [u8])
     requires { Placed file.now f × (f.count * char_size f ≤ length out.old)
-        × (f.kind ≡ vfont2 → (i : ℕ) → i < f.count → f.bitmaps + address_at file.now (entry_at f.entries i) + char_size f ≤ length file.now) }
+        × (f.kind ≡ vfont2 → GlyphsStand file.now f (char_size f)) }
     ensures { out.new ≡ over (glyphs_in file.now f) out.old }
 {
     let kind = f.kind;
