@@ -70,7 +70,7 @@ fn from_entry(size: usize, at: usize, x: Sums, part: &[u8], start: usize) -> Fed
     let k = (part.len() - start) / Vfont2::ENTRY_LEN;
     let end = start + k * Vfont2::ENTRY_LEN;
     Fed {
-        held: unfinished::hold(&part[end..]),
+        held: Held::hold(&part[end..]),
         sums: more_sums(size, at, x, part, start, k),
     }
 }
@@ -88,11 +88,11 @@ pub fn feed(size: usize, at: usize, h: Held, x: Sums, part: &[u8]) -> Fed
     let rest = Vfont2::ENTRY_LEN - k;
     if part.len() < rest {
         return Fed {
-            held: unfinished::grow(h, part),
+            held: h.grow(part),
             sums: x,
         };
     }
-    let whole = unfinished::put(h, &part[..rest]);
+    let whole = h.put(&part[..rest]);
     let bytes = whole.bytes;
     let y = more_sums(size, at - k, x, &bytes[..Vfont2::ENTRY_LEN], 0, 1);
     from_entry(size, at, y, part, rest)

@@ -37,7 +37,7 @@ pub fn fresh() -> Loader
         total: 0,
         closed: 0,
         header: [0u8; 32],
-        held: unfinished::none(),
+        held: Held::none(),
         sums: entryfeed::no_sums(),
         standing: tablefeed::unread(),
     }
@@ -93,7 +93,7 @@ fn feed_entries(f: Font, total: usize, h: Held, x: Sums, piece: &[u8]) -> entryf
     if f.entries < total {
         return entryfeed::feed(f.size, total, h, x, s);
     }
-    entryfeed::feed(f.size, f.entries, unfinished::none(), x, s)
+    entryfeed::feed(f.size, f.entries, Held::none(), x, s)
 }
 
 // What a piece brings of the Unicode table. Asks for what `feed_body` asks for.
@@ -119,7 +119,7 @@ fn feed_table(f: Font, total: usize, h: Held, t: Standing, piece: &[u8]) -> tabl
     if f.end < total {
         return tablefeed::feed(c, f.count, total, h, t, s);
     }
-    tablefeed::feed(c, f.count, f.end, unfinished::none(), t, s)
+    tablefeed::feed(c, f.count, f.end, Held::none(), t, s)
 }
 
 // A piece of a font that the header describes. Asks for what `feed_body` asks for.
@@ -179,18 +179,18 @@ fn feed_header(l: Loader, piece: &[u8]) -> Loader
             total: total + n,
             closed: l.closed,
             header: header,
-            held: unfinished::grow(l.held, piece),
+            held: l.held.grow(piece),
             sums: sums,
             standing: standing,
         };
     }
-    let whole = unfinished::put(l.held, &piece[..rest]);
+    let whole = l.held.put(&piece[..rest]);
     let bytes = whole.bytes;
     let next = Loader {
         total: total,
         closed: l.closed,
         header: bytes,
-        held: unfinished::none(),
+        held: Held::none(),
         sums: sums,
         standing: standing,
     };

@@ -183,12 +183,12 @@ fn settle(s: &[u8], at: usize, r: Run) -> Fed
     };
     if r.halted.is_some() {
         return Fed {
-            held: unfinished::none(),
+            held: Held::none(),
             standing: standing,
         };
     }
     Fed {
-        held: unfinished::hold(&s[place..]),
+        held: Held::hold(&s[place..]),
         standing: standing,
     }
 }
@@ -201,7 +201,7 @@ fn behind_held(c: Coding, n: usize, at: usize, h: Held, t: Standing, part: &[u8]
 {
     let k = h.len;
     let m = part.len().min(3);
-    let joined = unfinished::put(h, &part[..m]);
+    let joined = h.put(&part[..m]);
     let bytes = joined.bytes;
     let end = k + m;
     let r = run_through(c, &bytes[..end], 0, n, t.ended, is_set(t.opened));

@@ -13,50 +13,52 @@ pub struct Held {
     pub bytes: [u8; 32],
 }
 
-// None.
-pub fn none() -> Held
-    ensures { result ≡ held_of [] }
-{
-    Held {
-        len: 0,
-        bytes: [0u8; 32],
+impl Held {
+    // None.
+    pub fn none() -> Held
+        ensures { result ≡ held_of [] }
+    {
+        Held {
+            len: 0,
+            bytes: [0u8; 32],
+        }
     }
-}
 
-// More bytes behind those that are held. Asks that they fit: each caller has counted. `% 32` changes no number here: without it the compiler
-// makes the loop a call of `memcpy`, and the library calls nothing.
-pub fn put(h: Held, s: &[u8]) -> Held
-    requires { h.len + length s.now ≤ 32 }
-    ensures equal { result ≡ put_of h s.now }
-    ensures held { (held_bytes result ≡ held_bytes h ++ s.now) × (result.len ≡ h.len + length s.now) × (length result.bytes ≡ 32) }
-{
-    let start = h.len;
-    let mut bytes = h.bytes;
-    for (i, b) in s.iter().enumerate() {
-        let at = (start + i) % 32;
-        bytes[at] = *b;
+    // More bytes behind those that are held. Asks that they fit: each caller has counted. `% 32` changes no number here: without it the compiler
+    // makes the loop a call of `memcpy`, and the library calls nothing.
+    pub fn put(self, s: &[u8]) -> Held
+        requires { self.len + length s.now ≤ 32 }
+        ensures equal { result ≡ put_of self s.now }
+        ensures held { (held_bytes result ≡ held_bytes self ++ s.now) × (result.len ≡ self.len + length s.now) × (length result.bytes ≡ 32) }
+    {
+        let start = self.len;
+        let mut bytes = self.bytes;
+        for (i, b) in s.iter().enumerate() {
+            let at = (start + i) % 32;
+            bytes[at] = *b;
+        }
+        Held {
+            len: start + s.len(),
+            bytes: bytes,
+        }
     }
-    Held {
-        len: start + s.len(),
-        bytes: bytes,
+
+    // These bytes alone, nothing behind them. Asks that they fit, as above.
+    pub fn hold(s: &[u8]) -> Held
+        requires { length s.now ≤ 32 }
+        ensures { result ≡ held_of s.now }
+    {
+        Held::none().put(s)
     }
-}
 
-// These bytes alone, nothing behind them. Asks that they fit, as above.
-pub fn hold(s: &[u8]) -> Held
-    requires { length s.now ≤ 32 }
-    ensures { result ≡ held_of s.now }
-{
-    put(none(), s)
-}
-
-// More bytes behind those that are held, and nothing behind them. Asks that they fit, as above.
-pub fn grow(h: Held, s: &[u8]) -> Held
-    requires { h.len + length s.now ≤ 32 }
-    ensures { result ≡ held_of (held_bytes h ++ s.now) }
-{
-    let g = put(h, s);
-    let n = g.len;
-    let bytes = g.bytes;
-    hold(&bytes[..n])
+    // More bytes behind those that are held, and nothing behind them. Asks that they fit, as above.
+    pub fn grow(self, s: &[u8]) -> Held
+        requires { self.len + length s.now ≤ 32 }
+        ensures { result ≡ held_of (held_bytes self ++ s.now) }
+    {
+        let g = self.put(s);
+        let n = g.len;
+        let bytes = g.bytes;
+        Held::hold(&bytes[..n])
+    }
 }

@@ -1,10 +1,10 @@
--- `unfinished::hold` meets its contract. Assumes that the bytes fit.
+-- `Held::hold` meets its contract. Assumes that the bytes fit.
 use native.Mathlib.Omega.{arith}
 use mathlib.Core.Path.{◌≡◌, ◌∙◌, ap}
 use Rattle.unfinished.specs.declared.Held.{Held}
 use Rattle.unfinished.specs.Reading.{put_of}
 use Rattle.unfinished.proofs.Holding.{none_len, put_none}
-use Rattle.unfinished.proofs.hold.Goals as goal
+use Rattle.unfinished.proofs.Held.hold.Goals as goal
 
 pub put-requires : goal.put-requires
 put-requires c = let e : c.none.result.len ≡ 0 = none_len _ c.none.ensures in omega arith

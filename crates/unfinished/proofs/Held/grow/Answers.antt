@@ -1,9 +1,9 @@
--- `unfinished::grow` meets its contract. Assumes that the bytes fit.
+-- `Held::grow` meets its contract. Assumes that the bytes fit.
 use native.Mathlib.Omega.{arith}
 use mathlib.Core.Path.{sym, ◌∙◌, ap}
 use lib.Seq.{length-take-le}
 use Rattle.unfinished.specs.Reading.{held_of}
-use Rattle.unfinished.proofs.grow.Goals as goal
+use Rattle.unfinished.proofs.Held.grow.Goals as goal
 
 pub slice_bounds-bytes-end : goal.slice_bounds-bytes-end
 slice_bounds-bytes-end c = let p = c.put-g.ensures.held in omega (arith, p.1, p.2)
