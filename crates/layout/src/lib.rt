@@ -17,7 +17,8 @@ use psf1::Psf1;
 use psf2::Psf2;
 use vfont2::Vfont2;
 
-// A kind's header. Asks for numbers that the header holds, and for room.
+// A kind's header. Asks for numbers that the header holds, and for room. Not `header::Fields`: it has the header's length too, which is the kind's
+// own, and each caller would make one to have it taken apart here.
 pub fn put_header(
     kind: Kind,
     table: bool,
