@@ -1,6 +1,6 @@
 // Inner layer: a glyph's bitmap, its rows, its pixels and its metrics, in a font whose parts stand in the file. Definitions:
-// specs/Meaning.antt (where things stand), specs/Reading.antt (what is answered). Each public function asks that the font's parts stand in
-// the file (`Placed`), which the check of the font gives.
+// specs/Meaning.antt (where things stand), specs/Reading.antt (what is answered). Each public function that takes a file asks that the font's
+// parts stand in it (`Placed`), which the check of the font gives.
 #![tactic(auto)]
 
 ghost use Rattle.std.specs.Prelude.{◌≡◌, ◌+◌, ◌*◌, ◌≤◌, ◌<◌, length, Ok};
@@ -62,7 +62,7 @@ fn entry_located(file: &[u8], f: Font, g: usize, at: usize) -> Result<Bitmap, Re
     }
 }
 
-// Glyph g's bitmap; and that it stands in the file. Asks for a font whose header passed (`Placed`), as do all public functions here.
+// Glyph g's bitmap; and that it stands in the file. Asks for a font whose header passed (`Placed`), as do all public functions here that take a file.
 pub fn locate(file: &[u8], f: Font, g: usize) -> Result<Bitmap, Refusal>
     requires { Placed file.now f }
     ensures equal { result ≡ bitmap_of file.now f g }
@@ -164,7 +164,7 @@ pub fn pixel_at(file: &[u8], f: Font, g: usize, y: usize, x: usize) -> Result<u8
 }
 
 // The metrics of a glyph that fills its height and width. Asks for a height and a width within the formats' bounds.
-fn even_metrics(height: usize, width: usize) -> Metrics
+pub fn even_metrics(height: usize, width: usize) -> Metrics
     requires { (height ≤ 255) × (width ≤ 255) }
     ensures { result ≡ even_metrics height width }
 {

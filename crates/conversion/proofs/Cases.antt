@@ -1,17 +1,23 @@
 -- The cases of what comes before a conversion, check by check.
 use mathlib.Core.Path.{◌≡◌, refl, sym, ◌∙◌, ap}
 use mathlib.Core.List.{List}
-use mathlib.Core.Bool.{Bool, true, false}
+use mathlib.Core.Logic.{◌⊎◌, inl, inr}
+use mathlib.Core.Bool.{Bool, true, false, not, ◌&&◌}
 use Prim.Native.Nat.{ℕ, zero, suc, ◌+◌, ◌-◌, ◌*◌, ◌≤◌, ◌<◌}
 use native.Mathlib.Omega.{arith}
 use native.Mathlib.Numerals.{add-one}
 use lib.Dec.{eqb}
+use lib.IntN.{pos, negsuc}
 use lib.ListN.{length, take, drop}
 use lib.Seq.{length-take-le, take-add, drop_at}
 use borrow.Author.Tests.{eq-eqb, ne_eqb}
+use Rattle.std.specs.Ordering.{int_eq}
+use Rattle.std.proofs.lemmas.Bool.Decides.{Decides-int_eq, not_from_Decides}
 use Rattle.base.specs.Reading.{when}
-use Rattle.base.specs.Meaning.{le16}
+use Rattle.base.specs.Meaning.{le16, Bytes}
 use Rattle.base.proofs.Chain.{chain}
+use Rattle.base.proofs.Parts.{byte_at}
+use Rattle.base.proofs.Tests.{below}
 use Rattle.refusal.specs.Meaning.{refusal}
 use Rattle.refusal.specs.declared.Refusal.{Refusal}
 use Rattle.refusal.specs.declared.Reason.TheVariants.{WrongKind, Glyphs, Size}
@@ -23,7 +29,10 @@ use Rattle.header.specs.declared.Kind.TheVariants.{Psf1, Psf2, Vfont2}
 use Rattle.header.specs.declared.Font.{Font}
 use Rattle.header.specs.Bounds.{Placed}
 use Rattle.header.specs.Meaning.{limit, char_size, header_len, entry_len}
-use Rattle.entries.specs.Meaning.{entry_at, size_at}
+use Rattle.entries.specs.declared.Metrics.{Metrics}
+use Rattle.entries.specs.Meaning.{entry_at, size_at, signed16, metrics_at}
+use Rattle.entries.proofs.Sums.{low, high}
+use Rattle.bitmap.specs.Meaning.{even_metrics}
 use Rattle.stages.specs.Meaning.{coding_of, tail_of}
 use Rattle.stages.specs.Reading.{told_at, table_tail, check_of}
 use Rattle.conversion.specs.declared.Conversion.{Conversion}
@@ -81,48 +90,71 @@ module _ (f : Font) where
     unfolding suits_psf1 when
     width_eight p = rw (e, eq-eqb _ _ p)
 
+-- what `==` of two metrics says
+abbrev pub same_metrics : Metrics → Metrics → Bool
+same_metrics a b =
+    int_eq a.up b.up && (int_eq a.down b.down && (int_eq a.left b.left && (int_eq a.right b.right && int_eq a.logical b.logical)))
+
+-- a number of two bytes is, with its sign, a small one exactly where it is that one without
+signed_small : (x v : ℕ) → x < 65536 → v < 32768 → int_eq (signed16 x) (pos v) ≡ eqb x v
+signed_small x v b l = go (int_eq (signed16 x) (pos v)) refl
+  where
+    same : (x < 32768) ⊎ (32768 ≤ x) → signed16 x ≡ pos v → x ≡ v
+    same (inl a) e = let q : pos x ≡ pos v = sym (low x a) ∙ e in cc
+    same (inr g) e = let q : negsuc (65535 - x) ≡ pos v = sym (high x g b) ∙ e in let z : ◌≡◌ {A = ℕ} 0 1 = cc in absurd (omega arith)
+
+    go : (t : Bool) → int_eq (signed16 x) (pos v) ≡ t → t ≡ eqb x v
+    go true q = sym (eq-eqb x v (same (below x 32768) ((Decides-int_eq (signed16 x) (pos v)).0 q)))
+    go false q = sym (ne_eqb x v (λ e. not_from_Decides _ (Decides-int_eq (signed16 x) (pos v)) q (ap signed16 e ∙ low v l)))
+
+two_bytes : (s : List ℕ) → Bytes s → (i : ℕ) → le16 s i < 65536
+unfolding le16
+two_bytes s y i = omega (arith, byte_at s y i, byte_at s y (i + 1))
+
+field_is : (s : List ℕ) → Bytes s → (i v : ℕ) → v < 32768 → int_eq (signed16 (le16 s i)) (pos v) ≡ eqb (le16 s i) v
+field_is s y i v l = signed_small (le16 s i) v (two_bytes s y i) l
+
+-- five tests at once, and one by one
+one_by_one : (a b c d e : Bool) → (a && (b && (c && (d && e)))) ≡ when (not a) false (when (not b) false (when (not c) false (when (not d) false e)))
+unfolding when
+one_by_one false b c d e = refl
+one_by_one true false c d e = refl
+one_by_one true true false d e = refl
+one_by_one true true true false e = refl
+one_by_one true true true true e = refl
+
 module _ (s : List ℕ) (h w at : ℕ) where
-  abbrev pub HasGlyph : Type 0
-  HasGlyph = size_at s at ≡ 0 → ⊥
-
-  abbrev pub Up : Type 0
-  Up = HasGlyph × (le16 s (at + 8) ≡ h)
-
-  abbrev pub Down : Type 0
-  Down = Up × (le16 s (at + 10) ≡ 0)
-
-  abbrev pub Left : Type 0
-  Left = Down × (le16 s (at + 12) ≡ 0)
-
-  abbrev pub Right : Type 0
-  Right = Left × (le16 s (at + 14) ≡ w)
-
   pub no_glyph : size_at s at ≡ 0 → false ≡ is_even s h w at
   unfolding is_even
   no_glyph p = search chain depth 30
 
-  pub other_up : HasGlyph × (le16 s (at + 8) ≡ h → ⊥) → false ≡ is_even s h w at
-  unfolding is_even
-  other_up p = search chain depth 30
+  abbrev up : Bool
+  up = eqb (le16 s (at + 8)) h
 
-  pub other_down : Up × (le16 s (at + 10) ≡ 0 → ⊥) → false ≡ is_even s h w at
-  unfolding is_even
-  other_down p = search chain depth 30
+  abbrev down : Bool
+  down = eqb (le16 s (at + 10)) 0
 
-  pub other_left : Down × (le16 s (at + 12) ≡ 0 → ⊥) → false ≡ is_even s h w at
-  unfolding is_even
-  other_left p = search chain depth 30
+  abbrev left : Bool
+  left = eqb (le16 s (at + 12)) 0
 
-  pub other_right : Left × (le16 s (at + 14) ≡ w → ⊥) → false ≡ is_even s h w at
-  unfolding is_even
-  other_right p = search chain depth 30
+  abbrev right : Bool
+  right = eqb (le16 s (at + 14)) w
 
-  pub last_logical : Right → eqb (le16 s (at + 16)) w ≡ is_even s h w at
-  unfolding is_even
-  last_logical p = search chain depth 30
+  abbrev logical : Bool
+  logical = eqb (le16 s (at + 16)) w
 
-  pub logical_read : (v : ℕ) → v ≡ le16 s (at + 16) → eqb v w ≡ eqb (le16 s (at + 16)) w
-  logical_read v e = rw e
+  module _ (y : Bytes s) (lh : h ≤ 255) (lw : w ≤ 255) where
+    as_numbers : same_metrics (metrics_at s at) (even_metrics h w) ≡ (up && (down && (left && (right && logical))))
+    unfolding metrics_at
+    as_numbers =
+        λ i. field_is s y (at + 8) h (omega arith) i
+        && (field_is s y (at + 10) 0 (omega arith) i
+        && (field_is s y (at + 12) 0 (omega arith) i && (field_is s y (at + 14) w (omega arith) i && field_is s y (at + 16) w (omega arith) i)))
+
+    -- an entry with a glyph, its metrics and (height, 0, 0, width, width) as `==` compares them
+    pub by_metrics : (size_at s at ≡ 0 → ⊥) → (m n : Metrics) → m ≡ metrics_at s at → n ≡ even_metrics h w → same_metrics m n ≡ is_even s h w at
+    unfolding is_even when
+    by_metrics g m n em en = (λ i. same_metrics (em i) (en i)) ∙ as_numbers ∙ rw (ne_eqb (size_at s at) 0 g) (one_by_one up down left right logical)
 
 -- one entry of those that are left, the i-th, which stands at an offset
 module _ (s : List ℕ) (h w start i at : ℕ) (here : at ≡ entry_at start i) where

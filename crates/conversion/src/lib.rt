@@ -112,32 +112,20 @@ fn suits_psf1(f: Font) -> Result<(), Refusal>
     Ok(())
 }
 
-// Whether the entry at `at` has a glyph, with the metrics (height, 0, 0, width, width). Asks that the entry stands in the file.
+// Whether the entry at `at` has a glyph, with the metrics (height, 0, 0, width, width). Asks that the entry stands in the file, and for a height and
+// a width within the formats' bounds.
 fn is_even(file: &[u8], height: usize, width: usize, at: usize) -> bool
-    requires { at + 18 ≤ length file.now }
+    requires { (at + 18 ≤ length file.now) × (height ≤ 255) × (width ≤ 255) }
     ensures { result ≡ is_even file.now height width at }
 {
-    if base::get32(file, at + 4) == 0 {
-        return false;
-    }
-    if base::get16(file, at + 8) as usize != height {
-        return false;
-    }
-    if base::get16(file, at + 10) != 0 {
-        return false;
-    }
-    if base::get16(file, at + 12) != 0 {
-        return false;
-    }
-    if base::get16(file, at + 14) as usize != width {
-        return false;
-    }
-    base::get16(file, at + 16) as usize == width
+    base::get32(file, at + 4) != 0
+        && entries::metrics_at(file, at) == bitmap::even_metrics(height, width)
 }
 
-// The first of n entries of the table that begins at `start` that is not even. Asks that they stand in the file.
+// The first of n entries of the table that begins at `start` that is not even. Asks that they stand in the file, and for a height
+// and a width within the formats' bounds.
 fn first_uneven(file: &[u8], height: usize, width: usize, n: usize, start: usize) -> Option<usize>
-    requires { entry_at start n ≤ length file.now }
+    requires { (entry_at start n ≤ length file.now) × (height ≤ 255) × (width ≤ 255) }
     ensures { result ≡ evenness file.now height width start n 0 }
 {
     for i in 0..n {

@@ -10,7 +10,7 @@ use Rattle.conversion.proofs.suits_psf2.Goals as goal
 use Rattle.std.specs.Prelude.{Err}
 
 pub first_uneven-e-requires : goal.first_uneven-e-requires
-first_uneven-e-requires c = let p = c.requires.0 in let d = subst (λ (k : Kind). KindPlaced c.args.f k) c.requires.1 p.8 in omega (arith, d.0, p.6, p.7)
+first_uneven-e-requires c = let p = c.requires.0 in let d = subst (λ (k : Kind). KindPlaced c.args.f k) c.requires.1 p.8 in (omega (arith, d.0, p.6, p.7), p.3, p.4)
 
 pub overflow_mul-i : goal.overflow_mul-i
 overflow_mul-i c = let w = cases.uneven_within c.args.file.now c.args.f.height c.args.f.width c.args.f.entries c.args.f.count 0 c.in-Some.i (sym c.first_uneven-e.ensures ∙ c.in-Some.is) in let n : c.args.f.count ≤ 4096 = c.requires.0.2 in omega (arith, w)
