@@ -3,6 +3,7 @@
 #![tactic(auto)]
 
 ghost use Rattle.std.specs.Prelude.{◌≡◌, ◌+◌, ◌≤◌, ◌<◌, length, ◌+ℤ◌};
+ghost use Rattle.base.specs.Meaning.{le16};
 ghost use Rattle.entries.specs.Meaning.{entry_at, signed16, metrics_at, count_of, rows_at, cols_at};
 ghost use Rattle.entries.specs.Reading.{entry_of, scan_of};
 
@@ -50,6 +51,7 @@ pub fn metrics_at(file: &[u8], at: usize) -> Metrics
 }
 
 // A signed number of 16 bits, moved up by 32,768 so that it is none below zero.
+// In `span`, `(signed(a) + signed(b)).max(0) as u32` was tried: the search proves neither `overflow_add-signed` nor `returns`, both over whole numbers.
 fn raised(v: u32) -> u32
     requires { v < 65536 }
     ensures { ((v < 32768 → result ≡ v + 32768) × (32768 ≤ v → result + 32768 ≡ v)) × (result < 65536) }
@@ -70,20 +72,30 @@ pub fn span(a: u32, b: u32) -> u32
     sum - 65536
 }
 
+// The sum of the two numbers at `at`. Asks that they stand in the file: both callers ask for the whole entry.
+fn span_at(file: &[u8], at: usize) -> usize
+    requires { at + 4 ≤ length file.now }
+    ensures { (result ≡ count_of (signed16 (le16 file.now at) +ℤ signed16 (le16 file.now (at + 2)))) × (result < 65536) }
+{
+    span(base::get16(file, at), base::get16(file, at + 2)) as usize
+}
+
 // The rows of the entry at `at`. Asks that the entry stands in the file: each caller has tested the length.
+#[tactic(auto, unfolding(crate::specs::Meaning::rows_at))]
 pub fn rows_at(file: &[u8], at: usize) -> usize
     requires { at + 18 ≤ length file.now }
     ensures { (result ≡ rows_at file.now at) × (result < 65536) }
 {
-    span(base::get16(file, at + 8), base::get16(file, at + 10)) as usize
+    span_at(file, at + 8)
 }
 
 // The columns of the entry at `at`. Asks that the entry stands in the file: each caller has tested the length.
+#[tactic(auto, unfolding(crate::specs::Meaning::cols_at))]
 pub fn cols_at(file: &[u8], at: usize) -> usize
     requires { at + 18 ≤ length file.now }
     ensures { (result ≡ cols_at file.now at) × (result < 65536) }
 {
-    span(base::get16(file, at + 12), base::get16(file, at + 14)) as usize
+    span_at(file, at + 12)
 }
 
 // What the entry at `at` says, where the bitmaps have `total` bytes. Asks that the entry stands in the file: each caller has

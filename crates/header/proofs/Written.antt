@@ -12,14 +12,6 @@ use Rattle.header.specs.declared.Kind.TheVariants.{Psf1, Psf2, Vfont2}
 use Rattle.header.specs.Meaning.{magic_of, header_len, entry_len}
 use Rattle.header.specs.Reading.{fields, flags_of, fixed_fields, mode_of, header_bytes}
 
-pub flags_yes : (t : Bool) → t ≡ true → 1 ≡ flags_of t
-unfolding flags_of
-flags_yes t e = rw e
-
-pub flags_no : (t : Bool) → t ≡ false → 0 ≡ flags_of t
-unfolding flags_of
-flags_no t e = rw e
-
 pub mode_512 : (n : ℕ) (t : Bool) → n ≡ 512 → (t ≡ true → 3 ≡ mode_of n t) × (t ≡ false → 1 ≡ mode_of n t)
 unfolding mode_of
 mode_512 n t e = (λ q. rw (eq-eqb n 512 e, q), λ q. rw (eq-eqb n 512 e, q))

@@ -27,6 +27,9 @@ pub enum Kind {
 // The file limit.
 pub const LIMIT: usize = 1048576;
 
+// The bytes of a header of PSF2 or vfont2.
+pub const LONG_LEN: usize = 32;
+
 // What an accepted font's header says: all that any other call needs. Offsets are in the file.
 // A font and its file stay two parameters of the calls above, with `Placed` in their contracts: a struct of both with a ghost field wants `Placed`
 // proved a proposition, and each `file.now` of a contract would read `o.entry.file.now`.
@@ -76,16 +79,14 @@ pub fn glyph_bytes(height: usize, width: usize) -> usize
     height * row_bytes(width)
 }
 
-// The fields that PSF2 and vfont2 have at the same places: refusals 3 to 6; and their bounds, for the sums that follow. Asks for the
-// kind's header length.
+// The fields that PSF2 and vfont2 have at the same places: refusals 3 to 6; and their bounds, for the sums that follow.
 #[tactic(auto, using(crate::proofs::Cases::head_high))]
-pub fn head_of(file: &[u8], fixed: usize) -> Result<Fields, Refusal>
-    requires { fixed ≡ header_len psf2 }
+pub fn head_of(file: &[u8]) -> Result<Fields, Refusal>
     ensures equal { result ≡ head_of file.now }
     ensures bounded { HeadWithin result }
 {
     let len = file.len();
-    if len < fixed {
+    if len < LONG_LEN {
         return Err(refusal::refuse(Reason::HeaderCut, len));
     }
     if base::get32(file, 4) != 0 {
@@ -96,7 +97,7 @@ pub fn head_of(file: &[u8], fixed: usize) -> Result<Fields, Refusal>
         return Err(refusal::refuse(Reason::Version, 12));
     }
     let header = base::get32(file, 8) as usize;
-    if header < fixed {
+    if header < LONG_LEN {
         return Err(refusal::refuse(Reason::HeaderSize, 8));
     }
     if 4096 < header {
@@ -120,22 +121,20 @@ pub fn head_of(file: &[u8], fixed: usize) -> Result<Fields, Refusal>
 }
 
 // "Flag bit 0 says that a table follows the bitmaps."
+#[tactic(auto, unfolding(crate::specs::Reading::flags_of))]
 fn flags_of(table: bool) -> u32
     ensures { result ≡ flags_of table }
 {
-    if table {
-        return 1;
-    }
-    0
+    u32::from(table)
 }
 
-// Version, header size and flags. Asks for the kind's header length, and for room.
-pub fn put_fixed(fixed: usize, table: bool, out: &mut [u8])
-    requires { (fixed ≡ header_len psf2) × (12 ≤ length out.old) }
+// Version, header size and flags. Asks for room.
+pub fn put_fixed(table: bool, out: &mut [u8])
+    requires { 12 ≤ length out.old }
     ensures { out.new ≡ over (fixed_fields table) out.old }
 {
     base::put32(0, &mut out[0..]);
-    base::put32(fixed as u32, &mut out[4..]);
+    base::put32(LONG_LEN as u32, &mut out[4..]);
     base::put32(flags_of(table), &mut out[8..]);
 }
 
@@ -192,7 +191,7 @@ pub trait LongHeader: Format<4> {
     fn says(file: &[u8]) -> Result<Font, Refusal>
         ensures { result ≡ on_fields shaped (head_of file.now) }
     {
-        let f = head_of(file, Self::HEADER_LEN)?;
+        let f = head_of(file)?;
         Self::shaped(f)
     }
 
@@ -204,7 +203,7 @@ pub trait LongHeader: Format<4> {
     {
         let magic = Self::MAGIC;
         base::copy(&magic, &mut out[0..]);
-        put_fixed(Self::HEADER_LEN, table, &mut out[4..]);
+        put_fixed(table, &mut out[4..]);
         put_fields(n, size, height, width, &mut out[16..]);
     }
 
