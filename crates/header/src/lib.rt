@@ -31,8 +31,8 @@ pub const LIMIT: usize = 1048576;
 pub const LONG_LEN: usize = 32;
 
 // What an accepted font's header says: all that any other call needs. Offsets are in the file.
-// A font and its file stay two parameters of the calls above, with `Placed` in their contracts: a struct of both with a ghost field wants `Placed`
-// proved a proposition, and each `file.now` of a contract would read `o.entry.file.now`.
+// A font and its file stay two parameters of the calls above, with `Placed` in their contracts: in a struct of both, as `differences::Common` has them,
+// each call would take them apart in its first lines, and what a contract says of `file.now` and `f` it would say of `o.file.now` and `o.font`.
 #[derive(Clone, Copy, Debug, PartialEq, Eq)]
 pub struct Font {
     pub kind: Kind,
