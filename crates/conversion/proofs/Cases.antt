@@ -7,7 +7,7 @@ use Prim.Native.Nat.{ℕ, zero, suc, ◌+◌, ◌-◌, ◌*◌, ◌≤◌, ◌<�
 use native.Mathlib.Omega.{arith}
 use native.Mathlib.Numerals.{add-one}
 use lib.Dec.{eqb}
-use lib.IntN.{pos, negsuc}
+use lib.IntN.{ℤ, pos, negsuc}
 use lib.ListN.{length, take, drop}
 use lib.Seq.{length-take-le, take-add, drop_at}
 use borrow.Author.Tests.{eq-eqb, ne_eqb}
@@ -30,9 +30,9 @@ use Rattle.header.specs.declared.Font.{Font}
 use Rattle.header.specs.Bounds.{Placed}
 use Rattle.header.specs.Meaning.{limit, char_size, header_len, entry_len}
 use Rattle.entries.specs.declared.Metrics.{Metrics}
-use Rattle.entries.specs.Meaning.{entry_at, size_at, signed16, metrics_at}
+use Rattle.entries.specs.Meaning.{entry_at, size_at, signed16, metrics_at, HasGlyph}
 use Rattle.entries.proofs.Sums.{low, high}
-use Rattle.bitmap.specs.Meaning.{even_metrics}
+use Rattle.bitmap.specs.Meaning.{even_metrics, EvenGlyph}
 use Rattle.stages.specs.Meaning.{coding_of, tail_of}
 use Rattle.stages.specs.Reading.{told_at, table_tail, check_of}
 use Rattle.conversion.specs.declared.Conversion.{Conversion}
@@ -95,6 +95,12 @@ abbrev pub same_metrics : Metrics → Metrics → Bool
 same_metrics a b =
     int_eq a.up b.up && (int_eq a.down b.down && (int_eq a.left b.left && (int_eq a.right b.right && int_eq a.logical b.logical)))
 
+same_itself : (a : Metrics) → same_metrics a a ≡ true
+same_itself a = λ i. itself a.up i && (itself a.down i && (itself a.left i && (itself a.right i && itself a.logical i)))
+  where
+    itself : (x : ℤ) → int_eq x x ≡ true
+    itself x = (Decides-int_eq x x).1 refl
+
 -- a number of two bytes is, with its sign, a small one exactly where it is that one without
 signed_small : (x v : ℕ) → x < 65536 → v < 32768 → int_eq (signed16 x) (pos v) ≡ eqb x v
 signed_small x v b l = go (int_eq (signed16 x) (pos v)) refl
@@ -152,9 +158,13 @@ module _ (s : List ℕ) (h w at : ℕ) where
         && (field_is s y (at + 12) 0 (omega arith) i && (field_is s y (at + 14) w (omega arith) i && field_is s y (at + 16) w (omega arith) i)))
 
     -- an entry with a glyph, its metrics and (height, 0, 0, width, width) as `==` compares them
-    pub by_metrics : (size_at s at ≡ 0 → ⊥) → (m n : Metrics) → m ≡ metrics_at s at → n ≡ even_metrics h w → same_metrics m n ≡ is_even s h w at
+    pub by_metrics : HasGlyph s at → (m n : Metrics) → m ≡ metrics_at s at → n ≡ even_metrics h w → same_metrics m n ≡ is_even s h w at
     unfolding is_even when
     by_metrics g m n em en = (λ i. same_metrics (em i) (en i)) ∙ as_numbers ∙ rw (ne_eqb (size_at s at) 0 g) (one_by_one up down left right logical)
+
+    -- an entry with a glyph and those metrics is even
+    pub even_glyph : EvenGlyph s h w at → is_even s h w at ≡ true
+    even_glyph g = sym (by_metrics g.0 (even_metrics h w) (even_metrics h w) (sym g.1) refl) ∙ same_itself (even_metrics h w)
 
 -- one entry of those that are left, the i-th, which stands at an offset
 module _ (s : List ℕ) (h w start i at : ℕ) (here : at ≡ entry_at start i) where

@@ -32,14 +32,14 @@ use Rattle.header.specs.Meaning.{limit}
 use Rattle.entries.specs.Meaning.{entry_at}
 use Rattle.stages.specs.Meaning.{coding_of, tail_of}
 use Rattle.stages.specs.Reading.{check_of}
-use Rattle.content.proofs.Evens.{even_metrics_lem, metrics_even}
+use Rattle.content.proofs.Evens.{even_metrics_lem}
 use Rattle.content.proofs.Source.{is_placed}
 use Rattle.conversion.specs.declared.Conversion.{Conversion}
 use Rattle.conversion.specs.declared.Conversion.TheVariants.{Psf1ToPsf2, Psf2ToPsf1, Psf2ToVfont2, Vfont2ToPsf2}
 use Rattle.conversion.specs.Meaning.{source_kind, target_kind, FirstUneven}
 use Rattle.bitmap.specs.Meaning.{EvenGlyph}
 use Rattle.conversion.specs.Reading.{same_kind, is_psf1_count, suits_psf1, is_even, evenness, even_suits, suits_of, measured_of, fitting, measured_then, prepared_on, prepared_of}
-use Rattle.conversion.proofs.Cases.{kind_same, right_kind, wrong_kind, not_opened, count_256, count_512, count_wrong, width_other, width_eight, last_logical, uneven_within, measured_is, suits_is, too_large, fits, suited, unsuited, opened_as}
+use Rattle.conversion.proofs.Cases.{kind_same, right_kind, wrong_kind, not_opened, count_256, count_512, count_wrong, width_other, width_eight, even_glyph, uneven_within, measured_is, suits_is, too_large, fits, suited, unsuited, opened_as}
 use Rattle.conversion.proofs.Ready.{even_fields}
 use Rattle.convert.specs.Reading.{converted, converted_of}
 use Rattle.laws.specs.Meaning.{Exact, refuses, says, GlyphsAt, Holds, FirstValue, ValueAt, needed, ConversionRows}
@@ -131,7 +131,7 @@ module _ (s : List ℕ) (f : Font) (y : Bytes s) (e : check_of s ≡ Ok f) where
       let h = f.height in
       let w = f.width in (
         λ q. let z = even_fields s h w at q in (z.0, even_metrics_lem s h w at (omega (arith, p.3)) (omega (arith, p.4)) z),
-        λ g. let z = metrics_even s h w at y g in sym (last_logical s h w at ((((z.0, z.1), z.2), z.3), z.4)) ∙ eq-eqb _ _ z.5,
+        even_glyph s h w at y p.3 p.4,
       )
 
   -- the entry of a place is the first that is not even
