@@ -31,6 +31,7 @@ fn sought_on(file: &[u8], f: Font, g: usize, v: u32) -> Result<Mapping, Refusal>
         if utf8::is_scalar(v) {
             let end = f.end;
             let m = mapping::locate(Coding::Utf8, &file[end..], g, v);
+            // No method of `Mapping`: no other place moves one.
             return match m {
                 Mapping::Listed(at, next) => Ok(Mapping::Listed(end + at, end + next)),
                 Mapping::Unlisted(at) => Ok(Mapping::Unlisted(end + at)),
@@ -86,6 +87,7 @@ fn insert(buf: &mut [u8], len: usize, at: usize, v: u32) -> Result<usize, Refusa
 }
 
 // Adds the value v to glyph g of the PSF2 font in the first `len` bytes of the buffer, as its last single; the font's new length is answered.
+// A buffer and a length, no struct of both: C lends them so, and the font grows in the buffer.
 // Every other item of every description, header, bitmaps and what stands behind the new font stay as they were.
 // Refusals: ASK for a length beyond the buffer; the font's own (1 to 12); WRONG KIND; NO TABLE; ASK for the glyph, a value above 10FFFF, a
 // surrogate or a noncharacter; HAVE; SIZE; ROOM. A refused call leaves the buffer as it was.

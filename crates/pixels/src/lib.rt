@@ -19,6 +19,7 @@ fn same_rows(p: &[u8], q: &[u8], height: usize, whole: usize, fillers: usize) ->
     requires { (height * (whole + 1) ≤ length p.now) × (height * (whole + 1) ≤ length q.now) × (fillers < 8) }
     ensures { result ≡ same_rows p.now q.now whole fillers 0 height }
 {
+    // By a row's number, as the definition goes: of two iterators of rows each row would still be a run and a last byte.
     for y in 0..height {
         let at = y * (whole + 1);
         let last = at + whole;

@@ -102,6 +102,7 @@ fn ask_convert(
     let room = room.min(kept.bytes.len());
     let out = &mut kept.bytes[..room];
     out.fill(0xA5);
+    // Here, and where a font is edited or two are compared, a match has two answers: what is printed, and the length that is kept.
     let converted = match conversion {
         Conversion::Psf1ToPsf2 => fonts::psf1_to_psf2(file, out),
         Conversion::Psf2ToPsf1 => fonts::psf2_to_psf1(file, out),
