@@ -102,13 +102,13 @@ fn ask_convert(
     let room = room.min(kept.bytes.len());
     let out = &mut kept.bytes[..room];
     out.fill(0xA5);
-    // Here, and where a font is edited or two are compared, a match has two answers: what is printed, and the length that is kept.
     let converted = match conversion {
         Conversion::Psf1ToPsf2 => fonts::psf1_to_psf2(file, out),
         Conversion::Psf2ToPsf1 => fonts::psf2_to_psf1(file, out),
         Conversion::Psf2ToVfont2 => fonts::psf2_to_vfont2(file, out),
         Conversion::Vfont2ToPsf2 => fonts::vfont2_to_psf2(file, out),
     };
+    // Here, and where a font is edited or two are compared, a match has two answers: what is printed, and the length that is kept.
     let (answer, len) = match converted {
         Ok(n) => (Answer::Wrote(n), n),
         Err(r) => (Answer::Refused(r), 0),
