@@ -16,18 +16,15 @@ use Rattle.base.proofs.Tests.{same, by_when}
 use Rattle.base.proofs.Written.{Written, begins_as, goes_on}
 use Rattle.refusal.specs.Meaning.{refusal}
 use Rattle.refusal.specs.declared.Reason.TheVariants.{Room}
-use Rattle.refusal.specs.declared.Refusal.{Refusal}
 use Rattle.coding.specs.declared.Coding.{Coding}
 use Rattle.header.specs.declared.Font.{Font}
 use Rattle.stages.specs.Meaning.{coding_of}
-use Rattle.stages.specs.Reading.{check_of}
 use Rattle.glyphs.specs.Reading.{glyph_kind}
 use Rattle.differences.specs.Meaning.{numbers}
-use Rattle.differences.specs.Reading.{pair_of, table_kind, only_kind, common_from, rest_from, compared_start, compared_tail, common_pairs, rest_pairs, pairs_of, fitted, compared_with, compared_by, compare_answer, found_with, found_by, differences_of, left_by, compare_into}
+use Rattle.differences.specs.Reading.{pair_of, table_kind, only_kind, common_from, rest_from, compared_start, compared_tail, common_pairs, rest_pairs, pairs_of, fitted}
 use Rattle.differences.proofs.Pairs.{no_pair, pair_most, common_most, common_bare, numbers_append, rest_length as rest-count}
-use Rattle.std.specs.Prelude.{Result, Ok, Err}
-use Rattle.differences.specs.declared.Uncompared.{Uncompared}
-use Rattle.differences.specs.declared.Uncompared.TheVariants.{First, Second, Neither}
+use Rattle.std.specs.Prelude.{Ok, Err}
+use Rattle.differences.specs.declared.Uncompared.TheVariants.{Neither}
 
 -- where the descriptions that are compared begin
 module _ (len : ℕ) (f h : Font) (k : ℕ) (e : k ≡ table_kind f.table h.table) where
@@ -137,26 +134,3 @@ pub none_over : (ps : List (ℕ × ℕ)) (xs : List ℕ) → length ps ≡ 0 →
 unfolding numbers
 none_over [] xs e = over_none xs
 none_over (p ∷ ps) xs e = absurd (omega arith)
-
--- the two calls on two files
-module _ (s : List ℕ) (f : Font) (o : List ℕ) (xs ys : List ℕ) (a : Result ℕ Uncompared) where
-  pub second_sound : (h : Font) → check_of o ≡ Ok h → (a ≡ fitted (length xs) (length (pairs_of s f o h))) × (ys ≡ left_by a (pairs_of s f o h) xs) →
-      (a ≡ compared_with s f o (length xs) (check_of o)) × (ys ≡ left_by a (found_with s f o (check_of o)) xs)
-  second_sound h e w = (w.0 ∙ ap (compared_with s f o (length xs)) (sym e), w.1 ∙ ap (λ (x : Result Font Refusal). left_by a (found_with s f o x) xs) (sym e))
-
-  pub first_sound : check_of s ≡ Ok f → (a ≡ compared_with s f o (length xs) (check_of o)) × (ys ≡ left_by a (found_with s f o (check_of o)) xs) →
-      (a ≡ compare_answer s o (length xs)) × (ys ≡ compare_into s o xs)
-  unfolding compare_answer compare_into differences_of
-  first_sound e w =
-      let p : a ≡ compared_by s o (length xs) (check_of s) = w.0 ∙ ap (compared_by s o (length xs)) (sym e) in
-      (p, w.1 ∙ (λ i. left_by (p i) (found_by s o (sym e i)) xs))
-
-pub second_refused : (s : List ℕ) (f : Font) (o xs : List ℕ) (r : Refusal) → check_of o ≡ Err r →
-    (Err (Second r) ≡ compared_with s f o (length xs) (check_of o)) × (xs ≡ left_by (Err (Second r)) (found_with s f o (check_of o)) xs)
-second_refused s f o xs r e = (ap (compared_with s f o (length xs)) (sym e), refl)
-
-pub first_refused : (s o xs : List ℕ) (r : Refusal) → check_of s ≡ Err r → (Err (First r) ≡ compare_answer s o (length xs)) × (xs ≡ compare_into s o xs)
-unfolding compare_answer compare_into differences_of
-first_refused s o xs r e =
-    let p : Err (First r) ≡ compared_by s o (length xs) (check_of s) = ap (compared_by s o (length xs)) (sym e) in
-    (p, λ i. left_by (p i) (found_by s o (sym e i)) xs)

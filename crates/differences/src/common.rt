@@ -80,6 +80,7 @@ impl<'a> Iterator for Common<'a> {
         if self.n <= self.g {
             return None;
         }
+        // Before the bitmaps, in codings that the walk keeps: else two PSF1 fonts take 1.03 of the instructions.
         let e = descriptions::compare(self.c, self.s, self.x, self.d, self.t, self.y);
         let g = self.g;
         self.g = g + 1;

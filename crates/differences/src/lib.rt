@@ -196,24 +196,19 @@ fn compare_second(a: &[u8], f: Font, b: &[u8], out: &mut [u32]) -> Result<usize,
     ensures answer { result ≡ compared_with a.now f b.now (length out.old) (check_of b.now) }
     ensures buffer { out.new ≡ left_by result (found_with a.now f b.now (check_of b.now)) out.old }
 {
-    let y = stages::check(b);
-    match y {
-        Ok(h) => compare_fonts(a, f, b, h, out),
-        Err(r) => Err(Uncompared::Second(r)),
-    }
+    let h = stages::check(b).map_err(|r| Uncompared::Second(r))?;
+    compare_fonts(a, f, b, h, out)
 }
 
 // The differences of two fonts at the front of out, as pairs of kind and glyph: (6, 0) first where just one font has a table, and then no
 // descriptions are compared; then by glyph, and by kind within it: 1 only in the first font, 2 only in the second, 3 metrics differ or just
 // one font has no glyph there, 4 pixels differ though metrics agree, 5 items differ. The count of pairs is answered; other numbers of out stay.
 // Refusals: the first font's own (1 to 12), the second font's own, ROOM with the count of numbers needed. A refused call leaves out as it was.
+#[tactic(auto, unfolding(crate::specs::Reading::compare_answer, crate::specs::Reading::compare_into, crate::specs::Reading::differences_of))]
 pub fn compare(first: &[u8], second: &[u8], out: &mut [u32]) -> Result<usize, Uncompared>
     ensures answer { result ≡ compare_answer first.now second.now (length out.old) }
     ensures buffer { out.new ≡ compare_into first.now second.now out.old }
 {
-    let x = stages::check(first);
-    match x {
-        Ok(f) => compare_second(first, f, second, out),
-        Err(r) => Err(Uncompared::First(r)),
-    }
+    let f = stages::check(first).map_err(|r| Uncompared::First(r))?;
+    compare_second(first, f, second, out)
 }
