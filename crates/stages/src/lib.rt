@@ -145,10 +145,7 @@ pub fn told_at(end: usize, a: Result<(), Fault>) -> Result<(), Refusal>
     requires { end + table_place a < 18446744073709551616 }
     ensures { result ≡ told_at end a }
 {
-    match a {
-        Ok(()) => Ok(()),
-        Err(t) => Err(fault_at(end, t)),
-    }
+    a.map_err(|t| fault_at(end, t))
 }
 
 // What the table of a font says whose parts stand in the file (`Placed`). The table reader is handed only the tail.
