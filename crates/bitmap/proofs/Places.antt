@@ -122,7 +122,3 @@ row_below b y h = rw (le-ltb y b.height h)
 pub pixel_below : (s : List ℕ) (b : Bitmap) (y x : ℕ) → b.height ≤ y → Err (refusal Ask 0) ≡ pixel_of s (Ok b) y x
 unfolding when
 pixel_below s b y x h = rw (le-ltb y b.height h)
-
--- a byte's last bit
-pub last_bit : (b : ℕ) → b % 2 ≡ bit_of b 7
-last_bit b = let z : b / 1 ≡ b = omega arith in rw z

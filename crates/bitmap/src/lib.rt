@@ -24,7 +24,8 @@ pub struct Bitmap {
     pub width: usize,
 }
 
-// A part of the file.
+// A part of the file. Its place and no slice, since C reads offset and length (`LavPart`). `Bitmap` holds no `Part`: each of its readers would
+// only go one field deeper.
 #[derive(Clone, Copy)]
 pub struct Part {
     pub start: usize,
@@ -123,20 +124,7 @@ fn bit_of(b: u8, i: usize) -> u8
     requires { i < 8 }
     ensures { result ≡ bit_of b i }
 {
-    if i < 4 {
-        return match i {
-            0 => b / 128 % 2,
-            1 => b / 64 % 2,
-            2 => b / 32 % 2,
-            _ => b / 16 % 2,
-        };
-    }
-    match i {
-        4 => b / 8 % 2,
-        5 => b / 4 % 2,
-        6 => b / 2 % 2,
-        _ => b % 2,
-    }
+    (b >> (7 - i)) & 1
 }
 
 // The pixel of row y and column x of a bitmap that stands in a file.

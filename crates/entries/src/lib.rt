@@ -51,7 +51,7 @@ pub fn metrics_at(file: &[u8], at: usize) -> Metrics
 }
 
 // A signed number of 16 bits, moved up by 32,768 so that it is none below zero.
-// In `span`, `(signed(a) + signed(b)).max(0) as u32` was tried: the search proves neither `overflow_add-signed` nor `returns`, both over whole numbers.
+// For `span`, `(signed(a) + signed(b)).max(0) as u32` was tried: the search proves neither `overflow_add-signed` nor `returns`, both over ℤ.
 fn raised(v: u32) -> u32
     requires { v < 65536 }
     ensures { ((v < 32768 → result ≡ v + 32768) × (32768 ≤ v → result + 32768 ≡ v)) × (result < 65536) }

@@ -34,15 +34,23 @@ pub fn glyph_part(file: &[u8], g: usize) -> Result<Part, Refusal>
     bitmap::glyph_part(file, f, g)
 }
 
-// Glyph g's bytes, of length 0 if refused: `glyph_part` says why.
-pub fn glyph<'a>(file: &'a [u8], g: usize) -> &'a [u8]
-    ensures { result.now ≡ view_of file.now (glyph_part_of file.now g) }
+// The part of a file that an answer names, of length 0 if refused. Asks for a part that stands in it.
+fn view<'a>(file: &'a [u8], part: Result<Part, Refusal>) -> &'a [u8]
+    requires { PartInside file.now part }
+    ensures { result.now ≡ view_of file.now part }
 {
-    let Ok(p) = glyph_part(file, g) else {
+    let Ok(p) = part else {
         return &file[..0];
     };
     let end = p.start + p.len;
     &file[p.start..end]
+}
+
+// Glyph g's bytes, of length 0 if refused: `glyph_part` says why.
+pub fn glyph<'a>(file: &'a [u8], g: usize) -> &'a [u8]
+    ensures { result.now ≡ view_of file.now (glyph_part_of file.now g) }
+{
+    view(file, glyph_part(file, g))
 }
 
 // Offset and length of row y of glyph g. Refusals: the font's own (1 to 12), ASK for the glyph, NO GLYPH, ASK for the row.
@@ -59,11 +67,7 @@ pub fn row_part(file: &[u8], g: usize, y: usize) -> Result<Part, Refusal>
 pub fn row<'a>(file: &'a [u8], g: usize, y: usize) -> &'a [u8]
     ensures { result.now ≡ view_of file.now (row_part_of file.now g y) }
 {
-    let Ok(p) = row_part(file, g, y) else {
-        return &file[..0];
-    };
-    let to = p.start + p.len;
-    &file[p.start..to]
+    view(file, row_part(file, g, y))
 }
 
 // The pixel of row y and column x of glyph g: 1 is drawn.

@@ -62,14 +62,7 @@ pub fn is_open(l: Loader) -> bool
 fn offset_of(total: usize, place: usize, len: usize) -> usize
     ensures { (result ≤ len) × (result ≤ place - total) × (result < len → result ≡ place - total) }
 {
-    if place < total {
-        return 0;
-    }
-    let k = place - total;
-    if len < k {
-        return len;
-    }
-    k
+    place.saturating_sub(total).min(len)
 }
 
 // The part of a piece that stands in the file from `start` on and before `end`, where the piece begins at `total`.
@@ -81,13 +74,14 @@ fn part<'a>(piece: &'a [u8], total: usize, start: usize, end: usize) -> &'a [u8]
     &piece[a..b]
 }
 
+// Beside `feed_table`, and no function of both: they call two functions with other arguments, which would have to be handed in as a closure.
 // The entries that a piece brings, which begins at `total` in the file. Asks for what `feed_body` asks for.
 fn feed_entries(f: Font, total: usize, h: Held, x: Sums, piece: &[u8]) -> entryfeed::Fed
     requires { (1 ≤ f.entries) × Fitting total h piece.now × (total < 32 → h.len ≡ 0) }
     ensures { result ≡ entries_in f total h x piece.now }
 {
     let s = part(piece, total, f.entries, f.bitmaps);
-    if s.len() == 0 {
+    if s.is_empty() {
         return entryfeed::Fed { held: h, sums: x };
     }
     if f.entries < total {
@@ -102,7 +96,7 @@ fn feed_table(f: Font, total: usize, h: Held, t: Standing, piece: &[u8]) -> tabl
     ensures { result ≡ table_in f total h t piece.now }
 {
     let s = part(piece, total, f.end, header::LIMIT);
-    if s.len() == 0 {
+    if s.is_empty() {
         return tablefeed::Fed {
             held: h,
             standing: t,
@@ -274,7 +268,8 @@ fn told_entries(f: Font, x: Sums) -> Result<Font, Refusal>
     }
 }
 
-// What the tail of a font of so many bytes said.
+// What the tail of a font of so many bytes said. `halted` is a number, since C keeps the record: 0 for a table that is read on, 12 for bytes behind it,
+// 11 for any other fault.
 fn told_tail(f: Font, total: usize, t: Standing) -> Result<Font, Refusal>
     ensures { result ≡ tail_told f total t }
 {

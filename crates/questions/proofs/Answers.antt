@@ -3,16 +3,15 @@ use mathlib.Core.Path.{◌≡◌, refl, sym, ◌∙◌, ap}
 use mathlib.Core.Bool.{Bool, true, false, not, ◌||◌}
 use mathlib.Core.Logic.{◌⊎◌, inl, inr}
 use mathlib.Core.List.{List, [], ◌∷◌}
-use Prim.Native.Nat.{ℕ, ◌+◌, ◌-◌, ◌≤◌, ◌<◌}
+use Prim.Native.Nat.{ℕ, ◌+◌, ◌≤◌, ◌<◌}
 use native.Mathlib.Omega.{arith}
-use lib.ListN.{length, get_or, take, drop}
+use lib.ListN.{length, get_or, drop}
 use lib.Seq.{drop-cons}
 use lib.Dec.{leb, ltb}
 use Rattle.std.specs.List.{list_any}
 use borrow.Author.Tests.{lt-ltb, le-ltb, lt-leb, le-leb}
 use Rattle.base.specs.Meaning.{pick, Bytes}
 use Rattle.base.specs.Reading.{when}
-use Rattle.base.proofs.Parts.{rest_all}
 use Rattle.base.proofs.Tests.{below}
 use Rattle.refusal.specs.Meaning.{refusal}
 use Rattle.refusal.specs.declared.Reason.TheVariants.{Ask, NoTable}
@@ -33,36 +32,36 @@ use Rattle.table.specs.declared.Fault.TheVariants.{Cut as TableCut, Bad as Table
 
 module _ (s : List ℕ) (f : Font) where
   -- the items of the part that the reader is handed
-  part_items : (c : Coding) → c ≡ coding_of f.kind → items_in c (take (length s - f.end) (drop f.end s)) ≡ font_items s f
-  part_items c e = rw (rest_all s f.end, e)
+  part_items : (c : Coding) → c ≡ coding_of f.kind → (tl : List ℕ) → tl ≡ tail_of s f → items_in c tl ≡ font_items s f
+  part_items c e tl l = rw (l, e)
 
   module _ (g k : ℕ) where
-    pub item_told : f.table ≡ true → (c : Coding) → c ≡ coding_of f.kind → (w : Option Item) →
-        w ≡ item_at g k (items_in c (take (length s - f.end) (drop f.end s))) → walk_of w ≡ item_on s g k f
-    item_told t c e w q = rw t (ap walk_of (q ∙ ap (item_at g k) (part_items c e)))
+    pub item_told : f.table ≡ true → (c : Coding) → c ≡ coding_of f.kind → (tl : List ℕ) → tl ≡ tail_of s f → (w : Option Item) →
+        w ≡ item_at g k (items_in c tl) → walk_of w ≡ item_on s g k f
+    item_told t c e tl l w q = rw t (ap walk_of (q ∙ ap (item_at g k) (part_items c e tl l)))
 
     pub item_bare : f.table ≡ false → Err (refusal NoTable 0) ≡ item_on s g k f
     item_bare t = rw t
 
   module _ (v : ℕ) where
-    pub value_told : f.table ≡ true → (m : Bool) → m ≡ leb v 0x10FFFF → (c : Coding) → c ≡ coding_of f.kind → (w : Option ℕ) →
-        w ≡ find_value v 0 (items_in c (take (length s - f.end) (drop f.end s))) → pick m (lookup_of w) (Err (refusal Ask 0)) ≡ value_on s v f
+    pub value_told : f.table ≡ true → (m : Bool) → m ≡ leb v 0x10FFFF → (c : Coding) → c ≡ coding_of f.kind → (tl : List ℕ) → tl ≡ tail_of s f → (w : Option ℕ) →
+        w ≡ find_value v 0 (items_in c tl) → pick m (lookup_of w) (Err (refusal Ask 0)) ≡ value_on s v f
     unfolding when
-    value_told t m a c e w q = rw (t, a) (go (below 0x10FFFF v))
+    value_told t m a c e tl l w q = rw (t, a) (go (below 0x10FFFF v))
       where
         go : (0x10FFFF < v) ⊎ (v ≤ 0x10FFFF) →
             pick (leb v 0x10FFFF) (lookup_of w) (Err (refusal Ask 0)) ≡ pick (ltb 0x10FFFF v) (Err (refusal Ask 0)) (lookup_of (find_value v 0 (font_items s f)))
         go (inl h) = rw (lt-leb v 0x10FFFF h, lt-ltb 0x10FFFF v h)
-        go (inr h) = rw (le-leb v 0x10FFFF h, le-ltb 0x10FFFF v h) (ap lookup_of (q ∙ ap (find_value v 0) (part_items c e)))
+        go (inr h) = rw (le-leb v 0x10FFFF h, le-ltb 0x10FFFF v h) (ap lookup_of (q ∙ ap (find_value v 0) (part_items c e tl l)))
 
     pub value_bare : f.table ≡ false → Err (refusal NoTable 0) ≡ value_on s v f
     value_bare t = rw t
 
   module _ (vs : List ℕ) where
-    pub sequence_told : f.table ≡ true → (m : Bool) → m ≡ askable vs → m ≡ true → (c : Coding) → c ≡ coding_of f.kind → (w : Option ℕ) →
-        w ≡ find_sequence vs (items_in c (take (length s - f.end) (drop f.end s))) → lookup_of w ≡ sequence_on s vs f
+    pub sequence_told : f.table ≡ true → (m : Bool) → m ≡ askable vs → m ≡ true → (c : Coding) → c ≡ coding_of f.kind → (tl : List ℕ) → tl ≡ tail_of s f → (w : Option ℕ) →
+        w ≡ find_sequence vs (items_in c tl) → lookup_of w ≡ sequence_on s vs f
     unfolding when
-    sequence_told t m a b c e w q = rw (t, sym a ∙ b) (ap lookup_of (q ∙ ap (find_sequence vs) (part_items c e)))
+    sequence_told t m a b c e tl l w q = rw (t, sym a ∙ b) (ap lookup_of (q ∙ ap (find_sequence vs) (part_items c e tl l)))
 
     pub sequence_ask : f.table ≡ true → (m : Bool) → m ≡ askable vs → m ≡ false → Err (refusal Ask 0) ≡ sequence_on s vs f
     unfolding when
@@ -95,9 +94,9 @@ module _ (s : List ℕ) (f : Font) where
   pub bare_told : f.table ≡ false → (x : Result ℕ Refusal) (a : Font → Result ℕ Refusal) → x ≡ a f → x ≡ after_tail a (tabled s f)
   bare_told t x a q = q ∙ ap (after_tail a) (tabled_by s f false t (Ok tt) refl)
 
-  module _ (c : Coding) (e : c ≡ coding_of f.kind) (w : Option ℕ) (x : Result (Option ℕ) Fault) (q : x ≡ looked_of w (table_of c f.count (take (length s - f.end) (drop f.end s)))) where
+  module _ (c : Coding) (e : c ≡ coding_of f.kind) (tl : List ℕ) (l : tl ≡ tail_of s f) (w : Option ℕ) (x : Result (Option ℕ) Fault) (q : x ≡ looked_of w (table_of c f.count tl)) where
     from_tail : x ≡ looked_of w (table_of (coding_of f.kind) f.count (tail_of s f))
-    from_tail = q ∙ ap (looked_of w) (table_read s f c e _ refl)
+    from_tail = q ∙ ap (looked_of w) (table_read s f c e tl l _ refl)
 
     pub place_told : Bytes s → Placed s f → f.end + looked_place x ≤ length s
     place_told y p =

@@ -23,9 +23,7 @@ pub fn item_on(file: &[u8], f: Font, g: usize, k: usize) -> Result<Item, Refusal
     if !f.table {
         return Err(refusal::refuse(Reason::NoTable, 0));
     }
-    let end = f.end;
-    let kind = f.kind;
-    let item = lookup::item_at(stages::coding_of(kind), &file[end..], g, k);
+    let item = lookup::item_at(stages::coding_of(f.kind), stages::tail_of(file, f), g, k);
     item.ok_or(refusal::refuse(Reason::Ask, 0))
 }
 
@@ -59,10 +57,13 @@ pub fn value_on(file: &[u8], f: Font, v: u32) -> Result<usize, Refusal>
     ensures { result ≡ after_tail (value_on file.now v) (tabled file.now f) }
 {
     if f.table {
-        let end = f.end;
-        let kind = f.kind;
-        let w = lookup::find_value(stages::coding_of(kind), &file[end..], f.count, v);
-        return told(end, w, v <= 0x10FFFF);
+        let w = lookup::find_value(
+            stages::coding_of(f.kind),
+            stages::tail_of(file, f),
+            f.count,
+            v,
+        );
+        return told(f.end, w, v <= 0x10FFFF);
     }
     Err(refusal::refuse(Reason::NoTable, 0))
 }
@@ -79,7 +80,7 @@ fn any_high(vs: &[u32]) -> bool
 fn may_ask(vs: &[u32]) -> bool
     ensures { result ≡ askable vs.now }
 {
-    if vs.len() == 0 {
+    if vs.is_empty() {
         return false;
     }
     !any_high(vs)
@@ -92,15 +93,14 @@ pub fn sequence_on(file: &[u8], f: Font, vs: &[u32]) -> Result<usize, Refusal>
     ensures { result ≡ after_tail (sequence_on file.now vs.now) (tabled file.now f) }
 {
     if f.table {
-        let end = f.end;
-        let kind = f.kind;
-        let c = stages::coding_of(kind);
+        let c = stages::coding_of(f.kind);
+        let tail = stages::tail_of(file, f);
         if may_ask(vs) {
-            let w = lookup::find_sequence(c, &file[end..], f.count, vs);
-            return told(end, w, true);
+            let w = lookup::find_sequence(c, tail, f.count, vs);
+            return told(f.end, w, true);
         }
-        let w = lookup::find_value(c, &file[end..], f.count, 0);
-        return told(end, w, false);
+        let w = lookup::find_value(c, tail, f.count, 0);
+        return told(f.end, w, false);
     }
     Err(refusal::refuse(Reason::NoTable, 0))
 }

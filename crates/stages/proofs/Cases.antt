@@ -10,7 +10,7 @@ use borrow.Author.Tests.{lt-ltb, le-ltb, ltb-false, eqb-true, not-false}
 use Rattle.base.specs.Meaning.{pick, Bytes}
 use Rattle.base.specs.Reading.{when}
 use Rattle.base.proofs.Chain.{chain}
-use Rattle.base.proofs.Parts.{bytes_drop, rest_all}
+use Rattle.base.proofs.Parts.{bytes_drop}
 use Rattle.refusal.specs.declared.Refusal.{Refusal}
 use Rattle.refusal.specs.Meaning.{refusal}
 use Rattle.refusal.specs.declared.Reason.TheVariants.{TooLong, BodyCut, Entry, Trailing}
@@ -67,13 +67,13 @@ place_fits s f y p c =
 
 module _ (s : List ℕ) (f : Font) where
   -- what the reader says of the part that it is handed
-  pub table_read : (c : Coding) → c ≡ coding_of f.kind → (a : Result (Unit {0}) Fault) → a ≡ table_of c f.count (take (length s - f.end) (drop f.end s)) →
+  pub table_read : (c : Coding) → c ≡ coding_of f.kind → (tl : List ℕ) → tl ≡ tail_of s f → (a : Result (Unit {0}) Fault) → a ≡ table_of c f.count tl →
       a ≡ table_of (coding_of f.kind) f.count (tail_of s f)
-  table_read c e a q = q ∙ rw (rest_all s f.end, e)
+  table_read c e tl l a q = q ∙ rw (l, e)
 
-  pub read_fits : Bytes s → Placed s f → (c : Coding) → c ≡ coding_of f.kind → (a : Result (Unit {0}) Fault) → a ≡ table_of c f.count (take (length s - f.end) (drop f.end s)) →
+  pub read_fits : Bytes s → Placed s f → (c : Coding) → c ≡ coding_of f.kind → (tl : List ℕ) → tl ≡ tail_of s f → (a : Result (Unit {0}) Fault) → a ≡ table_of c f.count tl →
       f.end + table_place a ≤ length s
-  read_fits y p c e a q = subst (λ (x : Result (Unit {0}) Fault). f.end + table_place x ≤ length s) (sym (table_read c e a q)) (place_fits s f y p (coding_of f.kind))
+  read_fits y p c e tl l a q = subst (λ (x : Result (Unit {0}) Fault). f.end + table_place x ≤ length s) (sym (table_read c e tl l a q)) (place_fits s f y p (coding_of f.kind))
 
   pub with_table : f.table ≡ true → answered f (table_of (coding_of f.kind) f.count (tail_of s f)) ≡ tailed s f
   unfolding tailed

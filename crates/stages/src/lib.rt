@@ -9,7 +9,7 @@ ghost use Rattle.header.specs.Reading.{kind_of, says_of};
 ghost use Rattle.header.specs.Bounds.{Placed};
 ghost use Rattle.entries.specs.Reading.{scan_of};
 ghost use Rattle.table.specs.Reading.{table_place, fault_place};
-ghost use Rattle.stages.specs.Meaning.{coding_of};
+ghost use Rattle.stages.specs.Meaning.{coding_of, tail_of};
 ghost use Rattle.stages.specs.Reading.{sized, greatest_of, scanned, entries_of, fault_at, told_at, table_tail, unless_table, to_table, through_body, through_entries, through_bare, check_of};
 ghost use Rattle.stages.specs.Bounds.{CheckedPlaced, ToTablePlaced};
 
@@ -32,7 +32,16 @@ pub fn coding_of(kind: Kind) -> Coding
     }
 }
 
-// The kind whose magic a file begins with.
+// The bytes behind a font's bitmaps: its table, if it has one. Asks for a font whose parts stand in the file (`Placed`).
+#[inline(always)]
+pub fn tail_of<'a>(file: &'a [u8], f: Font) -> &'a [u8]
+    requires { Placed file.now f }
+    ensures { result.now ≡ tail_of file.now f }
+{
+    &file[f.end..]
+}
+
+// The kind whose magic a file begins with. Three times the same lines: a function over the kind's type, called three times, would take as many.
 fn kind_of(file: &[u8]) -> Option<Kind>
     ensures { result ≡ kind_of file.now }
 {
@@ -136,10 +145,7 @@ pub fn told_at(end: usize, a: Result<(), Fault>) -> Result<(), Refusal>
     requires { end + table_place a < 18446744073709551616 }
     ensures { result ≡ told_at end a }
 {
-    match a {
-        Ok(()) => Ok(()),
-        Err(t) => Err(fault_at(end, t)),
-    }
+    a.map_err(|t| fault_at(end, t))
 }
 
 // What the table of a font says whose parts stand in the file (`Placed`). The table reader is handed only the tail.
@@ -147,10 +153,8 @@ pub fn check_font_table(file: &[u8], f: Font) -> Result<(), Refusal>
     requires { Placed file.now f }
     ensures { result ≡ table_tail file.now f }
 {
-    let end = f.end;
-    let kind = f.kind;
-    let c = coding_of(kind);
-    told_at(end, table::check_table(c, &file[end..], f.count))
+    let c = coding_of(f.kind);
+    told_at(f.end, table::check_table(c, tail_of(file, f), f.count))
 }
 
 // The same of a font that may have no table.

@@ -19,16 +19,16 @@ pub find_sequence-w-requires : goal.find_sequence-w-requires
 find_sequence-w-requires c = ask_one c.args.vs.now (sym c.may_ask.ensures ∙ c.if-may_ask.true)
 
 pub told-requires : goal.told-requires
-told-requires c = omega (arith, place_told c.args.file.now c.args.f _ c.coding_of-c.ensures _ _ c.find_sequence-w.ensures (bytes_of c.args.file.now c.type_inv.file) c.requires)
+told-requires c = omega (arith, place_told c.args.file.now c.args.f _ c.coding_of-c.ensures _ c.tail_of-tail.ensures _ _ c.find_sequence-w.ensures (bytes_of c.args.file.now c.type_inv.file) c.requires)
 
 pub returns-then-may_ask : goal.returns-then-may_ask
-returns-then-may_ask c = c.told.ensures ∙ looked_told c.args.file.now c.args.f _ c.coding_of-c.ensures _ _ c.find_sequence-w.ensures c.if-f.true true (sequence_on c.args.file.now c.args.vs.now) (sequence_told c.args.file.now c.args.f c.args.vs.now c.if-f.true _ c.may_ask.ensures c.if-may_ask.true _ c.coding_of-c.ensures _ refl)
+returns-then-may_ask c = c.told.ensures ∙ looked_told c.args.file.now c.args.f _ c.coding_of-c.ensures _ c.tail_of-tail.ensures _ _ c.find_sequence-w.ensures c.if-f.true true (sequence_on c.args.file.now c.args.vs.now) (sequence_told c.args.file.now c.args.f c.args.vs.now c.if-f.true _ c.may_ask.ensures c.if-may_ask.true _ c.coding_of-c.ensures _ c.tail_of-tail.ensures _ refl)
 
 pub told-requires-then-f : goal.told-requires-then-f
-told-requires-then-f c = omega (arith, place_told c.args.file.now c.args.f _ c.coding_of-c.ensures _ _ c.find_value-w.ensures (bytes_of c.args.file.now c.type_inv.file) c.requires)
+told-requires-then-f c = omega (arith, place_told c.args.file.now c.args.f _ c.coding_of-c.ensures _ c.tail_of-tail.ensures _ _ c.find_value-w.ensures (bytes_of c.args.file.now c.type_inv.file) c.requires)
 
 pub returns-then-f : goal.returns-then-f
-returns-then-f c = c.told-then-f.ensures ∙ looked_told c.args.file.now c.args.f _ c.coding_of-c.ensures _ _ c.find_value-w.ensures c.if-f.true false (sequence_on c.args.file.now c.args.vs.now) (sequence_ask c.args.file.now c.args.f c.args.vs.now c.if-f.true _ c.may_ask.ensures c.if-may_ask.false)
+returns-then-f c = c.told-then-f.ensures ∙ looked_told c.args.file.now c.args.f _ c.coding_of-c.ensures _ c.tail_of-tail.ensures _ _ c.find_value-w.ensures c.if-f.true false (sequence_on c.args.file.now c.args.vs.now) (sequence_ask c.args.file.now c.args.f c.args.vs.now c.if-f.true _ c.may_ask.ensures c.if-may_ask.false)
 
 pub returns : goal.returns
 returns c = bare_told c.args.file.now c.args.f c.if-f.false _ (sequence_on c.args.file.now c.args.vs.now) (ap Err c.refuse.ensures ∙ sequence_bare c.args.file.now c.args.f c.args.vs.now c.if-f.false)

@@ -13,10 +13,10 @@ use Rattle.questions.proofs.value_on.Goals as goal
 use Rattle.std.specs.Prelude.{Err}
 
 pub told-requires : goal.told-requires
-told-requires c = omega (arith, place_told c.args.file.now c.args.f _ c.coding_of.ensures _ _ c.find_value-w.ensures (bytes_of c.args.file.now c.type_inv.file) c.requires)
+told-requires c = omega (arith, place_told c.args.file.now c.args.f _ c.coding_of.ensures _ c.tail_of.ensures _ _ c.find_value-w.ensures (bytes_of c.args.file.now c.type_inv.file) c.requires)
 
 pub returns-then-f : goal.returns-then-f
-returns-then-f c = c.told.ensures ∙ looked_told c.args.file.now c.args.f _ c.coding_of.ensures _ _ c.find_value-w.ensures c.if-f.true _ (value_on c.args.file.now c.args.v) (value_told c.args.file.now c.args.f c.args.v c.if-f.true _ refl _ c.coding_of.ensures _ refl)
+returns-then-f c = c.told.ensures ∙ looked_told c.args.file.now c.args.f _ c.coding_of.ensures _ c.tail_of.ensures _ _ c.find_value-w.ensures c.if-f.true _ (value_on c.args.file.now c.args.v) (value_told c.args.file.now c.args.f c.args.v c.if-f.true _ refl _ c.coding_of.ensures _ c.tail_of.ensures _ refl)
 
 pub returns : goal.returns
 returns c = bare_told c.args.file.now c.args.f c.if-f.false _ (value_on c.args.file.now c.args.v) (ap Err c.refuse.ensures ∙ value_bare c.args.file.now c.args.f c.args.v c.if-f.false)
