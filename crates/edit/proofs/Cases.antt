@@ -4,11 +4,10 @@ use mathlib.Core.Bool.{Bool, true, false}
 use mathlib.Core.List.{List, ◌++◌}
 use Prim.Native.Nat.{ℕ, ◌+◌, ◌-◌, ◌≤◌, ◌<◌}
 use native.Mathlib.Omega.{arith}
-use lib.ListN.{length, take, drop, replicate}
+use lib.ListN.{length, take, drop, replicate, length-drop}
 use lib.Seq.{slice, length-take-le}
 use borrow.Author.Tests.{lt-ltb, le-ltb, lt-leb, le-leb}
 use Rattle.base.specs.Reading.{when, over}
-use Rattle.base.proofs.Parts.{rest_all, rest_length}
 use Rattle.refusal.specs.Meaning.{refusal}
 use Rattle.refusal.specs.declared.Refusal.{Refusal}
 use Rattle.refusal.specs.declared.Reason.TheVariants.{Ask, NoTable, Size, Room, Have, NotThere}
@@ -37,6 +36,10 @@ placed : (n e v : ℕ) → e ≤ n → n ≤ limit → Scalar v → (m : Mapping
 placed n e v h l k (Listed at next) w = (omega (arith, w.0), omega (arith, w.1), l)
 placed n e v h l k (Unlisted at) w = (omega (arith, w), l, k)
 
+-- the tail's length
+pub tail_length : (s : List ℕ) (f : Font) (tl : List ℕ) → tl ≡ tail_of s f → length tl ≡ length s - f.end
+tail_length s f tl e = ap (λ (x : List ℕ). length x) e ∙ length-drop f.end s
+
 -- 14, 13 for the glyph, 13 for the value; else what was found
 module _ (s : List ℕ) (g v : ℕ) (f : Font) where
   pub bare : f.table ≡ false → Err (refusal NoTable 0) ≡ sought_on s g v f
@@ -56,12 +59,12 @@ module _ (s : List ℕ) (g v : ℕ) (f : Font) where
     unfolding sought_on when
     sought_at_lem q = rw (t, lt-leb f.count g h, sym e ∙ q)
 
-    pub found : b ≡ true → f.end ≤ length s → length s ≤ limit → (m : Mapping) →
-        m ≡ mapping_of Utf8 g v (take (length s - f.end) (drop f.end s)) → MappingWithin (length (take (length s - f.end) (drop f.end s))) m →
+    pub found : (tl : List ℕ) → tl ≡ tail_of s f → b ≡ true → f.end ≤ length s → length s ≤ limit → (m : Mapping) →
+        m ≡ mapping_of Utf8 g v tl → MappingWithin (length tl) m →
         (sought_at f.end m ≡ sought_on s g v f) × SoughtWithin (length s) v (sought_at f.end m)
-    found q p l m u w =
-        let z : m ≡ mapping_of Utf8 g v (drop f.end s) = u ∙ ap (mapping_of Utf8 g v) (rest_all s f.end) in
-        let n : MappingWithin (length s - f.end) m = rw (rest_length s f.end) at w in
+    found tl e2 q p l m u w =
+        let z : m ≡ mapping_of Utf8 g v (drop f.end s) = u ∙ ap (mapping_of Utf8 g v) e2 in
+        let n : MappingWithin (length s - f.end) m = rw (tail_length s f tl e2) at w in
         (ap (sought_at f.end) z ∙ sought_at_lem q, placed (length s) f.end v p l ((scalar_exactly v).0 (sym e ∙ q)) m n)
 
 -- what the check of the font hands on

@@ -30,7 +30,7 @@ fn sought_on(file: &[u8], f: Font, g: usize, v: u32) -> Result<Mapping, Refusal>
         }
         if utf8::is_scalar(v) {
             let end = f.end;
-            let m = mapping::locate(Coding::Utf8, &file[end..], g, v);
+            let m = mapping::locate(Coding::Utf8, stages::tail_of(file, f), g, v);
             // No method of `Mapping`: no other place moves one.
             return match m {
                 Mapping::Listed(at, next) => Ok(Mapping::Listed(end + at, end + next)),

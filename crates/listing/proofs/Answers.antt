@@ -9,13 +9,12 @@ use lib.Seq.{take-append_seam}
 use lib.Dec.{ltb}
 use borrow.Author.Tests.{lt-ltb, le-ltb, ltb-false}
 use Rattle.base.specs.Reading.{over, when}
-use Rattle.base.proofs.Parts.{rest_all}
 use Rattle.refusal.specs.Meaning.{refusal}
 use Rattle.refusal.specs.declared.Refusal.{Refusal}
 use Rattle.refusal.specs.declared.Reason.TheVariants.{Room}
 use Rattle.coding.specs.declared.Coding.{Coding}
 use Rattle.header.specs.declared.Font.{Font}
-use Rattle.stages.specs.Meaning.{coding_of}
+use Rattle.stages.specs.Meaning.{coding_of, tail_of}
 use Rattle.stages.specs.Reading.{check_of}
 use Rattle.words.specs.Meaning.{big_text}
 use Rattle.listing.specs.Meaning.{first_line}
@@ -48,9 +47,9 @@ unfolding over
 in_front p xs w n e o = rw (o, e) (take-append_seam p (drop (length p) xs))
 
 module _ (s : List ℕ) (f : Font) where
-  pub lines_table : f.table ≡ true → (c : Coding) → c ≡ coding_of f.kind → table_text c (take (length s - f.end) (drop f.end s)) ≡ lines_text s f
+  pub lines_table : f.table ≡ true → (c : Coding) → c ≡ coding_of f.kind → (tl : List ℕ) → tl ≡ tail_of s f → table_text c tl ≡ lines_text s f
   unfolding lines_text
-  lines_table t c e = rw (t, e, rest_all s f.end)
+  lines_table t c e tl l = rw (t, e, l)
 
   pub lines_bare : f.table ≡ false → lines_text s f ≡ []
   unfolding lines_text

@@ -47,15 +47,14 @@ fn put_first(f: Font, out: &mut [u8]) -> usize
     e + put_word(f.table, &mut out[e..])
 }
 
-// How many bytes the lines of a font's table are, none for a bare one. Asks that the header passed and the file is one that is listed.
+// How many bytes the lines of a font's table are, none for a bare one: measured first and then written, since ROOM tells the bytes needed and is told
+// before a byte is written. Asks that the header passed and the file is one that is listed.
 fn lines_len(file: &[u8], f: Font) -> usize
     requires { (Placed file.now f) × (length file.now ≤ 65536) }
     ensures { (result ≡ length (lines_text file.now f)) × (result ≤ 917504) }
 {
     if f.table {
-        let end = f.end;
-        let kind = f.kind;
-        return lines::table_len(stages::coding_of(kind), &file[end..]);
+        return lines::table_len(stages::coding_of(f.kind), stages::tail_of(file, f));
     }
     0
 }
@@ -66,9 +65,7 @@ fn put_lines(file: &[u8], f: Font, out: &mut [u8])
     ensures { out.new ≡ over (lines_text file.now f) out.old }
 {
     if f.table {
-        let end = f.end;
-        let kind = f.kind;
-        lines::put_table(stages::coding_of(kind), &file[end..], out);
+        lines::put_table(stages::coding_of(f.kind), stages::tail_of(file, f), out);
     }
 }
 
