@@ -140,7 +140,8 @@ impl From<Result<(), Refusal>> for LavRefusal {
     }
 }
 
-// A kind's number in C. The new form is no plainer: neither type is this crate's, so `From<Kind> for u32` can't stand here, and `k as u32 + 1` names no kind.
+// A kind's number in C. Neither type is this crate's, so `From<Kind> for u32` can't stand here; as discriminants of `Kind` the numbers of lavandol.h would
+// stand in `header`, which C does not read, so that is no plainer.
 fn kind_number(k: Kind) -> u32
     ensures { result ≡ kind_number k }
 {

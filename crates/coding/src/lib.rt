@@ -7,7 +7,8 @@ ghost use Rattle.coding.specs.Reading.{mark_len, carries_of, key_of};
 ghost use Rattle.coding.specs.Meaning.{ValueOf, value_bytes, start_bytes, end_bytes};
 
 // PSF2 and vfont2 write values in UTF-8, PSF1 in two bytes. No trait with a type for each: the file's kind tells it at run time, so every caller
-// would match to name the type, and a conversion from one coding to another four times, where these calls match once.
+// would match to name the type, and a conversion from one coding to another four times, where these calls match once. Functions and no methods: each
+// is one `match`, and the crate's name before it says what it is of.
 #[derive(Clone, Copy, Debug, PartialEq, Eq)]
 pub enum Coding {
     Utf8,

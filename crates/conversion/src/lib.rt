@@ -20,7 +20,8 @@ use psf2::Psf2;
 use refusal::{Reason, Refusal};
 use vfont2::Vfont2;
 
-// Each conversion, by the kinds it goes between. What depends on it is a `match`, no closure: there are four, and each match gives a value.
+// Each conversion, by the kinds it goes between. What depends on it is a `match` that gives a value: as closures, each
+// of the four calls would hand in five, which is no plainer.
 #[derive(Clone, Copy)]
 pub enum Conversion {
     Psf1ToPsf2,

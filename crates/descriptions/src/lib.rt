@@ -78,6 +78,7 @@ pub fn compare(c: Coding, s: &[u8], from: usize, d: Coding, t: &[u8], start: usi
 {
     let mut a = from;
     let mut b = start;
+    // Stepped by hand, no `zip`: which of the two walks has ended would be lost.
     let mut others = Steps::new(d, t, start);
     for x in Steps::new(c, s, from) {
         let Some(y) = others.next() else {

@@ -92,7 +92,8 @@ fn put_glyph(k: Option<Difference>, j: Option<Difference>, g: usize, out: &mut [
     at + put_pair(j, g, &mut out[at..])
 }
 
-// How many pairs the glyphs that both fonts have make. Asks for fonts whose parts stand in the files.
+// How many pairs the glyphs that both fonts have make. Asks for fonts whose parts stand in the files. Counted and written by two functions, here and
+// below: a refused call writes nothing, so a buffer that may be too short is counted for first.
 fn count_common(a: &[u8], f: Font, b: &[u8], h: Font) -> usize
     requires { Placed a.now f × Placed b.now h }
     ensures { (result ≡ length (common_pairs a.now f b.now h)) × (result ≤ 8192) }

@@ -31,8 +31,9 @@ pub const LIMIT: usize = 1048576;
 pub const LONG_LEN: usize = 32;
 
 // What an accepted font's header says: all that any other call needs. Offsets are in the file.
-// A font and its file stay two parameters of the calls above, with `Placed` in their contracts: in a struct of both, as `differences::Common` has them,
-// each call would take them apart in its first lines, and what a contract says of `file.now` and `f` it would say of `o.file.now` and `o.font`.
+// A font and its file stay two parameters of the calls above, with `Placed` in their contracts. In a struct of both, as `differences::Common` has them,
+// `requires { Placed file.now f } ensures { result.now ≡ tail_of file.now f }` would be `ensures { result.now ≡ tail_of o.file.now o.font }`: a clause
+// less, but each caller has bytes and builds the struct, and each definition and law speaks of bytes and a font, so it is no plainer.
 #[derive(Clone, Copy, Debug, PartialEq, Eq)]
 pub struct Font {
     pub kind: Kind,

@@ -1,4 +1,5 @@
 // Inner layer: the lines of a listing, one for each glyph, from a font's table. Definitions: specs/Meaning.antt, specs/Reading.antt.
+// Measured first and then written, each by its own function: ROOM tells the bytes needed, and is told before a byte is written.
 #![tactic(auto)]
 
 ghost use Rattle.std.specs.Prelude.{◌≡◌, ◌*◌, ◌≤◌, ◌<◌, length};

@@ -74,8 +74,8 @@ fn part<'a>(piece: &'a [u8], total: usize, start: usize, end: usize) -> &'a [u8]
     &piece[a..b]
 }
 
-// Beside `feed_table`, and no function of both: they call two functions with other arguments, which would have to be handed in as a closure.
 // The entries that a piece brings, which begins at `total` in the file. Asks for what `feed_body` asks for.
+// Beside `feed_table`, and no function of both: they call two functions with other arguments, which would have to be handed in as a closure.
 fn feed_entries(f: Font, total: usize, h: Held, x: Sums, piece: &[u8]) -> entryfeed::Fed
     requires { (1 ≤ f.entries) × Fitting total h piece.now × (total < 32 → h.len ≡ 0) }
     ensures { result ≡ entries_in f total h x piece.now }

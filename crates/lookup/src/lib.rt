@@ -115,8 +115,9 @@ fn look(c: Coding, tail: &[u8], n: usize, asked: Asked) -> Result<Option<usize>,
     let mut left = n;
     let mut start: usize = table::NO_START;
     let mut at: usize = 0;
-    // It counts descriptions, and goes from cursor to cursor by `skip`: no index, and no iterator, for the reason that stands there.
+    // It counts descriptions, no index: each turn is one call of `skip`, and an iterator of cursors would hold just these three numbers.
     while left != 0 {
+        // `&tail[..]`, not `tail`: docs/DECISIONS.md, "Speed".
         let p = table::skip(c, &tail[..], key, at, left, start);
         left = p.left;
         start = p.start;

@@ -68,7 +68,7 @@ pub fn refuse_at(reason: Reason, place: usize, glyph: usize) -> Refusal
     }
 }
 
-// The number of a reason.
+// The number of a reason: a function, no `From<Reason> for u32`, since README names it.
 pub fn number(reason: Reason) -> u32
     ensures { result ≡ number_of reason }
 {

@@ -407,6 +407,7 @@ fn skip_all(c: Coding, s: &[u8], from: Cursor) -> Cursor
     requires { Stands s.now from × (1 ≤ from.left) }
     ensures { (front_at c s.now result ≡ skipped c no_key (front_at c s.now from)) × Stands s.now result }
 {
+    // `&s[..]`, not `s`: docs/DECISIONS.md, "Speed".
     skip(c, &s[..], coding::NO_KEY, from.at, from.left, from.start)
 }
 

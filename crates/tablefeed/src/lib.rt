@@ -110,7 +110,7 @@ fn run_through(c: Coding, s: &[u8], start: usize, n: usize, ended: usize, opened
     let mut after = opened;
     let mut at = start;
     let mut steps = Steps::new(c, s, start);
-    // It counts descriptions, no index: tested before the next step is taken, it costs a feed 1.03 of its instructions, behind it 1.08.
+    // It counts descriptions, no index. Tested before a step is taken, the count costs less than behind it: docs/DECISIONS.md, "Speed".
     while g < n {
         let Some(step) = steps.next() else {
             return going_at(g, after, at);
@@ -142,13 +142,11 @@ fn run_through(c: Coding, s: &[u8], start: usize, n: usize, ended: usize, opened
     going_at(g, after, at)
 }
 
+#[tactic(auto, unfolding(crate::specs::Reading::flag_of))]
 fn flag_of(b: bool) -> usize
     ensures { result ≡ flag_of b }
 {
-    if b {
-        return 1;
-    }
-    0
+    usize::from(b)
 }
 
 // The number of the refusal that a run has met, 0 for none.

@@ -1,5 +1,6 @@
 // Inner layer: texts written to the front of a buffer: bytes, and numbers in a radix. Definitions: specs/Meaning.antt, specs/Reading.antt.
-// Each writer asks for room: the callers have measured.
+// Each writer asks for room: the callers have measured. No `Display` and no `write!`: what they write is ensured of a `String` alone, and nothing is
+// allocated here.
 #![tactic(auto)]
 
 ghost use Rattle.std.specs.Prelude.{◌≡◌, [], ◌∷◌, ◌≤◌, ◌<◌, length};

@@ -1,4 +1,5 @@
-// Inner layer: a table's items written in another coding. Definitions: specs/Meaning.antt, specs/Reading.antt.
+// Inner layer: a table's items written in another coding. Definitions: specs/Meaning.antt, specs/Reading.antt. Measured first and then written: VALUE,
+// SIZE and ROOM are told before a byte is written.
 #![tactic(auto)]
 
 ghost use Rattle.std.specs.Prelude.{◌≡◌, ◌≤◌, length, Ok};

@@ -16,11 +16,11 @@ is_scalar v = when (ltb v 0xD800) true (when (ltb v 0xE000) false (ltb v 0x11000
 unfoldable pub is_utf8_value : ℕ → Bool
 is_utf8_value v = when (is_noncharacter v) false (is_scalar v)
 
--- a lead_row of Table 3-7: the value's length, the modulus that leaves the first byte's bits, the bounds of the second byte
+-- a row of Table 3-7: the value's length, the modulus that leaves the first byte's bits, the bounds of the second byte
 abbrev pub lead_row : ℕ → ℕ → ℕ → ℕ → Lead
 lead_row n m l h = record { len = n; modulus = m; lo = l; hi = h }
 
--- what the first byte says: Table 3-7 lead_row by lead_row, and last the bytes that begin no value
+-- what the first byte says: Table 3-7 row by row, and last the bytes that begin no value
 unfoldable pub lead_of : ℕ → Lead
 lead_of b =
     pick (within 0x00 0x7F b) (lead_row 1 128 0x80 0xBF)

@@ -265,7 +265,7 @@ fn four_permitted(b: u8, x: u8, y: u8, z: u8) -> Option<usize>
 }
 
 // The length N of a value at a place, whose first byte is b: None where it is not there whole, its last byte is `key`, or it is a noncharacter.
-// Asks for b's row of Table 3-7, one of N bytes.
+// Asks for b's row of Table 3-7, one of N bytes. Bounds are tested by ifs that return: by one Bool a check is slower (docs/DECISIONS.md, "Speed").
 fn row_len<const N: usize>(s: &[u8], at: usize, b: u8, l: Lead, key: u32) -> Option<usize>
     requires { (at < length s.now) × (b ≡ get_or s.now at 0) × RowOf N b l }
     ensures { (result ≡ plain_len key (read_value (drop at s.now))) × IfSome result (λ l. at + l ≤ length s.now) }
@@ -347,7 +347,7 @@ pub fn is_utf8_value(v: u32) -> bool
     !token::is_noncharacter(v) && is_scalar(v)
 }
 
-// How many bytes a value has.
+// How many bytes a value has. Not `char::len_utf8`: this takes any number.
 pub fn len_utf8(v: u32) -> usize
     ensures { (result ≡ length (utf8_bytes v)) × (result ≤ 4) }
 {
@@ -363,7 +363,8 @@ pub fn len_utf8(v: u32) -> usize
     4
 }
 
-// A value's bytes to the front, and how many they are. Asks for a scalar value and for room: the caller has tested both.
+// A value's bytes to the front, and how many they are. Asks for a scalar value and for room: the caller has tested both. Not `char::encode_utf8`: it
+// says which text it lends back, and nothing of the buffer.
 pub fn put_utf8(v: u32, out: &mut [u8]) -> usize
     requires { Scalar v × (length (utf8_bytes v) ≤ length out.old) }
     ensures { (result ≡ length (utf8_bytes v)) × (out.new ≡ over (utf8_bytes v) out.old) }

@@ -7,8 +7,8 @@ ghost use Rattle.words.specs.Meaning.{refused_text};
 
 use refusal::Refusal;
 
-// The line of a refusal. Asks for room for the longest: each caller has a buffer of 96 bytes. No `Display`: its `fmt` may fail, and tells what it
-// wrote only where it did not; this can't fail, and its callers' contracts rest on that. So it is with the writers of `text`.
+// The line of a refusal. Asks for room for the longest: each caller has a buffer of 96 bytes. No `Display`: what it
+// writes is ensured of a `String` alone, and nothing is allocated here.
 #[tactic(auto, using(text::proofs::Putting::first_stands, text::proofs::Putting::behind_room, text::proofs::Putting::behind_stands, text::proofs::Digits::number_21))]
 pub fn put_refused(r: Refusal, out: &mut [u8]) -> usize
     requires { 96 ≤ length out.old }
