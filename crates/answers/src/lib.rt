@@ -99,7 +99,7 @@ impl Default for LavRefusal {
     fn default() -> LavRefusal {
         LavRefusal {
             number: 0,
-            glyph: 4096,
+            glyph: refusal::NO_GLYPH as u32,
             place: 0,
         }
     }
@@ -109,11 +109,7 @@ impl Default for LavRefusal {
 fn glyph_told(glyph: usize) -> u32
     ensures { result ≡ glyph_told glyph }
 {
-    if glyph < refusal::NO_GLYPH {
-        glyph as u32
-    } else {
-        4096
-    }
+    glyph.min(refusal::NO_GLYPH) as u32
 }
 
 impl From<Refusal> for LavRefusal {
