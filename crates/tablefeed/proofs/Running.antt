@@ -21,7 +21,7 @@ use Rattle.tablefeed.proofs.Turns.{Turn, On, Stop, Wait, turn_of, run_on, check_
 use Rattle.std.specs.Prelude.{Result, Ok, Err}
 use Rattle.table.specs.declared.Fault.{Fault}
 use Rattle.table.specs.declared.Fault.TheVariants.{Bad as FaultBad, Trailing as FaultTrailing}
-use Rattle.tablefeed.specs.declared.Halt.TheVariants.{Bad as TableBad, Trailing}
+use Rattle.tablefeed.specs.declared.Halt.TheVariants.{Bad as TableBad}
 use Rattle.token.specs.declared.Token.TheVariants.{Value as TokenValue, Start as TokenStart, End as TokenEnd}
 use Rattle.token.specs.Reading.{Step}
 use Rattle.token.specs.declared.Malformed.TheVariants.{Cut, Bad}
