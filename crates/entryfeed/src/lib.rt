@@ -20,6 +20,7 @@ pub struct Sums {
 }
 
 // What they say after a part, and the bytes of the entry that it left unfinished.
+// `tablefeed::Fed` differs in the type of one field. A generic struct of both is no plainer: the definitions of both crates name the field.
 #[derive(Clone, Copy)]
 pub struct Fed {
     pub held: Held,
@@ -27,6 +28,7 @@ pub struct Fed {
 }
 
 // Before the first entry.
+// By hand and no derived `Default`, whose contract says of each field only that it is its own default; here each number is said.
 pub fn no_sums() -> Sums
     ensures { (result.broken ≡ 0) × (result.height ≡ 0) × (result.width ≡ 0) }
 {

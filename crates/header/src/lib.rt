@@ -17,6 +17,7 @@ ghost use Rattle.header.specs.Bounds.{HeadWithin};
 
 use refusal::{Reason, Refusal};
 
+// It is read from the file, so what depends on it is a `match` where it is needed; `Format` and `LongHeader` have what a type can fix.
 #[derive(Clone, Copy, Debug, PartialEq, Eq)]
 pub enum Kind {
     Psf1,

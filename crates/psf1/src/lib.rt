@@ -30,6 +30,7 @@ impl Format<2> for Psf1 {
     ghost small = { entry_small psf1 };
 }
 
+// No `LongHeader`: this header has other fields, a mode byte and a size byte, and its writer takes neither size nor width.
 impl Psf1 {
     // "256 glyphs, or 512 if bit 0 of the mode is set"
     pub fn count_of(mode: u8) -> usize

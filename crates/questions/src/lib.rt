@@ -39,6 +39,7 @@ fn if_asked(asked: bool, answer: Result<usize, Refusal>) -> Result<usize, Refusa
 
 // What a lookup in one pass says, of a font whose table begins at `end`: the table's refusal, then ASK, then what was found. Asks for places that are
 // offsets in the file.
+// `asked` stands beside the answer and in no `Result`: the table's refusals come before ASK, so the table is gone over for any question.
 fn told(end: usize, w: Result<Option<usize>, Fault>, asked: bool) -> Result<usize, Refusal>
     requires { end + looked_place w < 18446744073709551616 }
     ensures { result ≡ lookup_told end asked w }

@@ -104,6 +104,7 @@ pub fn check_greatest(f: Font, height: usize, width: usize) -> Result<Font, Refu
 }
 
 // Refusal 9 of a vfont2 font whose parts stand in the file (`Placed`).
+// By `match`, for each arm does its own: `map_err` would take a closure that holds the font, and a `?` behind it.
 fn check_dispatch(file: &[u8], f: Font) -> Result<Font, Refusal>
     requires { Placed file.now f × (f.kind ≡ vfont2) }
     ensures { result ≡ scanned f (scan_of file.now f.size f.entries f.count 0 0 0) }
