@@ -17,7 +17,7 @@
  * The functions allocate nothing, have no global state and no locks, and call nothing: the archive needs no C library. So they may run
  * in several threads at once, and in an interrupt handler; but all of them use SSE registers (the compiler's doing; tools/try-boundary
  * reads it off the archive), so a handler that does not save them must call none. They need at most about 500 bytes of stack, the two edits
- * about 800, lav_differences about 800, lav_loader_close about 850, the four conversions about 950, lav_loader_feed about 1,650
+ * about 750, lav_differences about 800, lav_loader_close about 850, the four conversions about 900, lav_loader_feed about 1,650
  * (docs/BENCHMARK.md, "Size and stack"), whatever the font. Each call on a file checks the font first, one pass over the header, the vfont2
  * entries and the Unicode table; a lookup is done in that same pass; a walk is another pass over the Unicode table at most, a conversion two;
  * an edit is a pass up to the place and one move of the bytes behind it; a comparison is one pass over the bitmaps and tables of both fonts,

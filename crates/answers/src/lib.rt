@@ -138,7 +138,7 @@ impl From<Result<(), Refusal>> for LavRefusal {
 
 // A kind's number in C. Neither type is this crate's, so `From<Kind> for u32` can't stand here; as discriminants of `Kind` the numbers of lavandol.h would
 // stand in `header`, which C does not read, so that is no plainer.
-fn kind_number(k: Kind) -> u32
+pub fn kind_number(k: Kind) -> u32
     ensures { result ≡ kind_number k }
 {
     match k {

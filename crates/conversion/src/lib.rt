@@ -81,12 +81,16 @@ pub fn opened(file: &[u8], k: Kind) -> Result<Font, Refusal>
     ensures equal { result ≡ opened_of k file.now }
     ensures bounded { OpenedPlaced k file.now result }
 {
-    let f = stages::check(file)?;
-    let kind = f.kind;
-    if k == kind {
-        return Ok(f);
+    // By `match`: with `?` in its place the font is copied once more, 64 bytes of stack in each edit and conversion.
+    match stages::check(file) {
+        Ok(f) => {
+            if k == f.kind {
+                return Ok(f);
+            }
+            Err(refusal::refuse(Reason::WrongKind, 0))
+        }
+        Err(r) => Err(r),
     }
-    Err(refusal::refuse(Reason::WrongKind, 0))
 }
 
 // "n is 256 or 512"

@@ -28,9 +28,6 @@ pub enum Kind {
 // The file limit.
 pub const LIMIT: usize = 1048576;
 
-// The bytes of a header of PSF2 or vfont2.
-pub const LONG_LEN: usize = 32;
-
 // What an accepted font's header says: all that any other call needs. Offsets are in the file.
 // A font and its file stay two parameters of the calls above, with `Placed` in their contracts. In a struct of both, as `differences::Common` has them,
 // `requires { Placed file.now f } ensures { result.now ≡ tail_of file.now f }` would be `ensures { result.now ≡ tail_of o.file.now o.font }`: a clause
@@ -81,14 +78,16 @@ pub fn glyph_bytes(height: usize, width: usize) -> usize
     height * row_bytes(width)
 }
 
-// The fields that PSF2 and vfont2 have at the same places: refusals 3 to 6; and their bounds, for the sums that follow.
+// The fields that PSF2 and vfont2 have at the same places: refusals 3 to 6; and their bounds, for the sums that follow. Asks for the
+// kind's header length: its constant is where that number stands.
 #[tactic(auto, using(crate::proofs::Cases::head_high))]
-pub fn head_of(file: &[u8]) -> Result<Fields, Refusal>
+pub fn head_of(file: &[u8], fixed: usize) -> Result<Fields, Refusal>
+    requires { fixed ≡ header_len psf2 }
     ensures equal { result ≡ head_of file.now }
     ensures bounded { HeadWithin result }
 {
     let len = file.len();
-    if len < LONG_LEN {
+    if len < fixed {
         return Err(refusal::refuse(Reason::HeaderCut, len));
     }
     if base::get32(file, 4) != 0 {
@@ -99,7 +98,7 @@ pub fn head_of(file: &[u8]) -> Result<Fields, Refusal>
         return Err(refusal::refuse(Reason::Version, 12));
     }
     let header = base::get32(file, 8) as usize;
-    if header < LONG_LEN {
+    if header < fixed {
         return Err(refusal::refuse(Reason::HeaderSize, 8));
     }
     if 4096 < header {
@@ -130,13 +129,13 @@ fn flags_of(table: bool) -> u32
     u32::from(table)
 }
 
-// Version, header size and flags. Asks for room.
-pub fn put_fixed(table: bool, out: &mut [u8])
-    requires { 12 ≤ length out.old }
+// Version, header size and flags. Asks for the kind's header length, and for room.
+pub fn put_fixed(fixed: usize, table: bool, out: &mut [u8])
+    requires { (fixed ≡ header_len psf2) × (12 ≤ length out.old) }
     ensures { out.new ≡ over (fixed_fields table) out.old }
 {
     base::put32(0, &mut out[0..]);
-    base::put32(LONG_LEN as u32, &mut out[4..]);
+    base::put32(fixed as u32, &mut out[4..]);
     base::put32(flags_of(table), &mut out[8..]);
 }
 
@@ -193,7 +192,7 @@ pub trait LongHeader: Format<4> {
     fn says(file: &[u8]) -> Result<Font, Refusal>
         ensures { result ≡ on_fields shaped (head_of file.now) }
     {
-        let f = head_of(file)?;
+        let f = head_of(file, Self::HEADER_LEN)?;
         Self::shaped(f)
     }
 
@@ -205,7 +204,7 @@ pub trait LongHeader: Format<4> {
     {
         let magic = Self::MAGIC;
         base::copy(&magic, &mut out[0..]);
-        put_fixed(table, &mut out[4..]);
+        put_fixed(Self::HEADER_LEN, table, &mut out[4..]);
         put_fields(n, size, height, width, &mut out[16..]);
     }
 

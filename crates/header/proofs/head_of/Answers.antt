@@ -5,8 +5,8 @@ use Rattle.header.proofs.Cases as cases
 use Rattle.header.proofs.head_of.Goals as goal
 use Rattle.std.specs.Prelude.{Err}
 
-pub returns-then-len-lt-LONG_LEN : goal.returns-then-len-lt-LONG_LEN
-returns-then-len-lt-LONG_LEN c = record { equal = ap Err c.refuse.ensures ∙ cases.head_cut c.args.file.now (omega arith); bounded = tt }
+pub returns-then-len-fixed : goal.returns-then-len-fixed
+returns-then-len-fixed c = record { equal = ap Err c.refuse.ensures ∙ cases.head_cut c.args.file.now (omega arith); bounded = tt }
 
 pub returns-then-get32-ne0 : goal.returns-then-get32-ne0
 returns-then-get32-ne0 c = record { equal = ap Err c.refuse-then-get32-ne0.ensures ∙ cases.head_version c.args.file.now (omega arith); bounded = tt }
@@ -14,8 +14,8 @@ returns-then-get32-ne0 c = record { equal = ap Err c.refuse-then-get32-ne0.ensur
 pub returns-then-flags-gt1 : goal.returns-then-flags-gt1
 returns-then-flags-gt1 c = record { equal = ap Err c.refuse-then-flags-gt1.ensures ∙ cases.head_flags c.args.file.now (omega arith); bounded = tt }
 
-pub returns-then-header-lt-LONG_LEN : goal.returns-then-header-lt-LONG_LEN
-returns-then-header-lt-LONG_LEN c = record { equal = ap Err c.refuse-then-header-lt-LONG_LEN.ensures ∙ cases.head_low c.args.file.now (omega arith); bounded = tt }
+pub returns-then-header-fixed : goal.returns-then-header-fixed
+returns-then-header-fixed c = record { equal = ap Err c.refuse-then-header-fixed.ensures ∙ cases.head_low c.args.file.now (omega arith); bounded = tt }
 
 pub returns-then-count-eq0 : goal.returns-then-count-eq0
 returns-then-count-eq0 c = record { equal = ap Err c.refuse-then-count-eq0.ensures ∙ cases.head_none c.args.file.now (omega arith); bounded = tt }

@@ -1,4 +1,4 @@
--- `header::put_fixed` meets its contract: three numbers, one behind the other. Assumes room.
+-- `header::put_fixed` meets its contract: three numbers, one behind the other. Assumes the kind's header length, and room.
 use mathlib.Core.Path.{refl, ◌∙◌, ap}
 use Prim.Native.Nat.{ℕ}
 use native.Mathlib.Omega.{arith}
@@ -12,7 +12,7 @@ pub returns : goal.returns
 unfolding bytes32
 returns c = let a = c.args in
     let xs = a.out.now in
-    behind (bytes32 0 ++ bytes32 32) (bytes32 c.flags_of.result) xs _ _ 8 refl
-    (behind (bytes32 0) (bytes32 32) xs _ _ 4 refl
+    behind (bytes32 0 ++ bytes32 a.fixed) (bytes32 c.flags_of.result) xs _ _ 8 refl
+    (behind (bytes32 0) (bytes32 a.fixed) xs _ _ 4 refl
     (behind [] (bytes32 0) xs _ _ 0 refl (over_none xs) c.put32.ensures) c.put32-2.ensures) c.put32-3.ensures
-    ∙ ap (λ (p : List ℕ). over p xs) (fixed_flags a.table 32 c.flags_of.result (omega arith) c.flags_of.ensures)
+    ∙ ap (λ (p : List ℕ). over p xs) (fixed_flags a.table a.fixed c.flags_of.result (omega arith) c.flags_of.ensures)
