@@ -1,6 +1,9 @@
 // What the calls answer, as a line says it.
 
+ghost use Rattle.std.specs.Prelude.{◌≡◌, IfOk, IfErr};
 ghost use Rattle.std.specs.Result.{ForOk};
+ghost use Rattle.glyphs.specs.Reading.{equal_metrics};
+ghost use Rattle.vectors.specs.declared.answer.Answer.TheVariants.{Refused, Sound, Part as IsPart, Bit, Is, Item as IsItem, Glyph, Taken};
 
 use bitmap::Part;
 use entries::Metrics;
@@ -24,8 +27,10 @@ pub enum Answer {
 }
 
 // What a call answers, said by one of the variants above, or its refusal.
-pub fn told<T, F: FnOnce(T) -> Answer>(answer: Result<T, Refusal>, say: F) -> Answer
+fn told<T, F: FnOnce(T) -> Answer>(answer: Result<T, Refusal>, say: F) -> Answer
     requires { ForOk answer (F.pre say) }
+    ensures answered { IfOk answer (λ x. F.post say x result) }
+    ensures refused { IfErr answer (λ r. result ≡ Refused r) }
 {
     match answer {
         Ok(x) => say(x),
@@ -33,32 +38,54 @@ pub fn told<T, F: FnOnce(T) -> Answer>(answer: Result<T, Refusal>, say: F) -> An
     }
 }
 
-pub fn checked(a: Result<Font, Refusal>) -> Answer {
+pub fn checked(a: Result<Font, Refusal>) -> Answer
+    ensures answered { IfOk a (λ f. result ≡ Sound f) }
+    ensures refused { IfErr a (λ r. result ≡ Refused r) }
+{
     told(a, |f| Answer::Sound(f))
 }
 
-pub fn located(p: Result<Part, Refusal>) -> Answer {
+pub fn located(p: Result<Part, Refusal>) -> Answer
+    ensures answered { IfOk p (λ q. result ≡ IsPart q) }
+    ensures refused { IfErr p (λ r. result ≡ Refused r) }
+{
     told(p, |p| Answer::Part(p))
 }
 
-pub fn drawn(p: Result<u8, Refusal>) -> Answer {
+pub fn drawn(p: Result<u8, Refusal>) -> Answer
+    ensures answered { IfOk p (λ b. result ≡ Bit b) }
+    ensures refused { IfErr p (λ r. result ≡ Refused r) }
+{
     told(p, |b| Answer::Bit(b))
 }
 
 // Whether the metrics are those that were asked.
-pub fn measured(m: Result<Metrics, Refusal>, asked: Metrics) -> Answer {
+#[tactic(auto, unfolding(glyphs::specs::Reading::equal_metrics))]
+pub fn measured(m: Result<Metrics, Refusal>, asked: Metrics) -> Answer
+    ensures answered { IfOk m (λ v. result ≡ Is (equal_metrics v asked)) }
+    ensures refused { IfErr m (λ r. result ≡ Refused r) }
+{
     told(m, |m| Answer::Is(m == asked))
 }
 
-pub fn walked(w: Result<Item, Refusal>) -> Answer {
+pub fn walked(w: Result<Item, Refusal>) -> Answer
+    ensures answered { IfOk w (λ i. result ≡ IsItem i) }
+    ensures refused { IfErr w (λ r. result ≡ Refused r) }
+{
     told(w, |i| Answer::Item(i))
 }
 
-pub fn found(g: Result<usize, Refusal>) -> Answer {
+pub fn found(g: Result<usize, Refusal>) -> Answer
+    ensures answered { IfOk g (λ n. result ≡ Glyph n) }
+    ensures refused { IfErr g (λ r. result ≡ Refused r) }
+{
     told(g, |g| Answer::Glyph(g))
 }
 
-pub fn taken(a: Result<(), Refusal>) -> Answer {
+pub fn taken(a: Result<(), Refusal>) -> Answer
+    ensures answered { IfOk a (λ x. result ≡ Taken) }
+    ensures refused { IfErr a (λ r. result ≡ Refused r) }
+{
     told(a, |_| Answer::Taken)
 }
 

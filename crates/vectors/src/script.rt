@@ -2,7 +2,7 @@
 // bytes that are left count: of a text or of a file's bytes as many as there are, of a number of two bytes the low one, of one of eight
 // bytes the low half. The rest, and a number of four bytes that is cut, is read as zeros.
 
-ghost use Rattle.std.specs.Prelude.{◌≤◌, length};
+ghost use Rattle.std.specs.Prelude.{◌≡◌, ◌≤◌, length};
 ghost use Rattle.std.specs.Iterator.{at_most};
 
 use conversion::Conversion;
@@ -105,7 +105,10 @@ pub struct Script<'a> {
 }
 
 impl<'a> Script<'a> {
-    pub fn new(rest: &'a [u8]) -> Self {
+    // From its first record on.
+    pub fn new(rest: &'a [u8]) -> Self
+        ensures { result.rest.now ≡ rest.now }
+    {
         Script { rest }
     }
 
